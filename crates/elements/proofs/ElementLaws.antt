@@ -1,0 +1,121 @@
+-- Laws of the element at a place: one for each kind of first byte.
+use mathlib.Core.Path.{_≡_, refl, sym, ap, _∙_}
+use mathlib.Core.List.{List, [], _∷_}
+use mathlib.Core.Bool.{Bool, true, false, cond, _&&_, and-false}
+use Prim.Native.Nat.{ℕ, _+_, _-_, _<_, _≤_}
+use native.Mathlib.Nat.{add-zero}
+use native.Mathlib.Omega.{arith}
+use borrow.Author.Tests.{eq-eqb, ne-eqb}
+use lib.Dec.{eqb}
+use lib.ListN.{length, getD, take, drop, drop-of-length-le}
+use lib.Seq.{getD-drop}
+use Rattle.text.specs.Quoted.{byte}
+use Rattle.text.specs.Bytes.{letter, digit, nameByte}
+use Rattle.text.specs.Runs.{run}
+use Rattle.text.proofs.Lists.{drop-at}
+use Rattle.words.specs.Words.{wordNumber, taken}
+use Rattle.signs.specs.Signs.{longestSign}
+use Rattle.signs.specs.declared.Longest.{Longest}
+use Rattle.elements.specs.Faults.{stray, badNumber, barredWord, barredSign}
+use Rattle.elements.specs.Numbers.{numberFrom}
+use Rattle.elements.specs.Strings.{quote, stringRest}
+use Rattle.elements.specs.Patterns.{patternRest}
+use Rattle.elements.specs.Elements.{
+  element,
+  literal,
+  named,
+  wordOrName,
+  delimiter,
+  signOrStray,
+  elementFrom,
+  nameKind,
+  wordKind,
+  numberKind,
+  stringKind,
+  patternKind,
+  signKind,
+  delimiterKind,
+}
+use Rattle.elements.specs.declared.Next.{Next}
+
+-- a name or word whose end and number are known
+module _ (line : Bool) (first end word : ℕ) (s : List ℕ) (e : end ≡ first + run nameByte s) (w : word ≡ wordNumber (take (end - first) s)) where
+  known : named line first s ≡ wordOrName word line first end
+  unfolding named
+  known =
+      let n : end - first ≡ run nameByte s = omega arith in
+      rw (w, n, e)
+
+  pub named-name : word ≡ 0 → named line first s ≡ element nameKind 0 line first end
+  named-name z = known ∙ rw (eq-eqb word 0 z)
+
+  pub named-word : (word ≡ 0 → ⊥) → taken word ≡ true → named line first s ≡ element wordKind word line first end
+  named-word z t = known ∙ rw (ne-eqb word 0 z, t)
+
+  pub named-barred : (word ≡ 0 → ⊥) → taken word ≡ false → named line first s ≡ Next.Fault barredWord first
+  named-barred z t = known ∙ rw (ne-eqb word 0 z, t)
+
+-- a sign that is known
+module _ (line : Bool) (first : ℕ) (l : Longest) where
+  pub sign-stray : l ≡ Longest.None → signOrStray line first l ≡ Next.Fault stray first
+  sign-stray e = ap (signOrStray line first) e
+
+  module _ (number n : ℕ) (legal : Bool) (e : l ≡ Longest.Sign number n legal) where
+    pub sign-barred : legal ≡ false → signOrStray line first l ≡ Next.Fault barredSign first
+    sign-barred f = ap (signOrStray line first) e ∙ rw f
+
+    pub sign-delimiter : legal ≡ true → delimiter number ≡ true → signOrStray line first l ≡ element delimiterKind number line first (first + n)
+    sign-delimiter f d = ap (signOrStray line first) e ∙ rw (f, d)
+
+    pub sign-other : legal ≡ true → delimiter number ≡ false → signOrStray line first l ≡ element signKind number line first (first + n)
+    sign-other f d = ap (signOrStray line first) e ∙ rw (f, d)
+
+-- the element whose first byte stands at i
+module _ (pattern line : Bool) (s : List ℕ) (i : ℕ) where
+  pub from-past : length s ≤ i → elementFrom pattern line i (drop i s) ≡ Next.End
+  unfolding elementFrom
+  from-past h = rw (drop-of-length-le s h)
+
+  module _ (h : i < length s) where
+    -- the byte behind the first
+    second : getD (drop (i + 1) s) 0 0 ≡ getD s (i + 1) 0
+    second = getD-drop (i + 1) s 0 0 ∙ rw (add-zero (i + 1))
+
+    pub from-letter : letter (getD s i 0) ≡ true → elementFrom pattern line i (drop i s) ≡ named line i (drop i s)
+    unfolding elementFrom
+    from-letter l = rw (drop-at s i h) (rw (l, elementFrom))
+
+    module _ (l : letter (getD s i 0) ≡ false) where
+      pub from-digit : digit (getD s i 0) ≡ true → elementFrom pattern line i (drop i s) ≡ literal numberKind line i (numberFrom i (drop i s))
+      unfolding elementFrom
+      from-digit d = rw (drop-at s i h) (rw (l, d, elementFrom))
+
+      module _ (d : digit (getD s i 0) ≡ false) where
+        pub from-quote : quote (getD s i 0) ≡ true
+            → elementFrom pattern line i (drop i s) ≡ literal stringKind line i (stringRest (getD s i 0) i false (i + 1) (drop (i + 1) s))
+        unfolding elementFrom
+        from-quote q = rw (drop-at s i h) (rw (l, d, q, elementFrom))
+
+        module _ (q : quote (getD s i 0) ≡ false) where
+          -- a slash that opens a regular expression
+          pub from-pattern : pattern ≡ true → getD s i 0 ≡ byte "/"
+              → elementFrom pattern line i (drop i s) ≡ literal patternKind line i (patternRest i false false (i + 1) (drop (i + 1) s))
+          unfolding elementFrom
+          from-pattern p e = rw (drop-at s i h) (rw (l, d, q, p, eq-eqb _ _ e, elementFrom))
+
+          -- a slash that does not
+          pub from-divide : pattern ≡ false → getD s i 0 ≡ byte "/"
+              → elementFrom pattern line i (drop i s) ≡ signOrStray line i (longestSign (drop i s))
+          unfolding elementFrom
+          from-divide p e = rw (drop-at s i h) (rw (l, d, q, p, elementFrom) (rw e))
+
+          module _ (n : getD s i 0 ≡ byte "/" → ⊥) where
+            pub from-dot : (eqb (getD s i 0) (byte ".") && digit (getD s (i + 1) 0)) ≡ true
+                → elementFrom pattern line i (drop i s) ≡ Next.Fault badNumber i
+            unfolding elementFrom
+            from-dot f = rw (drop-at s i h) (rw (l, d, q, ne-eqb _ _ n, and-false pattern, second, f, elementFrom))
+
+            pub from-sign : (eqb (getD s i 0) (byte ".") && digit (getD s (i + 1) 0)) ≡ false
+                → elementFrom pattern line i (drop i s) ≡ signOrStray line i (longestSign (drop i s))
+            unfolding elementFrom
+            from-sign f = rw (drop-at s i h) (rw (l, d, q, ne-eqb _ _ n, and-false pattern, second, f, elementFrom))

@@ -1,0 +1,42 @@
+-- The gap first, then the element behind it.
+use borrow.Author.Needs.{needs}
+use mathlib.Core.Path.{_≡_, sym, ap, _∙_}
+use Rattle.elements.specs.Elements.{elementAt, afterGap}
+use borrow.Author.Needs.{needs}
+use Rattle.elements.proofs.element_at.Statement.{statement}
+use Rattle.elements.proofs.element_at.Tie as tie
+
+gap-from-requires : tie.Need-gap-from-requires
+gap-from-requires c κs = search needs
+
+enum-known-first : tie.Need-enum-known-first
+enum-known-first c = search needs
+
+element-from-requires : tie.Need-element-from-requires
+element-from-requires c κs = search needs
+
+enum-known-number : tie.Need-enum-known-number
+enum-known-number c = search needs
+
+returns : tie.Need-returns
+unfolding elementAt
+returns c =
+    let g = c .before .before .before .before in
+    sym (ap (afterGap _ _) (sym (g .gap-from .ensures) ∙ c .before .before .first .given .1) ∙ sym (c .element-from .ensures))
+
+returns-2 : tie.Need-returns-2
+unfolding elementAt
+returns-2 c =
+    let g = c .before .before .before in
+    sym (ap (afterGap _ _) (sym (g .gap-from .ensures) ∙ c .before .number .given .1))
+
+pub element-at-spec : {M : Type 1} → statement M
+element-at-spec =
+    tie.close
+    (tie.spec
+    gap-from-requires
+    enum-known-first
+    element-from-requires
+    enum-known-number
+    returns
+    returns-2)

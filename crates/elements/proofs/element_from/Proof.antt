@@ -1,0 +1,136 @@
+-- By the first byte.
+use borrow.Author.Needs.{needs}
+use native.Mathlib.Omega.{arith}
+use mathlib.Core.Path.{_≡_, sym, ap, _∙_}
+use Rattle.elements.specs.Elements.{literal}
+use Rattle.elements.proofs.ElementLaws.{from-past, from-letter, from-digit, from-quote, from-pattern, from-divide, from-dot, from-sign}
+use borrow.Author.Needs.{needs}
+use Rattle.elements.proofs.element_from.Statement.{statement}
+use Rattle.elements.proofs.element_from.Tie as tie
+
+returns : tie.Need-returns
+returns c = sym (from-past _ _ _ _ (c .if1 .taken))
+
+shared-slice-read-b : tie.Need-shared-slice-read-b
+shared-slice-read-b c = search needs
+
+is-letter-requires : tie.Need-is-letter-requires
+is-letter-requires c κs = search needs
+
+name-element-requires : tie.Need-name-element-requires
+name-element-requires c κs = search needs
+
+returns-2 : tie.Need-returns-2
+returns-2 c =
+    c .name-element .ensures ∙ sym (from-letter _ _ _ _ (omega arith) (sym (c .before .before .is-letter .ensures) ∙ c .before .if2 .taken))
+
+is-digit-requires : tie.Need-is-digit-requires
+is-digit-requires c κs = search needs
+
+number-at-requires : tie.Need-number-at-requires
+number-at-requires c κs = search needs
+
+literal-element-requires : tie.Need-literal-element-requires
+literal-element-requires c κs = search needs
+
+returns-3 : tie.Need-returns-3
+returns-3 c =
+    let l = sym (c .before .before .before .before .before .is-letter .ensures) ∙ c .before .before .before .before .if2 .left in
+    c .literal-element .ensures ∙ ap (literal _ _ _) (c .before .number-at .ensures)
+    ∙ sym (from-digit _ _ _ _ (omega arith) l (sym (c .before .before .before .is-digit .ensures) ∙ c .before .before .if3 .taken))
+
+is-quote-requires : tie.Need-is-quote-requires
+is-quote-requires c κs = search needs
+
+add-string-rest : tie.Need-add-string-rest
+add-string-rest c = search needs
+
+string-rest-requires : tie.Need-string-rest-requires
+string-rest-requires c κs = search needs
+
+literal-element-requires-2 : tie.Need-literal-element-requires-2
+literal-element-requires-2 c κs = search needs
+
+returns-4 : tie.Need-returns-4
+returns-4 c =
+    let l = sym (c .before .before .before .before .before .before .before .is-letter .ensures) ∙ c .before .before .before .before .before .before .if2 .left in
+    let d = sym (c .before .before .before .before .before .is-digit .ensures) ∙ c .before .before .before .before .if3 .left in
+    c .literal-element2 .ensures ∙ ap (literal _ _ _) (c .before .string-rest .ensures)
+    ∙ sym (from-quote _ _ _ _ (omega arith) l d (sym (c .before .before .before .is-quote .ensures) ∙ c .before .before .if4 .taken))
+
+add-pattern-rest : tie.Need-add-pattern-rest
+add-pattern-rest c = search needs
+
+pattern-rest-requires : tie.Need-pattern-rest-requires
+pattern-rest-requires c κs = search needs
+
+literal-element-requires-3 : tie.Need-literal-element-requires-3
+literal-element-requires-3 c κs = search needs
+
+returns-5 : tie.Need-returns-5
+returns-5 c =
+    let l = sym (c .before .before .before .before .before .before .before .before .before .is-letter .ensures) ∙ c .before .before .before .before .before .before .before .before .if2 .left in
+    let d = sym (c .before .before .before .before .before .before .before .is-digit .ensures) ∙ c .before .before .before .before .before .before .if3 .left in
+    let q = sym (c .before .before .before .before .before .is-quote .ensures) ∙ c .before .before .before .before .if4 .left in
+    c .literal-element3 .ensures ∙ ap (literal _ _ _) (c .before .pattern-rest .ensures)
+    ∙ sym (from-pattern _ _ _ _ (omega arith) l d q (c .before .before .if6 .taken) (omega arith))
+
+sign-element-requires : tie.Need-sign-element-requires
+sign-element-requires c κs = search needs
+
+returns-6 : tie.Need-returns-6
+returns-6 c =
+    let l = sym (c .before .before .before .before .before .before .before .before .is-letter .ensures) ∙ c .before .before .before .before .before .before .before .if2 .left in
+    let d = sym (c .before .before .before .before .before .before .is-digit .ensures) ∙ c .before .before .before .before .before .if3 .left in
+    let q = sym (c .before .before .before .before .is-quote .ensures) ∙ c .before .before .before .if4 .left in
+    c .sign-element .ensures ∙ sym (from-divide _ _ _ _ (omega arith) l d q (c .before .if6 .left) (omega arith))
+
+is-dot-before-digit-requires : tie.Need-is-dot-before-digit-requires
+is-dot-before-digit-requires c κs = search needs
+
+returns-7 : tie.Need-returns-7
+returns-7 c =
+    let l = sym (c .before .before .before .before .before .before .before .before .is-letter .ensures) ∙ c .before .before .before .before .before .before .before .if2 .left in
+    let d = sym (c .before .before .before .before .before .before .is-digit .ensures) ∙ c .before .before .before .before .before .if3 .left in
+    let q = sym (c .before .before .before .before .is-quote .ensures) ∙ c .before .before .before .if4 .left in
+    sym (from-dot _ _ _ _ (omega arith) l d q (omega arith) (sym (c .before .is-dot-before-digit .ensures) ∙ c .if7 .taken))
+
+sign-element-requires-2 : tie.Need-sign-element-requires-2
+sign-element-requires-2 c κs = search needs
+
+returns-8 : tie.Need-returns-8
+returns-8 c =
+    let l = sym (c .before .before .before .before .before .before .before .before .before .is-letter .ensures) ∙ c .before .before .before .before .before .before .before .before .if2 .left in
+    let d = sym (c .before .before .before .before .before .before .before .is-digit .ensures) ∙ c .before .before .before .before .before .before .if3 .left in
+    let q = sym (c .before .before .before .before .before .is-quote .ensures) ∙ c .before .before .before .before .if4 .left in
+    c .sign-element2 .ensures
+    ∙ sym (from-sign _ _ _ _ (omega arith) l d q (omega arith) (sym (c .before .before .is-dot-before-digit .ensures) ∙ c .before .if7 .left))
+
+pub element-from-spec : {M : Type 1} → statement M
+element-from-spec =
+    tie.close
+    (tie.spec
+    returns
+    shared-slice-read-b
+    is-letter-requires
+    name-element-requires
+    returns-2
+    is-digit-requires
+    number-at-requires
+    literal-element-requires
+    returns-3
+    is-quote-requires
+    add-string-rest
+    string-rest-requires
+    literal-element-requires-2
+    returns-4
+    add-pattern-rest
+    pattern-rest-requires
+    literal-element-requires-3
+    returns-5
+    sign-element-requires
+    returns-6
+    is-dot-before-digit-requires
+    returns-7
+    sign-element-requires-2
+    returns-8)

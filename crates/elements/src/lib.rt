@@ -1,0 +1,246 @@
+// The cutting of a text into elements: the element at a place under a stated slash answer. And the answer of every call
+// of this project.
+ghost use mathlib.Core.Path.{_≡_};
+ghost use mathlib.Core.Bool.{_&&_};
+ghost use Prim.Native.Nat.{_+_, _<_};
+ghost use lib.Dec.{eqb};
+ghost use lib.ListN.{length, drop, getD};
+ghost use Rattle.text.specs.Bytes.{digit};
+ghost use Rattle.elements.specs.Answers.{numberOf, valueOf};
+ghost use Rattle.elements.specs.Elements.{literal, named, delimiter, signOrStray, elementFrom, elementAt};
+ghost use Rattle.signs.specs.Signs.{longestSign};
+
+pub mod faults;
+pub mod gaps;
+pub mod literals;
+mod numbers;
+mod patterns;
+mod strings;
+
+use faults::BAD_NUMBER;
+use faults::BARRED_SIGN;
+use faults::BARRED_WORD;
+use faults::STRAY;
+use gaps::Gap;
+use literals::Literal;
+use signs::Longest;
+
+// What a call answers: accepted with its count, or refused with the number of document 01's table and a place.
+pub enum Answer {
+    Accepted(usize),
+    Refused(u32, usize),
+}
+
+impl Answer {
+    // The number of the table's row; 0 where the answer is accepted.
+    pub fn number(self) -> u32
+        ensures { λ r. ⌜ r ≡ numberOf self ⌝ }
+    {
+        match self {
+            Answer::Accepted(_) => 0,
+            Answer::Refused(number, _) => number,
+        }
+    }
+
+    // The count where the answer is accepted, else the place.
+    pub fn value(self) -> usize
+        ensures { λ r. ⌜ r ≡ valueOf self ⌝ }
+    {
+        match self {
+            Answer::Accepted(count) => count,
+            Answer::Refused(_, place) => place,
+        }
+    }
+}
+
+// The kinds of elements, as document 01 numbers those of its tree records. A delimiter's group has a kind of its own.
+pub const DELIMITER: u32 = 0;
+
+pub const NAME: u32 = 1;
+
+pub const WORD: u32 = 2;
+
+pub const NUMBER: u32 = 3;
+
+pub const STRING: u32 = 4;
+
+pub const PATTERN: u32 = 5;
+
+pub const SIGN: u32 = 6;
+
+// An element: its kind; which reserved word, sign or delimiter it is, by its number, else 0; its first byte; the byte
+// after its last; whether a line end lies between it and the place from which it was looked for.
+pub struct Element {
+    pub kind: u32,
+    pub which: u32,
+    pub first: usize,
+    pub end: usize,
+    pub line: bool,
+}
+
+// What a text has from a place on: no element any more, an element, or a fault's number and place.
+pub enum Next {
+    End,
+    Found(Element),
+    Fault(u32, usize),
+}
+
+// A literal that was cut, as an element.
+fn literal_element(kind: u32, first: usize, line: bool, cut: Literal) -> Next
+    ensures { λ r. ⌜ r ≡ literal kind line first cut ⌝ }
+{
+    match cut {
+        Literal::Ends(end) => Next::Found(Element {
+            kind,
+            which: 0,
+            first,
+            end,
+            line,
+        }),
+        Literal::Fault(number, place) => Next::Fault(number, place),
+    }
+}
+
+// The name or reserved word at `first`.
+fn name_element(text: &[u8], first: usize, line: bool) -> Next
+    requires { ⌜ first < length (now text) ⌝ }
+    ensures { λ r. ⌜ r ≡ named line first (drop first (now (text .entry))) ⌝ }
+{
+    let end = text::name_end(text, first);
+    let which = words::word_number(&text[first..end]);
+    if which == 0 {
+        return Next::Found(Element {
+            kind: NAME,
+            which: 0,
+            first,
+            end,
+            line,
+        });
+    }
+    if words::is_taken(which) {
+        return Next::Found(Element {
+            kind: WORD,
+            which,
+            first,
+            end,
+            line,
+        });
+    }
+    Next::Fault(BARRED_WORD, first)
+}
+
+// Whether the sign of a number is a delimiter.
+fn is_delimiter(sign: u32) -> bool
+    ensures { λ r. ⌜ r ≡ delimiter sign ⌝ }
+{
+    if sign == signs::OPEN_BRACE {
+        return true;
+    }
+    if sign == signs::CLOSE_BRACE {
+        return true;
+    }
+    if sign == signs::OPEN_PAREN {
+        return true;
+    }
+    sign == signs::CLOSE_PAREN
+}
+
+// The sign or delimiter at `first`.
+fn sign_element(text: &[u8], first: usize, line: bool) -> Next
+    requires { ⌜ first < length (now text) ⌝ }
+    ensures { λ r. ⌜ r ≡ signOrStray line first (longestSign (drop first (now (text .entry)))) ⌝ }
+{
+    let longest = signs::sign_at(text, first);
+    let Longest::Sign(which, len, legal) = longest else {
+        return Next::Fault(STRAY, first);
+    };
+    if !legal {
+        return Next::Fault(BARRED_SIGN, first);
+    }
+    let end = first + len;
+    if is_delimiter(which) {
+        return Next::Found(Element {
+            kind: DELIMITER,
+            which,
+            first,
+            end,
+            line,
+        });
+    }
+    Next::Found(Element {
+        kind: SIGN,
+        which,
+        first,
+        end,
+        line,
+    })
+}
+
+// The byte behind a place; 0 past the text's end.
+fn byte_after(text: &[u8], at: usize) -> u8
+    requires { ⌜ at < length (now text) ⌝ }
+    ensures { λ r. ⌜ r ≡ getD (now (text .entry)) (at + 1) 0 ⌝ }
+{
+    if at + 1 < text.len() { text[at + 1] } else { 0 }
+}
+
+// Whether the byte `b` at a place is a dot directly before a digit.
+fn is_dot_before_digit(text: &[u8], b: u8, at: usize) -> bool
+    requires { ⌜ at < length (now text) ⌝ }
+    ensures { λ r. ⌜ r ≡ (eqb b 46 && digit (getD (now (text .entry)) (at + 1) 0)) ⌝ }
+{
+    if b != b'.' {
+        return false;
+    }
+    text::is_digit(byte_after(text, at))
+}
+
+// The element at `first`, where no blank, line end or comment starts.
+fn element_from(text: &[u8], first: usize, line: bool, pattern: bool) -> Next
+    ensures { λ r. ⌜ r ≡ elementFrom pattern line first (drop first (now (text .entry))) ⌝ }
+{
+    if text.len() <= first {
+        return Next::End;
+    }
+    let b = text[first];
+    if text::is_letter(b) {
+        return name_element(text, first, line);
+    }
+    if text::is_digit(b) {
+        return literal_element(NUMBER, first, line, numbers::number_at(text, first));
+    }
+    if strings::is_quote(b) {
+        return literal_element(
+            STRING,
+            first,
+            line,
+            strings::string_rest(text, b, first, first + 1),
+        );
+    }
+    if b == b'/' {
+        if pattern {
+            return literal_element(
+                PATTERN,
+                first,
+                line,
+                patterns::pattern_rest(text, first, first + 1),
+            );
+        }
+        return sign_element(text, first, line);
+    }
+    if is_dot_before_digit(text, b, first) {
+        return Next::Fault(BAD_NUMBER, first);
+    }
+    sign_element(text, first, line)
+}
+
+// The next element of a text from a place on, where `pattern` says whether a slash met there opens a regular expression.
+// A place at or past the text's end has none.
+pub fn element_at(text: &[u8], place: usize, pattern: bool) -> Next
+    ensures { λ r. ⌜ r ≡ elementAt (now (text .entry)) place pattern ⌝ }
+{
+    match gaps::gap_from(text, place) {
+        Gap::Ends(first, line) => element_from(text, first, line, pattern),
+        Gap::Fault(number, at) => Next::Fault(number, at),
+    }
+}

@@ -1,0 +1,89 @@
+-- The table's rows are those of the signs, and one row of the scan is one sign of `longestOf`.
+use mathlib.Core.Path.{_≡_, refl, sym}
+use mathlib.Core.List.{List, [], _∷_, map}
+use mathlib.Core.Bool.{Bool, true, false, and-false}
+use Prim.Native.Nat.{ℕ, zero, suc, _+_, _-_, _<_, _≤_}
+use native.Mathlib.Numerals.{add-one}
+use native.Mathlib.Omega.{arith}
+use borrow.Author.Tests.{lt-ltb, le-ltb}
+use lib.ListN.{length, take, drop, getD, replicate, drop-of-length-le, length-append}
+use lib.Seq.{drop-cons, take-append-seam}
+use Rattle.signs.specs.Rows.{row}
+use Rattle.signs.specs.Signs.{Spelled, barred, spelling, isLegal, signs, startsWith, size, longer, longestOf}
+use Rattle.signs.specs.declared.Longest.{Longest}
+use Rattle.signs.specs.declared.Longest.the-variants.{None, Sign}
+use Rattle.signs.specs.declared.Row.{Row}
+
+-- the sign found so far, as the code keeps it: while there is none its length is 0
+abbrev pub found : ℕ → ℕ → Bool → Longest
+found number zero l = None
+found number (suc n) l = Sign number (suc n) l
+
+size-found : (number n : ℕ) (l : Bool) → size (found number n l) ≡ n
+size-found number zero l = refl
+size-found number (suc n) l = refl
+
+pub found-some : (number n : ℕ) (l : Bool) → 1 ≤ n → found number n l ≡ Sign number n l
+found-some number zero l h = absurd (omega arith)
+found-some number (suc n) l h = refl
+
+-- the code at the row r of a sign g
+module _ (g : Spelled) (r : Row) (e : r ≡ row g) where
+  row-len : r .len ≤ length (r .bytes)
+  row-len = rw e (omega (arith, length-append (spelling g) (replicate (4 - length (spelling g)) 0)))
+
+  row-spelling : take (r .len) (r .bytes) ≡ spelling g
+  row-spelling = rw e (take-append-seam (spelling g) (replicate (4 - length (spelling g)) 0))
+
+  module _ (s : List ℕ) (m number n : ℕ) (l : Bool) where
+    longer-taken : n < r .len → startsWith (take (r .len) (r .bytes)) s ≡ true →
+        longer s m (found number n l) g ≡ found m (r .len) (r .legal)
+    longer-taken h t =
+        rw (size-found number n l, lt-ltb n (length (spelling g)) (rw e at h), rw row-spelling at t, e)
+        (sym (found-some m (length (spelling g)) (isLegal g) (omega (arith, rw e at h))))
+
+    longer-other : startsWith (take (r .len) (r .bytes)) s ≡ false → longer s m (found number n l) g ≡ found number n l
+    longer-other t = rw (rw row-spelling at t, and-false)
+
+    longer-short : r .len ≤ n → longer s m (found number n l) g ≡ found number n l
+    longer-short h = rw (size-found number n l, le-ltb n (length (spelling g)) (rw e at h))
+
+map-at : (gs : List Spelled) (k : ℕ) (d : Row) (f : Spelled) → k < length gs → getD (map row gs) k d ≡ row (getD gs k f)
+map-at [] k d f h = absurd (omega arith)
+map-at (g ∷ gs) zero d f h = refl
+map-at (g ∷ gs) (suc k) d f h = map-at gs k d f (omega arith)
+
+-- the code's row past the table's end
+abbrev pub noRow : Row
+noRow = record { bytes = []; len = 0; legal = false }
+
+-- the scan at the table's row k
+module _ (table : List Row) (whole : table ≡ map row signs) (k : ℕ) (h : k < 48) where
+  at-row : getD table k noRow ≡ row (getD signs k (barred ""))
+  at-row = rw whole (map-at signs k noRow (barred "") h)
+
+  pub table-len : getD table k noRow .len ≤ length (getD table k noRow .bytes)
+  table-len = row-len (getD signs k (barred "")) (getD table k noRow) at-row
+
+  module _ (s : List ℕ) (number n : ℕ) (l : Bool) where
+    step : (best : Longest) → longer s (k + 1) (found number n l) (getD signs k (barred "")) ≡ best →
+        longestOf s (k + 1) (found number n l) (drop k signs) ≡ longestOf s (k + 1 + 1) best (drop (k + 1) signs)
+    unfolding longestOf
+    step best e = rw (← e, add-one k, drop-cons signs k (barred "") h)
+
+    pub scan-taken : n < getD table k noRow .len → startsWith (take (getD table k noRow .len) (getD table k noRow .bytes)) s ≡ true →
+        longestOf s (k + 1) (found number n l) (drop k signs)
+        ≡ longestOf s (k + 1 + 1) (found (k + 1) (getD table k noRow .len) (getD table k noRow .legal)) (drop (k + 1) signs)
+    scan-taken f t = step _ (longer-taken (getD signs k (barred "")) (getD table k noRow) at-row s (k + 1) number n l f t)
+
+    pub scan-other : startsWith (take (getD table k noRow .len) (getD table k noRow .bytes)) s ≡ false →
+        longestOf s (k + 1) (found number n l) (drop k signs) ≡ longestOf s (k + 1 + 1) (found number n l) (drop (k + 1) signs)
+    scan-other t = step _ (longer-other (getD signs k (barred "")) (getD table k noRow) at-row s (k + 1) number n l t)
+
+    pub scan-short : getD table k noRow .len ≤ n →
+        longestOf s (k + 1) (found number n l) (drop k signs) ≡ longestOf s (k + 1 + 1) (found number n l) (drop (k + 1) signs)
+    scan-short f = step _ (longer-short (getD signs k (barred "")) (getD table k noRow) at-row s (k + 1) number n l f)
+
+pub scan-end : (s : List ℕ) (best : Longest) (k : ℕ) → 48 ≤ k → longestOf s (k + 1) best (drop k signs) ≡ best
+unfolding longestOf
+scan-end s best k h = rw (drop-of-length-le signs h)

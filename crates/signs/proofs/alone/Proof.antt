@@ -1,0 +1,84 @@
+-- `alone` is right of each byte that it answers for: antt computes the sign that the byte is by itself, and the bytes with
+-- which signs go on from it. Where the answer is 0 nothing is promised.
+use mathlib.Core.Path.{refl}
+use Rattle.text.specs.Quoted.{byte}
+use Rattle.text.specs.Runs.{same}
+use Rattle.signs.specs.Signs.{longestOf, longestSign}
+use Rattle.signs.proofs.Single.{longest-single}
+use Rattle.signs.proofs.alone.Statement.{statement}
+use Rattle.signs.proofs.alone.Tie as tie
+
+returns : tie.Need-returns
+returns c = λ h t e. absurd (h refl)
+
+returns-2 : tie.Need-returns-2
+unfolding longestSign longestOf same
+returns-2 c = λ h t e. rw (c .match .keys1) (longest-single (byte "(") t _ e tt)
+
+returns-3 : tie.Need-returns-3
+unfolding longestSign longestOf same
+returns-3 c = λ h t e. rw (c .match .keys2) (longest-single (byte ")") t _ e tt)
+
+returns-4 : tie.Need-returns-4
+unfolding longestSign longestOf same
+returns-4 c = λ h t e. rw (c .match .keys3) (longest-single (byte "{") t _ e tt)
+
+returns-5 : tie.Need-returns-5
+unfolding longestSign longestOf same
+returns-5 c = λ h t e. rw (c .match .keys4) (longest-single (byte "}") t _ e tt)
+
+returns-6 : tie.Need-returns-6
+unfolding longestSign longestOf same
+returns-6 c = λ h t e. rw (c .match .keys5) (longest-single (byte ";") t _ e tt)
+
+returns-7 : tie.Need-returns-7
+unfolding longestSign longestOf same
+returns-7 c = λ h t e. rw (c .match .keys6) (longest-single (byte ".") t _ e tt)
+
+returns-8 : tie.Need-returns-8
+unfolding longestSign longestOf same
+returns-8 c = λ h t e. rw (c .match .keys7) (longest-single (byte ":") t _ e tt)
+
+returns-9 : tie.Need-returns-9
+returns-9 c = λ h t e. absurd (h refl)
+
+returns-10 : tie.Need-returns-10
+unfolding longestSign longestOf same
+returns-10 c = λ h t e. rw (c .before .match .keys8) (longest-single (byte "/") t _ e (c .if1 .left, tt))
+
+returns-11 : tie.Need-returns-11
+returns-11 c = λ h t e. absurd (h refl)
+
+returns-12 : tie.Need-returns-12
+unfolding longestSign longestOf same
+returns-12 c = λ h t e. rw (c .before .match .keys9) (longest-single (byte "=") t _ e (c .if2 .left, (c .if2 .left, tt)))
+
+returns-13 : tie.Need-returns-13
+returns-13 c = λ h t e. absurd (h refl)
+
+returns-14 : tie.Need-returns-14
+unfolding longestSign longestOf same
+returns-14 c = λ h t e. rw (c .before .before .match .keys10) (longest-single (byte "+") t _ e (c .if4 .left, (c .before .if3 .left, tt)))
+
+returns-15 : tie.Need-returns-15
+returns-15 c = λ h t e. absurd (h refl)
+
+pub alone-spec : {M : Type 1} → statement M
+alone-spec =
+    tie.close
+    (tie.spec
+    returns
+    returns-2
+    returns-3
+    returns-4
+    returns-5
+    returns-6
+    returns-7
+    returns-8
+    returns-9
+    returns-10
+    returns-11
+    returns-12
+    returns-13
+    returns-14
+    returns-15)

@@ -1,0 +1,10 @@
+-- The table's row of a sign. Machinery: no public contract cites it.
+use Prim.Native.Nat.{_-_}
+use mathlib.Core.List.{_++_}
+use lib.ListN.{length, replicate}
+use Rattle.signs.specs.Signs.{Spelled, spelling, isLegal}
+use Rattle.signs.specs.declared.Row.{Row}
+
+-- its bytes with 0 after the last, its length, its legality
+abbrev pub row : Spelled → Row
+row g = record { bytes = spelling g ++ replicate (4 - length (spelling g)) 0; len = length (spelling g); legal = isLegal g }

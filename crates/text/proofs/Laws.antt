@@ -1,0 +1,91 @@
+-- Laws of runs and of the comparison of two texts, at a place.
+use mathlib.Core.Path.{_≡_, refl, ap, _∙_}
+use mathlib.Core.List.{List, [], _∷_, _++_}
+use mathlib.Core.Bool.{Bool, true, false, and-false, cond}
+use Prim.Native.Nat.{ℕ, suc, zero, _+_, _<_, _≤_}
+use native.Mathlib.Nat.{add-zero}
+use native.Mathlib.Omega.{arith}
+use borrow.Author.Tests.{eq-eqb, ne-eqb}
+use lib.Dec.{eqb}
+use lib.ListN.{length, getD, drop, drop-of-length-le, length-drop}
+use Rattle.text.specs.Bytes.{lineEnd, illegal}
+use Rattle.text.specs.Inside.{insideOf}
+use Rattle.text.specs.Runs.{run, same}
+use Rattle.text.proofs.Lists.{drop-at}
+
+pub run-le : (class : ℕ → Bool) (s : List ℕ) → run class s ≤ length s
+unfolding run
+run-le class [] = omega arith
+run-le class (b ∷ s) = go (class b) (run-le class s)
+  where
+    go : (t : Bool) → run class s ≤ length s → cond t (suc (run class s)) zero ≤ suc (length s)
+    go true h = omega arith
+    go false h = omega arith
+
+-- the end of a run of a class of bytes, from a place on
+module _ (class : ℕ → Bool) (s : List ℕ) (i : ℕ) where
+  pub run-within : i ≤ length s → i + run class (drop i s) ≤ length s
+  run-within h = omega (arith, run-le class (drop i s), length-drop i s)
+
+  pub run-past : length s ≤ i → i + run class (drop i s) ≡ i
+  unfolding run
+  run-past h = rw (drop-of-length-le s h) (add-zero i)
+
+  module _ (h : i < length s) where
+    pub run-stop : class (getD s i 0) ≡ false → i + run class (drop i s) ≡ i
+    unfolding run
+    run-stop e = rw (drop-at s i h) (rw (e, run) (add-zero i))
+
+    pub run-more : class (getD s i 0) ≡ true → i + run class (drop i s) ≡ i + 1 + run class (drop (i + 1) s)
+    unfolding run
+    run-more e = rw (drop-at s i h) (rw (e, run) (omega arith))
+
+pub same-length : (a b : List ℕ) → (length a ≡ length b → ⊥) → same a b ≡ false
+unfolding same
+same-length [] [] h = absurd (h refl)
+same-length [] (y ∷ b) h = refl
+same-length (x ∷ a) [] h = refl
+same-length (x ∷ a) (y ∷ b) h = rw (same-length a b (λ e. h (ap suc e))) (and-false (eqb x y))
+
+module _ (a b : List ℕ) (i : ℕ) where
+  pub same-end : length a ≤ i → length b ≤ i → same (drop i a) (drop i b) ≡ true
+  unfolding same
+  same-end h k = rw (drop-of-length-le a h, drop-of-length-le b k)
+
+  module _ (h : i < length a) (k : i < length b) where
+    pub same-differ : (getD a i 0 ≡ getD b i 0 → ⊥) → same (drop i a) (drop i b) ≡ false
+    unfolding same
+    same-differ e = rw (drop-at a i h, drop-at b i k, ne-eqb _ _ e)
+
+    pub same-more : getD a i 0 ≡ getD b i 0 → same (drop i a) (drop i b) ≡ same (drop (i + 1) a) (drop (i + 1) b)
+    unfolding same
+    same-more e = rw (drop-at a i h, drop-at b i k, eq-eqb _ _ e)
+
+-- what the class inside a comment or literal tells
+module _ (b : ℕ) where
+  pub inside-passed : (insideOf b ≡ 1 → ⊥) → (insideOf b ≡ 2 → ⊥) → (lineEnd b ≡ false) × (illegal b ≡ false)
+  unfolding insideOf
+  inside-passed l i = go (lineEnd b) (illegal b) l i
+    where
+      go : (x y : Bool) → (_≡_ {A = ℕ} (cond x 1 (cond y 2 0)) 1 → ⊥) → (_≡_ {A = ℕ} (cond x 1 (cond y 2 0)) 2 → ⊥) → (x ≡ false) × (y ≡ false)
+      go true y n m = absurd (n refl)
+      go false true n m = absurd (m refl)
+      go false false n m = (refl, refl)
+
+  pub inside-line : insideOf b ≡ 1 → lineEnd b ≡ true
+  unfolding insideOf
+  inside-line e = go (lineEnd b) (illegal b) e
+    where
+      go : (l i : Bool) → _≡_ {A = ℕ} (cond l 1 (cond i 2 0)) 1 → l ≡ true
+      go true i z = refl
+      go false true z = absurd (omega arith)
+      go false false z = absurd (omega arith)
+
+  pub inside-illegal : insideOf b ≡ 2 → (lineEnd b ≡ false) × (illegal b ≡ true)
+  unfolding insideOf
+  inside-illegal e = go (lineEnd b) (illegal b) e
+    where
+      go : (l i : Bool) → _≡_ {A = ℕ} (cond l 1 (cond i 2 0)) 2 → (l ≡ false) × (i ≡ true)
+      go true i z = absurd (omega arith)
+      go false true z = (refl, refl)
+      go false false z = absurd (omega arith)

@@ -1,0 +1,62 @@
+-- `name_end` is the end of the run: what is left of it starts at the place where the loop stands.
+use borrow.Author.Needs.{needs}
+use native.Mathlib.Omega.{arith}
+use mathlib.Core.Path.{_≡_, sym, _∙_}
+use Prim.Native.Nat.{_-_, _+_}
+use borrow.Author.Tests.{not-true, not-false}
+use lib.ListN.{length, drop}
+use Rattle.text.specs.Bytes.{nameByte}
+use Rattle.text.specs.Runs.{run}
+use Rattle.text.proofs.Laws.{run-past, run-stop, run-more}
+use Rattle.text.proofs.name_end.Statement.{statement}
+use Rattle.text.proofs.name_end.Tie as tie
+
+abbrev Inv-loop : tie.InvT-loop
+Inv-loop text from i₀ i = from + run nameByte (drop from text) ≡ i + run nameByte (drop i text)
+
+abbrev μ-loop : tie.MeasureT-loop
+μ-loop text from i₀ i = length text - i
+
+loop-holds : tie.Need-loop-holds Inv-loop μ-loop
+loop-holds c = search needs
+
+shared-slice-read-b : tie.Need-shared-slice-read-b Inv-loop μ-loop
+shared-slice-read-b c = search needs
+
+is-name-byte-requires : tie.Need-is-name-byte-requires Inv-loop μ-loop
+is-name-byte-requires c κs = search needs
+
+returns : tie.Need-returns Inv-loop μ-loop
+returns c =
+    sym
+    (c .before .before .before .before .loop .inv
+    ∙ run-stop nameByte _ _ (omega arith) (sym (c .before .is-name-byte .ensures) ∙ not-true _ (c .if1 .taken)))
+
+add-i : tie.Need-add-i Inv-loop μ-loop
+add-i c = search needs
+
+loop-less : tie.Need-loop-less Inv-loop μ-loop
+loop-less c = search needs
+
+loop-again : tie.Need-loop-again Inv-loop μ-loop
+loop-again c =
+    c .before .before .before .before .loop .inv
+    ∙ run-more nameByte _ _ (omega arith) (sym (c .before .is-name-byte .ensures) ∙ not-false _ (c .if1 .left))
+
+returns-2 : tie.Need-returns-2 Inv-loop μ-loop
+returns-2 c = sym (c .before .loop .inv ∙ run-past nameByte _ _ (c .loop-test .left))
+
+pub name-end-spec : {M : Type 1} → statement M
+name-end-spec =
+    tie.close
+    (tie.spec
+    Inv-loop
+    μ-loop
+    loop-holds
+    shared-slice-read-b
+    is-name-byte-requires
+    returns
+    add-i
+    loop-less
+    loop-again
+    returns-2)
