@@ -3,3 +3,12 @@ pub mod StringLaws
 pub mod PatternLaws
 pub mod NumberLaws
 pub mod ElementLaws
+pub mod Choices
+pub mod Clashes
+pub mod Extents
+pub mod Bounds
+pub mod Slashes
+pub mod Separators
+pub mod Shifts
+pub mod Copies
+pub mod OwnBytes

@@ -7,7 +7,7 @@ use native.Mathlib.Nat.{add-zero}
 use native.Mathlib.Omega.{arith}
 use borrow.Author.Tests.{eq-eqb, ne-eqb}
 use lib.Dec.{eqb}
-use lib.ListN.{length, getD, drop, drop-of-length-le, length-drop}
+use lib.ListN.{length, getD, take, drop, drop-of-length-le, length-drop}
 use Rattle.text.specs.Bytes.{lineEnd, illegal}
 use Rattle.text.specs.Inside.{insideOf}
 use Rattle.text.specs.Runs.{run, same}
@@ -21,6 +21,29 @@ run-le class (b ∷ s) = go (class b) (run-le class s)
     go : (t : Bool) → run class s ≤ length s → cond t (suc (run class s)) zero ≤ suc (length s)
     go true h = omega arith
     go false h = omega arith
+
+-- a run that has its first byte
+pub run-some : (class : ℕ → Bool) (b : ℕ) (s : List ℕ) → class b ≡ true → 1 ≤ run class (b ∷ s)
+unfolding run
+run-some class b s e = rw e (omega arith)
+
+-- a run is the same where the text is cut behind it and goes on with a byte of another class
+pub run-own : (class : ℕ → Bool) (x : ℕ) (v : List ℕ) → class x ≡ false → (s : List ℕ) (k : ℕ) → run class s ≤ k
+    → run class (take k s ++ x ∷ v) ≡ run class s
+unfolding run
+run-own class x v e [] zero h = rw e
+run-own class x v e [] (suc k) h = rw e
+run-own class x v e (b ∷ s) zero h = rw e (go (class b) h)
+  where
+    go : (t : Bool) → cond t (suc (run class s)) zero ≤ 0 → 0 ≡ cond t (suc (run class s)) zero
+    go true p = omega arith
+    go false p = refl
+run-own class x v e (b ∷ s) (suc k) h = go (class b) (run-own class x v e s k) h
+  where
+    go : (t : Bool) → (run class s ≤ k → run class (take k s ++ x ∷ v) ≡ run class s) → cond t (suc (run class s)) zero ≤ suc k
+        → cond t (suc (run class (take k s ++ x ∷ v))) zero ≡ cond t (suc (run class s)) zero
+    go true f p = ap suc (f (omega arith))
+    go false f p = refl
 
 -- the end of a run of a class of bytes, from a place on
 module _ (class : ℕ → Bool) (s : List ℕ) (i : ℕ) where

@@ -39,7 +39,7 @@ alike true b = b
 alike false true = false
 alike false false = true
 
-alike→eq : (a b : Bool) → T (alike a b) → a ≡ b
+pub alike→eq : (a b : Bool) → T (alike a b) → a ≡ b
 alike→eq true true t = refl
 alike→eq true false t = absurd t
 alike→eq false true t = absurd t

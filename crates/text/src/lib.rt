@@ -135,13 +135,13 @@ pub fn name_end(text: &[u8], from: usize) -> usize
 pub fn digits_end(text: &[u8], from: usize) -> usize
     ensures { λ r. ⌜ r ≡ from + run digit (drop from (now (text .entry))) ⌝ }
 {
-    let mut i = from;
-    while i < text.len() {
-        let b = text[i];
+    let mut end = from;
+    while end < text.len() {
+        let b = text[end];
         if !is_digit(b) {
-            return i;
+            return end;
         }
-        i += 1;
+        end += 1;
     }
-    i
+    end
 }

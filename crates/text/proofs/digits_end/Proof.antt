@@ -12,10 +12,10 @@ use Rattle.text.proofs.digits_end.Statement.{statement}
 use Rattle.text.proofs.digits_end.Tie as tie
 
 abbrev Inv-loop : tie.InvT-loop
-Inv-loop text from i₀ i = from + run digit (drop from text) ≡ i + run digit (drop i text)
+Inv-loop text from end₀ end = from + run digit (drop from text) ≡ end + run digit (drop end text)
 
 abbrev μ-loop : tie.MeasureT-loop
-μ-loop text from i₀ i = length text - i
+μ-loop text from end₀ end = length text - end
 
 loop-holds : tie.Need-loop-holds Inv-loop μ-loop
 loop-holds c = search needs
@@ -32,8 +32,8 @@ returns c =
     (c .before .before .before .before .loop .inv
     ∙ run-stop digit _ _ (omega arith) (sym (c .before .is-digit .ensures) ∙ not-true _ (c .if1 .taken)))
 
-add-i : tie.Need-add-i Inv-loop μ-loop
-add-i c = search needs
+add-end : tie.Need-add-end Inv-loop μ-loop
+add-end c = search needs
 
 loop-less : tie.Need-loop-less Inv-loop μ-loop
 loop-less c = search needs
@@ -56,7 +56,7 @@ digits-end-spec =
     shared-slice-read-b
     is-digit-requires
     returns
-    add-i
+    add-end
     loop-less
     loop-again
     returns-2)

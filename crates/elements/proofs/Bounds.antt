@@ -1,0 +1,155 @@
+-- Where elements and their faults lie: not before the place from which they are looked for, and within the text.
+use mathlib.Core.Path.{_≡_, refl}
+use mathlib.Core.List.{List, [], _∷_}
+use mathlib.Core.Bool.{Bool, true, false, cond, _&&_}
+use Prim.Native.Nat.{ℕ, _+_, _<_, _≤_}
+use native.Mathlib.Omega.{arith}
+use borrow.Author.Tests.{leb-true, leb-false}
+use lib.Dec.{eqb, leb}
+use lib.ListN.{length, getD, take, drop, length-drop}
+use Rattle.text.specs.Quoted.{byte}
+use Rattle.text.specs.Bytes.{letter, digit, nameByte}
+use Rattle.text.specs.Runs.{run}
+use Rattle.text.proofs.Laws.{run-le, run-some}
+use Rattle.words.specs.Words.{wordNumber, taken}
+use Rattle.signs.specs.Signs.{longestSign}
+use Rattle.signs.specs.declared.Longest.{Longest}
+use Rattle.signs.proofs.Laws.{longest-fits}
+use Rattle.elements.specs.Gaps.{gap}
+use Rattle.elements.specs.Numbers.{numberFrom}
+use Rattle.elements.specs.Strings.{quote, stringRest}
+use Rattle.elements.specs.Patterns.{patternRest}
+use Rattle.elements.specs.Elements.{
+  literal,
+  named,
+  delimiter,
+  signOrStray,
+  elementFrom,
+  afterGap,
+  elementAt,
+  nameKind,
+  wordKind,
+  numberKind,
+  stringKind,
+  patternKind,
+  signKind,
+  delimiterKind,
+}
+use Rattle.elements.specs.declared.gaps.Gap.{Gap}
+use Rattle.elements.specs.declared.literals.Literal.{Literal}
+use Rattle.elements.specs.declared.Element.{Element}
+use Rattle.elements.specs.declared.Next.{Next}
+use Rattle.elements.proofs.Choices.{cond-both, cond-known}
+use Rattle.elements.proofs.Extents.{Faulted, GapIn, gap-in, LiteralIn, string-in, pattern-in, number-in}
+use Rattle.elements.proofs.GapLaws.{gap-past}
+use Rattle.elements.proofs.ElementLaws.{from-past}
+
+-- an element cut at `first` and within hi, behind a gap that has a line end or not
+pub record Cut (line : Bool) (first hi : ℕ) (e : Element) : Type 0 where
+  pub start : e .first ≡ first
+  pub flag : e .line ≡ line
+  pub some : first < e .end
+  pub within : e .end ≤ hi
+
+-- an element cut there, or a fault from there on
+abbrev pub NextIn : Bool → ℕ → ℕ → Next → Type 0
+NextIn line first hi Next.End = Unit
+NextIn line first hi (Next.Found e) = Cut line first hi e
+NextIn line first hi (Next.Fault number at) = Faulted first hi number at
+
+module _ (line : Bool) (first hi b : ℕ) (s : List ℕ) (fits : first + 1 + length s ≡ hi) where
+  literal-in : (kind low : ℕ) → first ≤ low → (l : Literal) → LiteralIn first low hi l → NextIn line first hi (literal kind line first l)
+  literal-in kind low h (Literal.Ends end) p = record { start = refl; flag = refl; some = omega arith; within = p .1 }
+  literal-in kind low h (Literal.Fault number at) p = p
+
+  cut : (n : ℕ) → 1 ≤ n → n ≤ 1 + length s → (kind which : ℕ)
+      → Cut line first hi (record { kind = kind; which = which; first = first; end = first + n; line = line })
+  cut n h k kind which = record { start = refl; flag = refl; some = omega arith; within = omega arith }
+
+  named-in : letter b ≡ true → NextIn line first hi (named line first (b ∷ s))
+  unfolding named nameByte
+  named-in l =
+      let n = run nameByte (b ∷ s) in
+      let h : 1 ≤ n = run-some nameByte b s (rw l) in
+      let k : n ≤ 1 + length s = omega (arith, run-le nameByte (b ∷ s)) in
+      let word = wordNumber (take n (b ∷ s)) in
+      cond-both (NextIn line first hi) (eqb word 0) (cut n h k nameKind 0)
+      (cond-both (NextIn line first hi) (taken word) (cut n h k wordKind word)
+      (omega arith))
+
+  sign-in : (l : Longest) → longestSign (b ∷ s) ≡ l → NextIn line first hi (signOrStray line first l)
+  sign-in Longest.None e = omega arith
+  sign-in (Longest.Sign number n legal) e =
+      let f = longest-fits (b ∷ s) number n legal e in
+      cond-both (NextIn line first hi) legal
+      (cut n (f .0) (omega arith) (cond (delimiter number) delimiterKind signKind) number) (omega arith)
+
+  cons-in : (pattern : Bool) → NextIn line first hi (elementFrom pattern line first (b ∷ s))
+  unfolding elementFrom
+  cons-in pattern =
+      let P = NextIn line first hi in
+      let low = first + 1 in
+      let h : first < low = omega arith in
+      cond-known P (letter b) named-in (λ x.
+      cond-known P (digit b) (λ d. literal-in numberKind first (omega arith) (numberFrom first (b ∷ s)) (number-in b s d first hi fits)) (λ x.
+      cond-both P (quote b)
+      (literal-in stringKind low (omega arith) (stringRest b first false low s) (string-in first low hi h s b low false (omega arith) fits))
+      (cond-both P (pattern && eqb b (byte "/"))
+      (literal-in patternKind low (omega arith) (patternRest first false false low s) (pattern-in first low hi h s low false false (omega arith) fits))
+      (cond-both P (eqb b (byte ".") && digit (getD s 0 0)) (omega arith)
+      (sign-in (longestSign (b ∷ s)) refl)))))
+
+pub from-in : (pattern line : Bool) (first hi : ℕ) (s : List ℕ) → first + length s ≡ hi → NextIn line first hi (elementFrom pattern line first s)
+unfolding elementFrom
+from-in pattern line first hi [] e = tt
+from-in pattern line first hi (b ∷ s) e = cons-in line first hi b s (omega arith) pattern
+
+-- an element that was looked for from a place on
+pub record Placed (s : List ℕ) (place : ℕ) (e : Element) : Type 0 where
+  pub from : place ≤ e .first
+  pub some : e .first < e .end
+  pub within : e .end ≤ length s
+
+abbrev NextPlaced : List ℕ → ℕ → Next → Type 0
+NextPlaced s place Next.End = Unit
+NextPlaced s place (Next.Found e) = Placed s place e
+NextPlaced s place (Next.Fault number at) = Faulted place (length s) number at
+
+module _ (s : List ℕ) (place : ℕ) (pattern : Bool) where
+  later : (line : Bool) (first : ℕ) → place ≤ first → (n : Next) → NextIn line first (length s) n → NextPlaced s place n
+  later line first h Next.End p = tt
+  later line first h (Next.Found e) p = record { from = omega arith; some = omega arith; within = p .within }
+  later line first h (Next.Fault number at) p = omega arith
+
+  after-in : (g : Gap) → GapIn place place (length s) g → NextPlaced s place (afterGap s pattern g)
+  after-in (Gap.Ends first line) p =
+      later line first (p .0) (elementFrom pattern line first (drop first s))
+      (from-in pattern line first (length s) (drop first s) (omega (arith, length-drop first s)))
+  after-in (Gap.Fault number at) p = p
+
+  at-in : place ≤ length s → NextPlaced s place (elementAt s place pattern)
+  unfolding elementAt
+  at-in h =
+      after-in (gap place false (drop place s))
+      (gap-in place place (length s) (omega arith) (drop place s) place false (omega arith) (omega (arith, length-drop place s)))
+
+  pub past-end : length s ≤ place → elementAt s place pattern ≡ Next.End
+  unfolding elementAt
+  past-end h = rw (gap-past s place false h) (from-past pattern false s place h)
+
+  placed : NextPlaced s place (elementAt s place pattern)
+  placed = go (leb (length s) place) refl
+    where
+      go : (t : Bool) → leb (length s) place ≡ t → NextPlaced s place (elementAt s place pattern)
+      go true e = rw (past-end (leb-true (length s) place e)) tt
+      go false e = at-in (omega (arith, leb-false (length s) place e))
+
+  pub found-placed : (e : Element) → elementAt s place pattern ≡ Next.Found e → Placed s place e
+  found-placed e f = rw f at placed
+
+  module _ (number at : ℕ) (f : elementAt s place pattern ≡ Next.Fault number at) where
+    pub fault-placed : (place ≤ at) × (at < length s)
+    fault-placed = let p : Faulted place (length s) number at = rw f at placed in (p .from, p .within)
+
+    pub fault-number : (2 ≤ number) × (number ≤ 8)
+    fault-number = let p : Faulted place (length s) number at = rw f at placed in (p .least, p .most)

@@ -1,0 +1,139 @@
+-- An element is the same at another place, behind another gap, and where the text is cut behind it and goes on with a
+-- blank or a line end.
+use mathlib.Core.Path.{_≡_, refl, ap, _∙_}
+use mathlib.Core.List.{List, [], _∷_, _++_}
+use mathlib.Core.Bool.{Bool, true, false, cond, and-false, _&&_, _||_}
+use Prim.Native.Nat.{ℕ, zero, suc, _+_, _≤_}
+use native.Mathlib.Omega.{arith}
+use lib.Dec.{eqb}
+use lib.ListN.{length, getD, take}
+use lib.Seq.{take-at, length-take-le}
+use Rattle.text.specs.Quoted.{byte}
+use Rattle.text.specs.Bytes.{blank, lineEnd, letter, digit, nameByte}
+use Rattle.text.specs.Runs.{run}
+use Rattle.text.proofs.Laws.{run-own, run-le}
+use Rattle.words.specs.Words.{wordNumber, taken}
+use Rattle.signs.specs.Signs.{longestSign}
+use Rattle.signs.specs.declared.Longest.{Longest}
+use Rattle.signs.proofs.Laws.{longest-own}
+use Rattle.elements.specs.Faults.{badNumber}
+use Rattle.elements.specs.Numbers.{numberFrom}
+use Rattle.elements.specs.Strings.{quote, stringRest}
+use Rattle.elements.specs.Patterns.{patternRest}
+use Rattle.elements.specs.Elements.{
+  element,
+  literal,
+  named,
+  wordOrName,
+  delimiter,
+  signOrStray,
+  elementFrom,
+  nameKind,
+  wordKind,
+  numberKind,
+  stringKind,
+  patternKind,
+  signKind,
+  delimiterKind,
+}
+use Rattle.elements.specs.declared.literals.Literal.{Literal}
+use Rattle.elements.specs.declared.Element.{Element}
+use Rattle.elements.specs.declared.Next.{Next}
+use Rattle.elements.proofs.Choices.{cond-both, cond-known, cond-follow}
+use Rattle.elements.proofs.Clashes.{no-element}
+use Rattle.elements.proofs.Bounds.{Cut, from-in}
+use Rattle.elements.proofs.Shifts.{no-digit, no-name, string-own, pattern-own, number-own}
+
+-- an element moved to another place, and behind another gap
+abbrev pub moved : ℕ → Bool → ℕ → Element → Next
+moved first line size e = element (e .kind) (e .which) line first (first + size)
+
+module _ (x : ℕ) (v : List ℕ) (separates : (blank x || lineEnd x) ≡ true) where
+  -- an element of size k from `first` on, moved to `there`
+  module _ (e : Element) (first there k : ℕ) (line lined : Bool) (size : e .end ≡ first + k) where
+    same-size : (kind which end : ℕ) → element kind which line first end ≡ Next.Found e → end ≡ first + k
+    same-size kind which end f =
+        let p : record { kind = kind; which = which; first = first; end = end; line = line } ≡ e = cc in
+        ap (λ z. z .end) p ∙ size
+
+    found-own : (kind which end : ℕ) → element kind which line first end ≡ Next.Found e
+        → element kind which lined there (there + k) ≡ moved there lined k e
+    found-own kind which end f =
+        let p : record { kind = kind; which = which; first = first; end = end; line = line } ≡ e = cc in
+        rw (← p)
+
+    literal-own : (kind : ℕ) (l m : Literal) → (l ≡ Literal.Ends (first + k) → m ≡ Literal.Ends (there + k))
+        → literal kind line first l ≡ Next.Found e → literal kind lined there m ≡ moved there lined k e
+    literal-own kind (Literal.Ends end) m g f = rw (g (ap Literal.Ends (same-size kind 0 end f))) (found-own kind 0 end f)
+    literal-own kind (Literal.Fault number at) m g f = no-element f
+
+    word-own : (word n : ℕ) → wordOrName word line first n ≡ Next.Found e
+        → (n ≡ first + k) × (wordOrName word lined there (there + k) ≡ moved there lined k e)
+    word-own word n f = (
+      cond-both (λ z. z ≡ Next.Found e → n ≡ first + k) (eqb word 0) (same-size nameKind 0 n)
+          (cond-both (λ z. z ≡ Next.Found e → n ≡ first + k) (taken word) (same-size wordKind word n) no-element) f,
+      cond-follow (eqb word 0) (found-own nameKind 0 n)
+          (cond-follow (taken word) (found-own wordKind word n) no-element) f,
+    )
+
+    module _ (s : List ℕ) where
+      named-own : named line first s ≡ Next.Found e → named lined there (take k s ++ x ∷ v) ≡ moved there lined k e
+      unfolding named
+      named-own f =
+          let n = run nameByte s in
+          let w = word-own (wordNumber (take n s)) (first + n) f in
+          let q : n ≡ k = omega arith in
+          let r : run nameByte (take k s ++ x ∷ v) ≡ k = run-own nameByte x v (no-name x separates) s k (omega arith) ∙ q in
+          let h : k ≤ length s = omega (arith, run-le nameByte s) in
+          rw (r, take-at (take k s) (x ∷ v) k (length-take-le k s h)) (rw q at (w .1))
+
+      sign-own : (l : Longest) → longestSign s ≡ l → signOrStray line first l ≡ Next.Found e
+          → signOrStray lined there (longestSign (take k s ++ x ∷ v)) ≡ moved there lined k e
+      sign-own Longest.None g f = no-element f
+      sign-own (Longest.Sign number n legal) g f =
+          let kind = cond (delimiter number) delimiterKind signKind in
+          let q : n ≡ k =
+          cond-both (λ z. z ≡ Next.Found e → n ≡ k) legal (λ a. omega (arith, same-size kind number (first + n) a)) no-element f in
+          let own : longestSign (take k s ++ x ∷ v) ≡ Longest.Sign number k legal = rw q at (longest-own s number n legal g x separates v) in
+          rw own (cond-follow legal (found-own kind number (first + n)) no-element f)
+
+  -- no digit comes to stand behind a dot
+  second-own : (t : Bool) (s : List ℕ) (k : ℕ) → k ≤ length s → (t && digit (getD s 0 0)) ≡ false
+      → (t && digit (getD (take k s ++ x ∷ v) 0 0)) ≡ false
+  second-own t s zero h e = rw (no-digit x separates) (and-false t)
+  second-own t [] (suc k) h e = absurd (omega arith)
+  second-own t (b ∷ s) (suc k) h e = e
+
+  module _ (e : Element) (first there : ℕ) (pattern line lined : Bool) where
+    pub from-own : (s : List ℕ) (k : ℕ) → k ≤ length s → e .end ≡ first + k → elementFrom pattern line first s ≡ Next.Found e
+        → elementFrom pattern lined there (take k s ++ x ∷ v) ≡ moved there lined k e
+    unfolding elementFrom
+    from-own [] k h p f = absurd (let z : _≡_ {A = ℕ} 0 1 = cc in omega arith)
+    from-own (b ∷ s) zero h p f =
+        let hi = first + length (b ∷ s) in
+        let c : Cut line first hi e = rw f at (from-in pattern line first hi (b ∷ s) refl) in
+        absurd (omega arith)
+    from-own (b ∷ s) (suc k) h p f =
+        let h₁ : k ≤ length s = omega arith in
+        let rest = take k s ++ x ∷ v in
+        let dotOrSign =
+        cond (eqb b (byte ".") && digit (getD rest 0 0)) (Next.Fault badNumber there) (signOrStray lined there (longestSign (b ∷ rest))) in
+        let end = first + suc k in
+        let ends = there + suc k in
+        cond-follow (letter b) (named-own e first there (suc k) line lined p (b ∷ s))
+        (cond-follow (digit b)
+        (literal-own e first there (suc k) line lined p numberKind (numberFrom first (b ∷ s)) (numberFrom there (b ∷ rest))
+        (number-own x v separates end ends b s k first there h₁ refl refl))
+        (cond-follow (quote b)
+        (literal-own e first there (suc k) line lined p stringKind
+        (stringRest b first false (first + 1) s) (stringRest b there false (there + 1) rest)
+        (string-own x v separates end ends s k b first there (first + 1) (there + 1) false (omega arith) (omega arith) (omega arith)))
+        (cond-follow (pattern && eqb b (byte "/"))
+        (literal-own e first there (suc k) line lined p patternKind
+        (patternRest first false false (first + 1) s) (patternRest there false false (there + 1) rest)
+        (pattern-own x v separates end ends s k first there (first + 1) (there + 1) false false (omega arith) (omega arith) (omega arith)))
+        (cond-known (λ z. z ≡ Next.Found e → dotOrSign ≡ moved there lined (suc k) e)
+        (eqb b (byte ".") && digit (getD s 0 0)) (λ q. no-element)
+        (λ q g.
+        rw (second-own (eqb b (byte ".")) s k h₁ q)
+        (sign-own e first there (suc k) line lined p (b ∷ s) (longestSign (b ∷ s)) refl g)))))) f

@@ -1,0 +1,148 @@
+-- Where gaps and literals end and where their faults lie: not before the place that they start from, and within the text.
+use mathlib.Core.Path.{_≡_, refl}
+use mathlib.Core.List.{List, [], _∷_}
+use mathlib.Core.Bool.{Bool, true, false, not, _&&_}
+use Prim.Native.Nat.{ℕ, _+_, _<_, _≤_}
+use native.Mathlib.Omega.{arith}
+use lib.Dec.{eqb}
+use lib.ListN.{length, getD}
+use Rattle.text.specs.Quoted.{byte}
+use Rattle.text.specs.Bytes.{blank, lineEnd, illegal, digit, nameByte}
+use Rattle.text.proofs.Laws.{run-le, run-some}
+use Rattle.elements.specs.Gaps.{gap, afterSlash, inLine, inBlock}
+use Rattle.elements.specs.Numbers.{numberLength, numberFrom, spoilsNumber}
+use Rattle.elements.specs.Strings.{stringRest, backslash}
+use Rattle.elements.specs.Patterns.{patternRest}
+use Rattle.elements.specs.declared.gaps.Gap.{Gap}
+use Rattle.elements.specs.declared.literals.Literal.{Literal}
+use Rattle.elements.proofs.Choices.{cond-both}
+
+-- a fault from lo to before hi, whose number is one of elements or comments
+pub record Faulted (lo hi number at : ℕ) : Type 0 where
+  pub from : lo ≤ at
+  pub within : at < hi
+  pub least : 2 ≤ number
+  pub most : number ≤ 8
+
+-- a gap that ends from i to hi, or has its fault from lo to before hi
+abbrev pub GapIn : ℕ → ℕ → ℕ → Gap → Type 0
+GapIn lo i hi (Gap.Ends first line) = (i ≤ first) × (first ≤ hi)
+GapIn lo i hi (Gap.Fault number at) = Faulted lo hi number at
+
+module _ (lo low hi : ℕ) (l : lo ≤ low) where
+  mutual
+    unfolding gap
+
+    pub gap-in : (s : List ℕ) (i : ℕ) (line : Bool) → low ≤ i → i + length s ≡ hi → GapIn lo low hi (gap i line s)
+    gap-in [] i line h e = omega arith
+    gap-in (b ∷ s) i line h e =
+        let P = GapIn lo low hi in
+        cond-both P (blank b) (gap-in s (i + 1) line (omega arith) (omega arith))
+        (cond-both P (lineEnd b) (gap-in s (i + 1) true (omega arith) (omega arith))
+        (cond-both P (eqb b (byte "/")) (slash-in s i line h (omega arith))
+        (omega arith)))
+
+    slash-in : (s : List ℕ) (i : ℕ) (line : Bool) → low ≤ i → i + 1 + length s ≡ hi → GapIn lo low hi (afterSlash i line s)
+    slash-in [] i line h e = omega arith
+    slash-in (b ∷ s) i line h e =
+        let P = GapIn lo low hi in
+        cond-both P (eqb b (byte "/")) (line-in s (i + 2) line (omega arith) (omega arith))
+        (cond-both P (eqb b (byte "*")) (block-in s i (i + 2) line false (omega arith) (omega arith) (omega arith) (omega arith))
+        (omega arith))
+
+    line-in : (s : List ℕ) (i : ℕ) (line : Bool) → low ≤ i → i + length s ≡ hi → GapIn lo low hi (inLine i line s)
+    line-in [] i line h e = omega arith
+    line-in (b ∷ s) i line h e =
+        let P = GapIn lo low hi in
+        cond-both P (lineEnd b) (gap-in s (i + 1) true (omega arith) (omega arith))
+        (cond-both P (illegal b) (omega arith)
+        (line-in s (i + 1) line (omega arith) (omega arith)))
+
+    block-in : (s : List ℕ) (slash i : ℕ) (line star : Bool) → lo ≤ slash → slash < i → low ≤ i → i + length s ≡ hi
+        → GapIn lo low hi (inBlock slash i line star s)
+    block-in [] slash i line star p q h e = omega arith
+    block-in (b ∷ s) slash i line star p q h e =
+        let P = GapIn lo low hi in
+        cond-both P (lineEnd b) (block-in s slash (i + 1) true false p (omega arith) (omega arith) (omega arith))
+        (cond-both P (illegal b) (omega arith)
+        (cond-both P (star && eqb b (byte "/")) (gap-in s (i + 1) line (omega arith) (omega arith))
+        (block-in s slash (i + 1) line (eqb b (byte "*")) p (omega arith) (omega arith) (omega arith))))
+
+-- no gap or comment ends before it starts
+module _ (s : List ℕ) (i first : ℕ) (line m : Bool) where
+  pub gap-reach : gap i line s ≡ Gap.Ends first m → i ≤ first
+  gap-reach e =
+      let p : GapIn i i (i + length s) (Gap.Ends first m) =
+      rw e at (gap-in i i (i + length s) (omega arith) s i line (omega arith) refl) in
+      p .0
+
+  pub line-reach : inLine i line s ≡ Gap.Ends first m → i ≤ first
+  line-reach e =
+      let p : GapIn i i (i + length s) (Gap.Ends first m) =
+      rw e at (line-in i i (i + length s) (omega arith) s i line (omega arith) refl) in
+      p .0
+
+  pub block-reach : (slash : ℕ) (star : Bool) → slash < i → inBlock slash i line star s ≡ Gap.Ends first m → i ≤ first
+  block-reach slash star h e =
+      let p : GapIn 0 i (i + length s) (Gap.Ends first m) =
+      rw e at (block-in 0 i (i + length s) (omega arith) s slash i line star (omega arith) h (omega arith) refl) in
+      p .0
+
+-- a literal that ends past i and within hi, or has its fault from lo to before hi
+abbrev pub LiteralIn : ℕ → ℕ → ℕ → Literal → Type 0
+LiteralIn lo i hi (Literal.Ends end) = (i < end) × (end ≤ hi)
+LiteralIn lo i hi (Literal.Fault number at) = Faulted lo hi number at
+
+module _ (first low hi : ℕ) (l : first < low) where
+  pub string-in : (s : List ℕ) (q i : ℕ) (taken : Bool) → low ≤ i → i + length s ≡ hi → LiteralIn first low hi (stringRest q first taken i s)
+  unfolding stringRest
+  string-in [] q i taken h e = omega arith
+  string-in (b ∷ s) q i taken h e =
+      let P = LiteralIn first low hi in
+      cond-both P (lineEnd b) (omega arith)
+      (cond-both P (illegal b) (omega arith)
+      (cond-both P taken (string-in s q (i + 1) false (omega arith) (omega arith))
+      (cond-both P (eqb b q) (omega arith)
+      (string-in s q (i + 1) (eqb b backslash) (omega arith) (omega arith)))))
+
+  pub pattern-in : (s : List ℕ) (i : ℕ) (class taken : Bool) → low ≤ i → i + length s ≡ hi
+      → LiteralIn first low hi (patternRest first class taken i s)
+  unfolding patternRest
+  pattern-in [] i class taken h e = omega arith
+  pattern-in (b ∷ s) i class taken h e =
+      let P = LiteralIn first low hi in
+      cond-both P (lineEnd b) (omega arith)
+      (cond-both P (illegal b) (omega arith)
+      (cond-both P taken (pattern-in s (i + 1) class false (omega arith) (omega arith))
+      (cond-both P (eqb b backslash) (pattern-in s (i + 1) class true (omega arith) (omega arith))
+      (cond-both P class (pattern-in s (i + 1) (not (eqb b (byte "]"))) false (omega arith) (omega arith))
+      (cond-both P (eqb b (byte "/")) (omega (arith, run-le nameByte s))
+      (pattern-in s (i + 1) (eqb b (byte "[")) false (omega arith) (omega arith)))))))
+
+-- a string or a regular expression has a byte behind its first
+module _ (s : List ℕ) (first i end : ℕ) (h : first < i) where
+  pub string-reach : (q : ℕ) (taken : Bool) → stringRest q first taken i s ≡ Literal.Ends end → i < end
+  string-reach q taken e =
+      let p : LiteralIn first i (i + length s) (Literal.Ends end) =
+      rw e at (string-in first i (i + length s) h s q i taken (omega arith) refl) in
+      p .0
+
+  pub pattern-reach : (class taken : Bool) → patternRest first class taken i s ≡ Literal.Ends end → i < end
+  pattern-reach class taken e =
+      let p : LiteralIn first i (i + length s) (Literal.Ends end) =
+      rw e at (pattern-in first i (i + length s) h s i class taken (omega arith) refl) in
+      p .0
+
+-- a number has its first byte
+module _ (b : ℕ) (s : List ℕ) (d : digit b ≡ true) where
+  number-length : (1 ≤ numberLength (b ∷ s)) × (numberLength (b ∷ s) ≤ 1 + length s)
+  unfolding numberLength
+  number-length =
+      cond-both (λ n. (1 ≤ n) × (n ≤ 1 + length s)) (eqb b (byte "0")) (omega arith)
+      (omega (arith, run-some digit b s d, run-le digit (b ∷ s)))
+
+  pub number-in : (first hi : ℕ) → first + 1 + length s ≡ hi → LiteralIn first first hi (numberFrom first (b ∷ s))
+  unfolding numberFrom
+  number-in first hi e =
+      cond-both (LiteralIn first first hi) (spoilsNumber (getD (b ∷ s) (numberLength (b ∷ s)) 0))
+      (omega arith) (omega (arith, number-length))

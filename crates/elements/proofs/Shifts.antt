@@ -1,0 +1,173 @@
+-- A gap or literal is the same at another offset, and where the text is cut behind it and goes on with a blank or a line
+-- end. In each law i is the offset of the list's head and j its offset in the other text, of which k bytes are the same;
+-- an equation such as `first + j ≡ there + i` says that `there` is `first` moved as far.
+use mathlib.Core.Path.{_≡_, refl, ap, _∙_}
+use mathlib.Core.List.{List, [], _∷_, _++_}
+use mathlib.Core.Bool.{Bool, true, false, cond, not, _&&_, _||_}
+use Prim.Native.Nat.{ℕ, zero, suc, _+_, _<_, _≤_}
+use native.Mathlib.Omega.{arith}
+use borrow.Author.Tests.{eqb-true}
+use lib.Dec.{eqb}
+use lib.ListN.{length, getD, take}
+use lib.Seq.{getD-at, length-take-le}
+use Rattle.text.specs.Quoted.{byte}
+use Rattle.text.specs.Bytes.{blank, lineEnd, illegal, digit, nameByte, letter}
+use Rattle.text.specs.Runs.{run}
+use Rattle.text.proofs.Laws.{run-own}
+use Rattle.elements.specs.Gaps.{gap, afterSlash, inLine, inBlock}
+use Rattle.elements.specs.Numbers.{numberLength, numberFrom, spoilsNumber}
+use Rattle.elements.specs.Strings.{stringRest, backslash}
+use Rattle.elements.specs.Patterns.{patternRest}
+use Rattle.elements.specs.declared.gaps.Gap.{Gap}
+use Rattle.elements.specs.declared.literals.Literal.{Literal}
+use Rattle.elements.proofs.Choices.{cond-both, cond-follow}
+use Rattle.elements.proofs.Clashes.{no-gap, no-literal}
+use Rattle.elements.proofs.Extents.{gap-reach, line-reach, block-reach, string-reach, pattern-reach}
+use Rattle.elements.proofs.GapLaws.{line-end-cases}
+
+or-cases : (P : Type 0) (a b : Bool) → (a ≡ true → P) → (b ≡ true → P) → (a || b) ≡ true → P
+or-cases P true b f g e = f refl
+or-cases P false b f g e = g e
+
+-- what holds of the four blanks and the two line ends
+separator-cases : (P : ℕ → Type 0) → P 0x09 → P 0x0B → P 0x0C → P 0x20 → P 0x0A → P 0x0D → (x : ℕ) → (blank x || lineEnd x) ≡ true → P x
+unfolding blank
+separator-cases P a b c d m n x =
+    or-cases (P x) (blank x) (lineEnd x)
+    (or-cases (P x) (eqb x 0x09 || eqb x 0x0B || eqb x 0x0C) (eqb x 0x20)
+    (or-cases (P x) (eqb x 0x09 || eqb x 0x0B) (eqb x 0x0C)
+    (or-cases (P x) (eqb x 0x09) (eqb x 0x0B) (λ e. rw (eqb-true x 0x09 e) a) (λ e. rw (eqb-true x 0x0B e) b))
+    (λ e. rw (eqb-true x 0x0C e) c)) (λ e. rw (eqb-true x 0x20 e) d))
+    (line-end-cases P x m n)
+
+-- what a blank or a line end is not
+module _ (x : ℕ) (separates : (blank x || lineEnd x) ≡ true) where
+  pub no-digit : digit x ≡ false
+  unfolding digit
+  no-digit = separator-cases (λ k. digit k ≡ false) refl refl refl refl refl refl x separates
+
+  pub no-name : nameByte x ≡ false
+  unfolding nameByte letter digit
+  no-name = separator-cases (λ k. nameByte k ≡ false) refl refl refl refl refl refl x separates
+
+  spoils-not : spoilsNumber x ≡ false
+  unfolding nameByte letter digit
+  spoils-not = separator-cases (λ k. spoilsNumber k ≡ false) refl refl refl refl refl refl x separates
+
+  slash-alone : (v : List ℕ) (i : ℕ) (line : Bool) → afterSlash i line (x ∷ v) ≡ Gap.Ends i line
+  unfolding afterSlash
+  slash-alone v i line = separator-cases (λ k. afterSlash i line (k ∷ v) ≡ Gap.Ends i line) refl refl refl refl refl refl x separates
+
+-- a text that goes on with a blank or a line end
+module _ (x : ℕ) (v : List ℕ) (separates : (blank x || lineEnd x) ≡ true) where
+  -- a gap, outside and inside its comments, where it ends before the cut
+  module _ (first there : ℕ) (m : Bool) where
+    stop : (i j : ℕ) (line : Bool) → first + j ≡ there + i → Gap.Ends i line ≡ Gap.Ends first m → Gap.Ends j line ≡ Gap.Ends there m
+    stop i j line h e =
+        let p : i ≡ first = cc in
+        let q : j ≡ there = omega arith in
+        cc
+
+    mutual
+      unfolding gap
+
+      pub gap-own : (s : List ℕ) (k i j : ℕ) (line : Bool) → first + j ≡ there + i → first < i + k → k ≤ length s
+          → gap i line s ≡ Gap.Ends first m → gap j line (take k s ++ x ∷ v) ≡ Gap.Ends there m
+      gap-own [] k i j line h p q e = let z : i ≡ first = cc in absurd (omega arith)
+      gap-own (b ∷ s) zero i j line h p q e = absurd (omega (arith, gap-reach (b ∷ s) i first line m e))
+      gap-own (b ∷ s) (suc k) i j line h p q e =
+          cond-follow (blank b) (λ f. gap-own s k (i + 1) (j + 1) line (omega arith) (omega arith) (omega arith) f)
+          (cond-follow (lineEnd b) (λ f. gap-own s k (i + 1) (j + 1) true (omega arith) (omega arith) (omega arith) f)
+          (cond-follow (eqb b (byte "/")) (λ f. slash-own s k i j line h (omega arith) (omega arith) f)
+          (stop i j line h))) e
+
+      slash-own : (s : List ℕ) (k i j : ℕ) (line : Bool) → first + j ≡ there + i → first < i + 1 + k → k ≤ length s
+          → afterSlash i line s ≡ Gap.Ends first m → afterSlash j line (take k s ++ x ∷ v) ≡ Gap.Ends there m
+      slash-own [] zero i j line h p q e = slash-alone x separates v j line ∙ stop i j line h e
+      slash-own [] (suc k) i j line h p q e = absurd (omega arith)
+      slash-own (b ∷ s) zero i j line h p q e =
+          slash-alone x separates v j line ∙ stop i j line h
+          (cond-both (λ z. z ≡ Gap.Ends first m → Gap.Ends i line ≡ Gap.Ends first m) (eqb b (byte "/"))
+          (λ f. absurd (omega (arith, line-reach s (i + 2) first line m f)))
+          (cond-both (λ z. z ≡ Gap.Ends first m → Gap.Ends i line ≡ Gap.Ends first m) (eqb b (byte "*"))
+          (λ f. absurd (omega (arith, block-reach s (i + 2) first line m i false (omega arith) f)))
+          (λ f. f)) e)
+      slash-own (b ∷ s) (suc k) i j line h p q e =
+          cond-follow (eqb b (byte "/")) (λ f. line-own s k (i + 2) (j + 2) line (omega arith) (omega arith) (omega arith) f)
+          (cond-follow (eqb b (byte "*"))
+          (λ f. block-own s k i j (i + 2) (j + 2) line false (omega arith) (omega arith) (omega arith) (omega arith) f)
+          (stop i j line h)) e
+
+      line-own : (s : List ℕ) (k i j : ℕ) (line : Bool) → first + j ≡ there + i → first < i + k → k ≤ length s
+          → inLine i line s ≡ Gap.Ends first m → inLine j line (take k s ++ x ∷ v) ≡ Gap.Ends there m
+      line-own [] k i j line h p q e = let z : i ≡ first = cc in absurd (omega arith)
+      line-own (b ∷ s) zero i j line h p q e = absurd (omega (arith, line-reach (b ∷ s) i first line m e))
+      line-own (b ∷ s) (suc k) i j line h p q e =
+          cond-follow (lineEnd b) (λ f. gap-own s k (i + 1) (j + 1) true (omega arith) (omega arith) (omega arith) f)
+          (cond-follow (illegal b) no-gap (λ f. line-own s k (i + 1) (j + 1) line (omega arith) (omega arith) (omega arith) f)) e
+
+      block-own : (s : List ℕ) (k slash other i j : ℕ) (line star : Bool) → slash < i → first + j ≡ there + i → first < i + k → k ≤ length s
+          → inBlock slash i line star s ≡ Gap.Ends first m → inBlock other j line star (take k s ++ x ∷ v) ≡ Gap.Ends there m
+      block-own [] k slash other i j line star o h p q e = no-gap e
+      block-own (b ∷ s) zero slash other i j line star o h p q e = absurd (omega (arith, block-reach (b ∷ s) i first line m slash star o e))
+      block-own (b ∷ s) (suc k) slash other i j line star o h p q e =
+          let o₁ : slash < i + 1 = omega arith in
+          let h₁ : first + (j + 1) ≡ there + (i + 1) = omega arith in
+          let p₁ : first < i + 1 + k = omega arith in
+          let q₁ : k ≤ length s = omega arith in
+          cond-follow (lineEnd b) (λ f. block-own s k slash other (i + 1) (j + 1) true false o₁ h₁ p₁ q₁ f)
+          (cond-follow (illegal b) no-gap
+          (cond-follow (star && eqb b (byte "/")) (λ f. gap-own s k (i + 1) (j + 1) line h₁ p₁ q₁ f)
+          (λ f. block-own s k slash other (i + 1) (j + 1) line (eqb b (byte "*")) o₁ h₁ p₁ q₁ f))) e
+
+  -- a literal, where it ends before the cut or there
+  module _ (end there : ℕ) where
+    pub string-own : (s : List ℕ) (k q first other i j : ℕ) (taken : Bool) → first < i → end + j ≡ there + i → end ≤ i + k
+        → stringRest q first taken i s ≡ Literal.Ends end → stringRest q other taken j (take k s ++ x ∷ v) ≡ Literal.Ends there
+    unfolding stringRest
+    string-own [] k q first other i j taken o h p e = no-literal e
+    string-own (b ∷ s) zero q first other i j taken o h p e = absurd (omega (arith, string-reach (b ∷ s) first i end o q taken e))
+    string-own (b ∷ s) (suc k) q first other i j taken o h p e =
+        cond-follow (lineEnd b) no-literal
+        (cond-follow (illegal b) no-literal
+        (cond-follow taken (string-own s k q first other (i + 1) (j + 1) false (omega arith) (omega arith) (omega arith))
+        (cond-follow (eqb b q) (λ f. let n : i + 1 ≡ end = cc in ap Literal.Ends (omega arith))
+        (string-own s k q first other (i + 1) (j + 1) (eqb b backslash) (omega arith) (omega arith) (omega arith))))) e
+
+    pub pattern-own : (s : List ℕ) (k first other i j : ℕ) (class taken : Bool) → first < i → end + j ≡ there + i → end ≤ i + k
+        → patternRest first class taken i s ≡ Literal.Ends end → patternRest other class taken j (take k s ++ x ∷ v) ≡ Literal.Ends there
+    unfolding patternRest
+    pattern-own [] k first other i j class taken o h p e = no-literal e
+    pattern-own (b ∷ s) zero first other i j class taken o h p e = absurd (omega (arith, pattern-reach (b ∷ s) first i end o class taken e))
+    pattern-own (b ∷ s) (suc k) first other i j class taken o h p e =
+        let o₁ : first < i + 1 = omega arith in
+        let h₁ : end + (j + 1) ≡ there + (i + 1) = omega arith in
+        let p₁ : end ≤ i + 1 + k = omega arith in
+        cond-follow (lineEnd b) no-literal
+        (cond-follow (illegal b) no-literal
+        (cond-follow taken (pattern-own s k first other (i + 1) (j + 1) class false o₁ h₁ p₁)
+        (cond-follow (eqb b backslash) (pattern-own s k first other (i + 1) (j + 1) class true o₁ h₁ p₁)
+        (cond-follow class (pattern-own s k first other (i + 1) (j + 1) (not (eqb b (byte "]"))) false o₁ h₁ p₁)
+        (cond-follow (eqb b (byte "/"))
+        (λ f.
+        let n : i + 1 + run nameByte s ≡ end = cc in
+        ap Literal.Ends (omega (arith, run-own nameByte x v (no-name x separates) s k (omega arith))))
+        (pattern-own s k first other (i + 1) (j + 1) (eqb b (byte "[")) false o₁ h₁ p₁)))))) e
+
+    module _ (b : ℕ) (s : List ℕ) (k : ℕ) where
+      length-own : numberLength (b ∷ s) ≤ suc k → numberLength (b ∷ take k s ++ x ∷ v) ≡ numberLength (b ∷ s)
+      unfolding numberLength
+      length-own = go (eqb b (byte "0"))
+        where
+          go : (t : Bool) → cond t 1 (run digit (b ∷ s)) ≤ suc k → cond t 1 (run digit (b ∷ take k s ++ x ∷ v)) ≡ cond t 1 (run digit (b ∷ s))
+          go true h = refl
+          go false h = run-own digit x v (no-digit x separates) (b ∷ s) (suc k) h
+
+      pub number-own : (first other : ℕ) → k ≤ length s → end ≡ first + suc k → there ≡ other + suc k
+          → numberFrom first (b ∷ s) ≡ Literal.Ends end → numberFrom other (b ∷ take k s ++ x ∷ v) ≡ Literal.Ends there
+      unfolding numberFrom
+      number-own first other h p q e =
+          let n : numberLength (b ∷ s) ≡ suc k =
+          cond-both (λ z. z ≡ Literal.Ends end → numberLength (b ∷ s) ≡ suc k) (spoilsNumber (getD (b ∷ s) (numberLength (b ∷ s)) 0))
+          no-literal (λ f. let z : first + numberLength (b ∷ s) ≡ end = cc in omega arith) e in
+          rw (length-own (omega arith), n, getD-at (take k s) x v 0 k (length-take-le k s h), spoils-not x separates, q)

@@ -1,0 +1,212 @@
+-- What the slash answer decides: nothing where no slash is met, and where one is met, between the sign `/` and a regular
+-- expression.
+use mathlib.Core.Path.{_≡_, refl, sym, ap, _∙_}
+use mathlib.Core.List.{List, [], _∷_}
+use mathlib.Core.Bool.{Bool, true, false, false≢true, cond, _&&_}
+use Prim.Native.Nat.{ℕ, _+_}
+use native.Mathlib.Nat.{add-zero}
+use native.Mathlib.Omega.{arith}
+use borrow.Author.Tests.{eqb-true, eqb-false, ne-eqb}
+use lib.Dec.{eqb}
+use lib.ListN.{getD, take, drop}
+use lib.Seq.{getD-drop, drop-drop}
+use Rattle.text.specs.Quoted.{byte}
+use Rattle.text.specs.Bytes.{letter, digit, nameByte}
+use Rattle.text.specs.Runs.{run, same}
+use Rattle.words.specs.Words.{wordNumber, taken}
+use Rattle.signs.specs.Signs.{longestOf, longestSign}
+use Rattle.signs.specs.declared.Longest.{Longest}
+use Rattle.elements.specs.Faults.{barredSign}
+use Rattle.elements.specs.Gaps.{gap}
+use Rattle.elements.specs.Numbers.{numberFrom}
+use Rattle.elements.specs.Strings.{quote, stringRest}
+use Rattle.elements.specs.Patterns.{patternRest}
+use Rattle.elements.specs.Elements.{
+  element,
+  literal,
+  named,
+  delimiter,
+  signOrStray,
+  elementFrom,
+  afterGap,
+  elementAt,
+  slashAfter,
+  slashMet,
+  numberKind,
+  stringKind,
+  patternKind,
+  signKind,
+}
+use Rattle.elements.specs.declared.gaps.Gap.{Gap}
+use Rattle.elements.specs.declared.literals.Literal.{Literal}
+use Rattle.elements.specs.declared.Element.{Element}
+use Rattle.elements.specs.declared.Next.{Next}
+use Rattle.elements.proofs.Choices.{cond-both, cond-known}
+use Rattle.elements.proofs.Clashes.{no-element}
+
+-- the longest sign that starts with a slash
+longest-slash : (s : List ℕ) → longestSign (byte "/" ∷ s) ≡ cond (eqb (getD s 0 0) (byte "=")) (Longest.Sign 48 2 false) (Longest.Sign 47 1 true)
+unfolding longestSign longestOf same
+longest-slash [] = refl
+longest-slash (b ∷ s) = go (eqb b (byte "=")) refl
+  where
+    go : (t : Bool) → eqb b (byte "=") ≡ t → longestSign (byte "/" ∷ b ∷ s) ≡ cond t (Longest.Sign 48 2 false) (Longest.Sign 47 1 true)
+    go true e = rw (eqb-true b (byte "=") e)
+    go false e = rw (ne-eqb (byte "=") b (λ f. eqb-false b (byte "=") e (sym f)))
+
+slash-no-delimiter : delimiter 47 ≡ false
+unfolding delimiter longestSign longestOf same
+slash-no-delimiter = refl
+
+-- the element of a text that starts with a slash, or not, at `first`
+module _ (line : Bool) (first : ℕ) where
+  from-either : (s : List ℕ) → eqb (getD s 0 0) (byte "/") ≡ false → elementFrom true line first s ≡ elementFrom false line first s
+  unfolding elementFrom
+  from-either [] e = refl
+  from-either (b ∷ s) e = rw (e, elementFrom)
+
+  from-opened : (s : List ℕ) → elementFrom true line first (byte "/" ∷ s)
+      ≡ literal patternKind line first (patternRest first false false (first + 1) s)
+  unfolding elementFrom letter digit quote
+  from-opened s = refl
+
+  from-divided : (s : List ℕ) → elementFrom false line first (byte "/" ∷ s)
+      ≡ cond (eqb (getD s 0 0) (byte "=")) (Next.Fault barredSign first) (element signKind 47 line first (first + 1))
+  unfolding elementFrom letter digit quote
+  from-divided s = rw (longest-slash s) (go (eqb (getD s 0 0) (byte "=")))
+    where
+      go : (t : Bool) → signOrStray line first (cond t (Longest.Sign 48 2 false) (Longest.Sign 47 1 true))
+          ≡ cond t (Next.Fault barredSign first) (element signKind 47 line first (first + 1))
+      go true = refl
+      go false = rw slash-no-delimiter
+
+-- only a slash under the answer `true` gives a regular expression
+abbrev OpenedOnly : Bool → Next → Type 0
+OpenedOnly opens Next.End = Unit
+OpenedOnly opens (Next.Found e) = e .kind ≡ patternKind → opens ≡ true
+OpenedOnly opens (Next.Fault number at) = Unit
+
+module _ (opens line : Bool) (first : ℕ) where
+  literal-only : (kind : ℕ) → (kind ≡ patternKind → opens ≡ true) → (l : Literal) → OpenedOnly opens (literal kind line first l)
+  literal-only kind k (Literal.Ends end) = k
+  literal-only kind k (Literal.Fault number at) = tt
+
+  named-only : (s : List ℕ) → OpenedOnly opens (named line first s)
+  unfolding named
+  named-only s =
+      let word = wordNumber (take (run nameByte s) s) in
+      cond-both (OpenedOnly opens) (eqb word 0) (λ k. absurd (omega arith))
+      (cond-both (OpenedOnly opens) (taken word) (λ k. absurd (omega arith)) tt)
+
+  sign-only : (l : Longest) → OpenedOnly opens (signOrStray line first l)
+  sign-only Longest.None = tt
+  sign-only (Longest.Sign number n legal) =
+      cond-both (OpenedOnly opens) legal
+      (cond-both (λ (kind : ℕ). kind ≡ patternKind → opens ≡ true) (delimiter number) (λ k. absurd (omega arith)) (λ k. absurd (omega arith)))
+      tt
+
+from-only : (pattern line : Bool) (first : ℕ) (s : List ℕ) → OpenedOnly (pattern && eqb (getD s 0 0) (byte "/")) (elementFrom pattern line first s)
+unfolding elementFrom
+from-only pattern line first [] = tt
+from-only pattern line first (b ∷ s) =
+    let opens = pattern && eqb b (byte "/") in
+    let P = OpenedOnly opens in
+    cond-both P (letter b) (named-only opens line first (b ∷ s))
+    (cond-both P (digit b) (literal-only opens line first numberKind (λ k. absurd (omega arith)) (numberFrom first (b ∷ s)))
+    (cond-both P (quote b) (literal-only opens line first stringKind (λ k. absurd (omega arith)) (stringRest b first false (first + 1) s))
+    (cond-known P opens (λ o. literal-only opens line first patternKind (λ k. o) (patternRest first false false (first + 1) s)) (λ o.
+    cond-both P (eqb b (byte ".") && digit (getD s 0 0)) tt
+    (sign-only opens line first (longestSign (b ∷ s)))))))
+
+-- a text whose first byte is known; past the text's end stands a 0
+starts : (s : List ℕ) (b : ℕ) → (b ≡ 0 → ⊥) → getD s 0 0 ≡ b → s ≡ b ∷ drop 1 s
+starts [] b n e = absurd (n (sym e))
+starts (a ∷ s) b n e = ap (λ k. k ∷ s) e
+
+-- a slash at `first`
+module _ (s : List ℕ) (first : ℕ) where
+  byte-at : getD (drop first s) 0 0 ≡ getD s first 0
+  byte-at = getD-drop first s 0 0 ∙ ap (λ k. getD s k 0) (add-zero first)
+
+  here : eqb (getD s first 0) (byte "/") ≡ true → drop first s ≡ byte "/" ∷ drop (first + 1) s
+  here e = starts (drop first s) (byte "/") (omega arith) (byte-at ∙ eqb-true _ _ e) ∙ ap (_∷_ (byte "/")) (drop-drop 1 first s)
+
+-- the sign `/`
+pub record Divide (e : Element) : Type 0 where
+  pub kind : e .kind ≡ signKind
+  pub which : e .which ≡ 47
+  pub single : e .end ≡ e .first + 1
+
+-- a slash that divides: the sign, or the fault of `/=`
+abbrev pub Divided : List ℕ → Next → Type 0
+Divided s Next.End = ⊥
+Divided s (Next.Found e) = Divide e
+Divided s (Next.Fault number at) = (number ≡ barredSign) × (getD s (at + 1) 0 ≡ byte "=")
+
+-- a slash that opens: a regular expression, or its fault
+abbrev pub Opened : Next → Type 0
+Opened Next.End = ⊥
+Opened (Next.Found e) = e .kind ≡ patternKind
+Opened (Next.Fault number at) = Unit
+
+literal-opened : (line : Bool) (first : ℕ) (l : Literal) → Opened (literal patternKind line first l)
+literal-opened line first (Literal.Ends end) = refl
+literal-opened line first (Literal.Fault number at) = tt
+
+module _ (s : List ℕ) (place : ℕ) where
+  -- where no slash is met, the answer does not matter
+  pub either-slash : slashMet s place ≡ false → elementAt s place true ≡ elementAt s place false
+  unfolding elementAt slashMet
+  either-slash = go (gap place false (drop place s))
+    where
+      go : (g : Gap) → slashAfter s g ≡ false → afterGap s true g ≡ afterGap s false g
+      go (Gap.Ends first line) e = from-either line first (drop first s) (rw (byte-at s first) e)
+      go (Gap.Fault number at) e = refl
+
+  -- where one is met, it is a sign or a regular expression
+  pub slash-divides : slashMet s place ≡ true → Divided s (elementAt s place false)
+  unfolding elementAt slashMet
+  slash-divides = go (gap place false (drop place s))
+    where
+      go : (g : Gap) → slashAfter s g ≡ true → Divided s (afterGap s false g)
+      go (Gap.Ends first line) e =
+          rw (here s first e, from-divided line first (drop (first + 1) s), byte-at s (first + 1))
+          (cond-known (Divided s) (eqb (getD s (first + 1) 0) (byte "=")) (λ t. (refl, eqb-true _ _ t))
+          (λ t. record { kind = refl; which = refl; single = refl }))
+      go (Gap.Fault number at) e = absurd (false≢true e)
+
+  pub slash-opens : slashMet s place ≡ true → Opened (elementAt s place true)
+  unfolding elementAt slashMet
+  slash-opens = go (gap place false (drop place s))
+    where
+      go : (g : Gap) → slashAfter s g ≡ true → Opened (afterGap s true g)
+      go (Gap.Ends first line) e =
+          rw (here s first e, from-opened line first (drop (first + 1) s))
+          (literal-opened line first (patternRest first false false (first + 1) (drop (first + 1) s)))
+      go (Gap.Fault number at) e = absurd (false≢true e)
+
+  -- a regular expression is found only there
+  pub pattern-slash : (pattern : Bool) (e : Element) → elementAt s place pattern ≡ Next.Found e → e .kind ≡ patternKind
+      → (pattern ≡ true) × (slashMet s place ≡ true)
+  unfolding elementAt slashMet
+  pattern-slash pattern e = go (gap place false (drop place s))
+    where
+      both : (a b : Bool) → (a && b) ≡ true → (a ≡ true) × (b ≡ true)
+      both true b h = (refl, h)
+      both false b h = absurd (false≢true h)
+
+      go : (g : Gap) → afterGap s pattern g ≡ Next.Found e → e .kind ≡ patternKind → (pattern ≡ true) × (slashAfter s g ≡ true)
+      go (Gap.Ends first line) f k =
+          both pattern (eqb (getD s first 0) (byte "/")) (rw (f, byte-at s first) at (from-only pattern line first (drop first s)) k)
+      go (Gap.Fault number at) f k = no-element f
+
+  -- the same, by what was found
+  module _ (met : slashMet s place ≡ true) where
+    pub divide-found : (e : Element) → elementAt s place false ≡ Next.Found e → Divide e
+    divide-found e f = rw f at (slash-divides met)
+
+    pub divide-fault : (number at : ℕ) → elementAt s place false ≡ Next.Fault number at → (number ≡ barredSign) × (getD s (at + 1) 0 ≡ byte "=")
+    divide-fault number at f = rw f at (slash-divides met)
+
+    pub pattern-found : (e : Element) → elementAt s place true ≡ Next.Found e → e .kind ≡ patternKind
+    pattern-found e f = rw f at (slash-opens met)

@@ -1,0 +1,5 @@
+pub mod Finite
+pub mod SummaryLaws
+pub mod WordLaws
+pub mod StateLaws
+pub mod StepLaws

@@ -1,0 +1,95 @@
+-- By the kind of the element.
+use borrow.Author.Needs.{needs}
+use mathlib.Core.Path.{sym, _∙_}
+use Prim.Native.Nat.{_/_}
+use lib.ListN.{length}
+use Rattle.prefix.specs.Reading.{Limits}
+use Rattle.prefix.proofs.StateLaws.{held-brace}
+use Rattle.prefix.proofs.StepLaws.{step-leaf, step-parens, step-object, step-block, step-close}
+use borrow.Author.Needs.{needs}
+use Rattle.prefix.proofs.advance.Statement.{statement}
+use Rattle.prefix.proofs.advance.Tie as tie
+
+add-leaf-requires : tie.Need-add-leaf-requires
+add-leaf-requires c κs = search needs
+
+returns : tie.Need-returns
+returns c =
+    let a = c .before .before .before .before .args in
+    let limits : Limits = record { groups = length (a .stack .now) / 2; room = a .room } in
+    λ marks levels h m. rw (step-leaf limits levels (a .e) (c .before .if1 .taken)) (c .add-leaf .ensures marks _ (limits .groups) levels h)
+
+open-group-requires : tie.Need-open-group-requires
+open-group-requires c κs = search needs
+
+same-length : tie.Need-same-length
+same-length c = search needs
+
+returns-2 : tie.Need-returns-2
+returns-2 c =
+    let a = c .before .before .before .before .before .before .before .before .before .args in
+    let limits : Limits = record { groups = length (a .stack .now) / 2; room = a .room } in
+    λ marks levels h m. rw (step-parens limits levels (a .e) (c .before .before .before .before .before .before .if1 .left) (c .before .before .before .before .if2 .taken)) (c .before .before .open-group .ensures marks levels h m)
+
+brace-opens-requires : tie.Need-brace-opens-requires
+brace-opens-requires c κs = search needs
+
+open-group-requires-2 : tie.Need-open-group-requires-2
+open-group-requires-2 c κs = search needs
+
+same-length-2 : tie.Need-same-length-2
+same-length-2 c = search needs
+
+returns-3 : tie.Need-returns-3
+returns-3 c =
+    let a = c .before .before .before .before .before .before .before .before .before .before .before .before .before .args in
+    let limits : Limits = record { groups = length (a .stack .now) / 2; room = a .room } in
+    λ marks levels h m.
+    let brace = held-brace marks _ (a .state) levels h _ _ (sym (c .before .before .before .before .before .brace-opens .ensures) ∙ c .before .before .before .before .if4 .taken) in
+    rw (step-object limits levels (a .e) (c .before .before .before .before .before .before .before .before .before .before .if1 .left) (c .before .before .before .before .before .before .before .before .if2 .left) (c .before .before .before .before .before .before .if3 .taken) brace) (c .before .before .open-group2 .ensures marks levels h m)
+
+open-group-requires-3 : tie.Need-open-group-requires-3
+open-group-requires-3 c κs = search needs
+
+same-length-3 : tie.Need-same-length-3
+same-length-3 c = search needs
+
+returns-4 : tie.Need-returns-4
+returns-4 c =
+    let a = c .before .before .before .before .before .before .before .before .before .before .before .before .before .args in
+    let limits : Limits = record { groups = length (a .stack .now) / 2; room = a .room } in
+    λ marks levels h m.
+    let brace = held-brace marks _ (a .state) levels h _ _ (sym (c .before .before .before .before .before .brace-opens .ensures) ∙ c .before .before .before .before .if4 .left) in
+    rw (step-block limits levels (a .e) (c .before .before .before .before .before .before .before .before .before .before .if1 .left) (c .before .before .before .before .before .before .before .before .if2 .left) (c .before .before .before .before .before .before .if3 .taken) brace) (c .before .before .open-group3 .ensures marks levels h m)
+
+close-group-requires : tie.Need-close-group-requires
+close-group-requires c κs = search needs
+
+same-length-4 : tie.Need-same-length-4
+same-length-4 c = search needs
+
+returns-5 : tie.Need-returns-5
+returns-5 c =
+    let a = c .before .before .before .before .before .before .before .before .before .args in
+    let limits : Limits = record { groups = length (a .stack .now) / 2; room = a .room } in
+    λ marks levels h m. rw (step-close limits levels (a .e) (c .before .before .before .before .before .before .if1 .left) (c .before .before .before .before .if2 .left) (c .before .before .if3 .left)) (c .close-group .ensures (limits .room) marks levels h)
+
+pub advance-spec : {M : Type 1} → statement M
+advance-spec =
+    tie.close
+    (tie.spec
+    add-leaf-requires
+    returns
+    open-group-requires
+    same-length
+    returns-2
+    brace-opens-requires
+    open-group-requires-2
+    same-length-2
+    returns-3
+    open-group-requires-3
+    same-length-3
+    returns-4
+    close-group-requires
+    same-length-4
+    returns-5)

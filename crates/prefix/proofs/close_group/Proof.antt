@@ -1,0 +1,80 @@
+-- The innermost group, if the closer has its shape.
+use borrow.Author.Needs.{needs}
+use native.Mathlib.Omega.{arith}
+use mathlib.Core.Path.{sym, _∙_}
+use borrow.Author.Tests.{not-true, not-false}
+use Rattle.prefix.proofs.StateLaws.{close-none, close-other, close-done, not-deeper}
+use borrow.Author.Needs.{needs}
+use Rattle.prefix.proofs.close_group.Statement.{statement}
+use Rattle.prefix.proofs.close_group.Tie as tie
+
+returns : tie.Need-returns
+returns c = λ room marks levels h. close-none marks _ _ levels h room _ (c .if1 .taken)
+
+returns-2 : tie.Need-returns-2
+returns-2 c = λ room marks levels h. absurd (not-deeper marks _ _ levels h (c .if2 .taken))
+
+is-closed-by-requires : tie.Need-is-closed-by-requires
+is-closed-by-requires c κs = search needs
+
+returns-3 : tie.Need-returns-3
+returns-3 c = λ room marks levels h. close-other marks _ _ levels h room _ (c .before .before .before .before .if1 .left) (sym (c .before .is-closed-by .ensures) ∙ not-true _ (c .if3 .taken))
+
+sub-around : tie.Need-sub-around
+sub-around c = search needs
+
+mul-around : tie.Need-mul-around
+mul-around c = search needs
+
+mul-around-2 : tie.Need-mul-around-2
+mul-around-2 c = search needs
+
+shared-slice-read-around : tie.Need-shared-slice-read-around
+shared-slice-read-around c = search needs
+
+sub-mark : tie.Need-sub-mark
+sub-mark c = search needs
+
+mul-mark : tie.Need-mul-mark
+mul-mark c = search needs
+
+add-mark : tie.Need-add-mark
+add-mark c = search needs
+
+mul-mark-2 : tie.Need-mul-mark-2
+mul-mark-2 c = search needs
+
+shared-slice-read-mark : tie.Need-shared-slice-read-mark
+shared-slice-read-mark c = search needs
+
+after-group-requires : tie.Need-after-group-requires
+after-group-requires c κs = search needs
+
+sub-t9 : tie.Need-sub-t9
+sub-t9 c = search needs
+
+returns-4 : tie.Need-returns-4
+returns-4 c =
+    let t = c .before .before .before in
+    λ room marks levels h. close-done marks _ (c .before .before .before .before .before .before .before .before .before .args .state) levels h room _ (t .before .before .before .before .if1 .left) (sym (t .before .is-closed-by .ensures) ∙ not-false _ (t .if3 .left)) _ (c .after-group .ensures)
+
+pub close-group-spec : {M : Type 1} → statement M
+close-group-spec =
+    tie.close
+    (tie.spec
+    returns
+    returns-2
+    is-closed-by-requires
+    returns-3
+    sub-around
+    mul-around
+    mul-around-2
+    shared-slice-read-around
+    sub-mark
+    mul-mark
+    add-mark
+    mul-mark-2
+    shared-slice-read-mark
+    after-group-requires
+    sub-t9
+    returns-4)

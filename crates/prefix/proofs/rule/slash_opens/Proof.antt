@@ -1,0 +1,12 @@
+-- `slash_opens` is `slashByWord`.
+use mathlib.Core.Path.{refl}
+use Rattle.prefix.specs.Words.{slashByWord}
+use Rattle.prefix.proofs.rule.slash_opens.Statement.{statement}
+use Rattle.prefix.proofs.rule.slash_opens.Tie as tie
+
+returns : tie.Need-returns
+unfolding slashByWord
+returns c = refl
+
+pub slash-opens-spec : {M : Type 1} → statement M
+slash-opens-spec = tie.close (tie.spec returns)

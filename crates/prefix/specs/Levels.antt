@@ -1,0 +1,47 @@
+-- Document 01, Prefix rule: "The whole text is a statement level. The inside of `( )` is an expression level. The inside
+-- of a brace is an expression level if it is an object, else a statement level."
+use Prim.Native.Nat.{ℕ, _+_}
+use mathlib.Core.Bool.{Bool, false, _||_}
+use lib.Dec.{eqb}
+use Rattle.prefix.specs.Trees.{Trees, count, parenKind, objectKind}
+use Rattle.prefix.specs.Rule.{backwards, opensObject, opensPattern}
+
+-- the levels that are open at a place: the text's own, or the inside of a group that is open, with the levels around it,
+-- its kind, its first byte, whether a line end lies before it, and the trees in it so far
+pub data Levels : Type 0 where
+  text : Trees → Levels
+  inside : Levels → ℕ → ℕ → Bool → Trees → Levels
+
+-- whether the inside of a group of that kind is an expression level; the whole text has the kind 0
+abbrev pub isExpression : ℕ → Bool
+isExpression kind = eqb kind parenKind || eqb kind objectKind
+
+abbrev pub kindOf : Levels → ℕ
+kindOf (text trees) = 0
+kindOf (inside around kind first line trees) = kind
+
+-- the trees of the innermost level
+abbrev pub treesOf : Levels → Trees
+treesOf (text trees) = trees
+treesOf (inside around kind first line trees) = trees
+
+-- what a slash, and what a brace before which a line end lies or not, is at the end of the innermost level
+abbrev pub slashOpens : Levels → Bool
+slashOpens levels = opensPattern (isExpression (kindOf levels)) (backwards (treesOf levels))
+
+abbrev pub braceOpens : Levels → Bool → Bool
+braceOpens levels line = opensObject (isExpression (kindOf levels)) (backwards (treesOf levels)) line
+
+-- groups that are open, and records so far
+abbrev pub depth : Levels → ℕ
+depth (text trees) = 0
+depth (inside around kind first line trees) = depth around + 1
+
+abbrev pub number : Levels → ℕ
+number (text trees) = count trees
+number (inside around kind first line trees) = number around + (count trees + 1)
+
+-- a tree more on the innermost level
+abbrev pub onTop : (Trees → Trees) → Levels → Levels
+onTop add (text trees) = text (add trees)
+onTop add (inside around kind first line trees) = inside around kind first line (add trees)

@@ -1,0 +1,108 @@
+-- Reading: a text to trees, element by element, "and the first fault met answers".
+use Prim.Native.Nat.{ℕ, zero, suc, _+_}
+use mathlib.Core.Bool.{Bool, cond, _||_}
+use mathlib.Core.List.{List}
+use lib.Dec.{eqb, leb}
+use lib.ListN.{length}
+use Rattle.elements.specs.Elements.{elementAt, delimiterKind}
+use Rattle.elements.specs.declared.Element.{Element}
+use Rattle.elements.specs.declared.Next.{Next}
+use Rattle.prefix.specs.Trees.{Trees, none, leaf, group, parenKind, objectKind, blockKind}
+use Rattle.prefix.specs.Rule.{isSign}
+use Rattle.prefix.specs.Levels.{Levels, text, inside, kindOf, slashOpens, braceOpens, depth, number, onTop}
+
+-- Document 01, Refused texts, rows 9 to 12
+abbrev pub deep : ℕ
+deep = 9
+
+abbrev pub wrongCloser : ℕ
+wrongCloser = 10
+
+abbrev pub unclosed : ℕ
+unclosed = 11
+
+abbrev pub treesFull : ℕ
+treesFull = 12
+
+-- how many groups may be open, and how many records there is room for
+pub record Limits : Type 0 where
+  pub groups : ℕ
+  pub room : ℕ
+
+-- what an element makes of the levels: others, or a fault
+pub data Step : Type 0 where
+  stop : ℕ → ℕ → Step
+  more : Levels → Step
+
+-- an element that is no delimiter; 12 where "an element needs a record and the table or 16,384 is used up"
+abbrev pub addLeaf : Limits → Levels → Element → Step
+addLeaf limits levels e =
+    cond (leb (limits .room) (number levels)) (stop treesFull (e .first))
+    (more (onTop (λ before. leaf before e) levels))
+
+-- an opener of a group of that kind; 9 precedes 12
+abbrev pub openGroup : Limits → Levels → ℕ → Element → Step
+openGroup limits levels kind e =
+    cond (leb (limits .groups) (depth levels)) (stop deep (e .first))
+    (cond (leb (limits .room) (number levels)) (stop treesFull (e .first))
+    (more (inside levels kind (e .first) (e .line) none)))
+
+-- `)` closes `( )`, and `}` closes an object or a block
+abbrev pub closes : ℕ → ℕ → Bool
+closes which kind = cond (isSign ")" which) (eqb kind parenKind) (eqb kind objectKind || eqb kind blockKind)
+
+-- a closer; 10 for "nothing open, or the other shape"
+abbrev pub closeGroup : Levels → Element → Step
+closeGroup (text trees) e = stop wrongCloser (e .first)
+closeGroup (inside around kind first line trees) e =
+    cond (closes (e .which) kind) (more (onTop (λ before. group before kind first (e .end) line trees) around))
+    (stop wrongCloser (e .first))
+
+-- a delimiter
+abbrev pub delimit : Limits → Levels → Element → Step
+delimit limits levels e =
+    cond (isSign "(" (e .which)) (openGroup limits levels parenKind e)
+    (cond (isSign "{" (e .which)) (openGroup limits levels (cond (braceOpens levels (e .line)) objectKind blockKind) e)
+    (closeGroup levels e))
+
+-- an element
+unfoldable pub step : Limits → Levels → Element → Step
+step limits levels e = cond (eqb (e .kind) delimiterKind) (delimit limits levels e) (addLeaf limits levels e)
+
+-- the trees of a text, or the number and place of its first fault
+pub data Reading : Type 0 where
+  accepted : Trees → Reading
+  refused : ℕ → ℕ → Reading
+
+-- the text's end; 11 where "text ends in a group", at the "innermost opener"
+abbrev pub ending : Levels → Reading
+ending (text trees) = accepted trees
+ending (inside around kind first line trees) = refused unclosed first
+
+-- what follows a step that was taken at an element with that end: the reading is over, or goes on there
+pub data Turn : Type 0 where
+  over : Reading → Turn
+  on : Levels → ℕ → Turn
+
+abbrev pub stepped : ℕ → Step → Turn
+stepped end (stop number place) = over (refused number place)
+stepped end (more levels) = on levels end
+
+abbrev pub met : Limits → Levels → Next → Turn
+met limits levels Next.End = over (ending levels)
+met limits levels (Next.Fault number place) = over (refused number place)
+met limits levels (Next.Found e) = stepped (e .end) (step limits levels e)
+
+-- the next element at a place, where the prefix rule states what a slash does there
+unfoldable pub turn : List ℕ → Limits → Levels → ℕ → Turn
+turn bytes limits levels place = met limits levels (elementAt bytes place (slashOpens levels))
+
+-- the rest of a reading; there are fewer elements than `fuel`, so that it is not used up
+unfoldable pub readOn : List ℕ → Limits → ℕ → Levels → ℕ → Reading
+readOn bytes limits zero levels place = ending levels
+readOn bytes limits (suc fuel) levels place =
+    elim (turn bytes limits levels place) [ over reading ↦ reading | on after next ↦ readOn bytes limits fuel after next ]
+
+-- the reading of a text under limits
+unfoldable pub reading : List ℕ → Limits → Reading
+reading bytes limits = readOn bytes limits (suc (length bytes)) (text none) 0

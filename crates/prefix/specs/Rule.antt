@@ -1,0 +1,155 @@
+-- Document 01, Prefix rule: over the trees before on the same level. "Last" is the tree before, on the same level.
+use Prim.Native.Nat.{ℕ}
+use Prim.Native.String.{String}
+use mathlib.Core.Bool.{Bool, true, false, not, cond, _&&_, _||_}
+use mathlib.Core.List.{List, [], _∷_}
+use lib.Dec.{eqb}
+use Rattle.text.specs.Quoted.{bytes}
+use Rattle.words.specs.Words.{wordNumber}
+use Rattle.signs.specs.Signs.{longestSign}
+use Rattle.elements.specs.Elements.{numberOfSign, nameKind, wordKind, signKind}
+use Rattle.elements.specs.declared.Element.{Element}
+use Rattle.prefix.specs.Trees.{Trees, none, leaf, group, parenKind, objectKind}
+
+-- Trees as far as the rule tells them apart.
+pub data Class : Type 0 where
+  -- a name
+  name : Class
+  -- a number, string or regular expression
+  literal : Class
+  -- `/`, `+` or `=`
+  operator : Class
+  -- `:`
+  colon : Class
+  -- any other sign or reserved word
+  other : Class
+  -- the words `return`, `function` and `if`
+  returnWord : Class
+  functionWord : Class
+  ifWord : Class
+  -- `( )`, an object and a block
+  parens : Class
+  object : Class
+  block : Class
+
+-- the number of a word, or of a sign
+abbrev pub isWord : String → ℕ → Bool
+isWord t which = eqb which (wordNumber (bytes t))
+
+abbrev pub isSign : String → ℕ → Bool
+isSign t which = eqb which (numberOfSign (longestSign (bytes t)))
+
+abbrev pub wordClass : ℕ → Class
+wordClass which =
+    cond (isWord "return" which) returnWord
+    (cond (isWord "function" which) functionWord
+    (cond (isWord "if" which) ifWord
+    other))
+
+abbrev pub signClass : ℕ → Class
+signClass which =
+    cond (isSign "/" which || isSign "+" which || isSign "=" which) operator
+    (cond (isSign ":" which) colon
+    other)
+
+unfoldable pub elementClass : Element → Class
+elementClass e =
+    cond (eqb (e .kind) nameKind) name
+    (cond (eqb (e .kind) wordKind) (wordClass (e .which))
+    (cond (eqb (e .kind) signKind) (signClass (e .which))
+    literal))
+
+unfoldable pub groupClass : ℕ → Class
+groupClass kind = cond (eqb kind parenKind) parens (cond (eqb kind objectKind) object block)
+
+-- a tree before, and whether a line end lies before it
+pub data Before : Type 0 where
+  tree : Class → Bool → Before
+
+-- the trees before, last first
+unfoldable pub backwards : Trees → List Before
+backwards none = []
+backwards (leaf before e) = tree (elementClass e) (e .line) ∷ backwards before
+backwards (group before kind first end line within) = tree (groupClass kind) line ∷ backwards before
+
+-- "`{` opens an object when: .. last is `/`, `+` or `=`; last is `:` on an expression level; last is `return` and no line
+-- end lies between. Otherwise it opens a block."
+abbrev pub objectAfter : Bool → Class → Bool → Bool
+objectAfter expression name line = false
+objectAfter expression literal line = false
+objectAfter expression operator line = true
+objectAfter expression colon line = expression
+objectAfter expression other line = false
+objectAfter expression returnWord line = not line
+objectAfter expression functionWord line = false
+objectAfter expression ifWord line = false
+objectAfter expression parens line = false
+objectAfter expression object line = false
+objectAfter expression block line = false
+
+-- ".. there is no last and the level is an expression level"
+unfoldable pub opensObject : Bool → List Before → Bool → Bool
+opensObject expression [] line = expression
+opensObject expression (tree last l ∷ before) line = objectAfter expression last line
+
+-- classes told apart by numbers
+abbrev pub rank : Class → ℕ
+rank name = 0
+rank literal = 1
+rank operator = 2
+rank colon = 3
+rank other = 4
+rank returnWord = 5
+rank functionWord = 6
+rank ifWord = 7
+rank parens = 8
+rank object = 9
+rank block = 10
+
+-- the last tree is of a class
+abbrev pub endsWith : Class → List Before → Bool
+endsWith class [] = false
+endsWith class (tree last l ∷ before) = eqb (rank last) (rank class)
+
+-- the trees before the last
+abbrev pub rest : List Before → List Before
+rest [] = []
+rest (t ∷ before) = before
+
+-- whether a line end lies before the last tree
+abbrev pub lineBefore : List Before → Bool
+lineBefore [] = false
+lineBefore (tree last l ∷ before) = l
+
+-- "`/` opens a regular expression when: .. last is a sign or a reserved word; last is `( )` preceded by `if`; last is a
+-- block. It divides after a name, number, string, regular expression, object or other `( )`."
+abbrev pub patternAfter : Class → List Before → Bool
+patternAfter name before = false
+patternAfter literal before = false
+patternAfter operator before = true
+patternAfter colon before = true
+patternAfter other before = true
+patternAfter returnWord before = true
+patternAfter functionWord before = true
+patternAfter ifWord before = true
+patternAfter parens before = endsWith ifWord before
+patternAfter object before = false
+patternAfter block before = true
+
+-- ".. there is no last"
+abbrev pub plainly : List Before → Bool
+plainly [] = true
+plainly (tree last l ∷ before) = patternAfter last before
+
+-- "if the level ends with `function`, name, `( )`, `{ }`": behind `( )` a brace is a block
+abbrev pub endsWithFunction : List Before → Bool
+endsWithFunction ts =
+    endsWith block ts && (endsWith parens (rest ts) && (endsWith name (rest (rest ts)) && endsWith functionWord (rest (rest (rest ts)))))
+
+-- "Exception: .. the slash divides exactly when a `{` standing in place of that `function`, with the same line ends before
+-- it, would open an object."
+unfoldable pub opensPattern : Bool → List Before → Bool
+opensPattern expression ts =
+    cond (endsWithFunction ts)
+    (not (opensObject expression (rest (rest (rest (rest ts)))) (lineBefore (rest (rest (rest ts))))))
+    (plainly ts)

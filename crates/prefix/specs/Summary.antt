@@ -1,0 +1,130 @@
+-- The summary of a level: all that the prefix rule needs of the trees before. Machinery: the rule itself knows nothing of it.
+use Prim.Native.Nat.{ℕ, _+_, _*_}
+use mathlib.Core.Bool.{Bool, true, false, not, cond}
+use mathlib.Core.List.{List, [], _∷_}
+use Rattle.prefix.specs.Rule.{Class, name, literal, operator, colon, other, returnWord, functionWord, ifWord, parens, object, block, Before, tree, backwards}
+use Rattle.prefix.specs.Levels.{Levels, isExpression, kindOf, treesOf}
+
+-- what stands last. `if ( )` is told from other `( )`, and the trees of a function from other trees, with whether a brace in
+-- place of `function` would open an object
+pub data Summary : Type 0 where
+  nothing operand afterOperator afterColon afterOther afterReturn afterIf afterIfParens afterBlock : Summary
+  afterFunction afterFunctionName afterFunctionParens : Bool → Summary
+
+-- its answers: what a brace opens, and what a slash does
+abbrev pub braceBy : Bool → Summary → Bool → Bool
+braceBy expression nothing line = expression
+braceBy expression operand line = false
+braceBy expression afterOperator line = true
+braceBy expression afterColon line = expression
+braceBy expression afterOther line = false
+braceBy expression afterReturn line = not line
+braceBy expression afterIf line = false
+braceBy expression afterIfParens line = false
+braceBy expression afterBlock line = false
+braceBy expression (afterFunction inObject) line = false
+braceBy expression (afterFunctionName inObject) line = false
+braceBy expression (afterFunctionParens inObject) line = false
+
+abbrev pub slashBy : Summary → Bool
+slashBy nothing = true
+slashBy operand = false
+slashBy afterOperator = true
+slashBy afterColon = true
+slashBy afterOther = true
+slashBy afterReturn = true
+slashBy afterIf = true
+slashBy afterIfParens = true
+slashBy afterBlock = true
+slashBy (afterFunction inObject) = true
+slashBy (afterFunctionName inObject) = false
+slashBy (afterFunctionParens inObject) = false
+
+-- after a name, after `( )` and after a block
+abbrev pub addName : Summary → Summary
+addName nothing = operand
+addName operand = operand
+addName afterOperator = operand
+addName afterColon = operand
+addName afterOther = operand
+addName afterReturn = operand
+addName afterIf = operand
+addName afterIfParens = operand
+addName afterBlock = operand
+addName (afterFunction inObject) = afterFunctionName inObject
+addName (afterFunctionName inObject) = operand
+addName (afterFunctionParens inObject) = operand
+
+abbrev pub addParens : Summary → Summary
+addParens nothing = operand
+addParens operand = operand
+addParens afterOperator = operand
+addParens afterColon = operand
+addParens afterOther = operand
+addParens afterReturn = operand
+addParens afterIf = afterIfParens
+addParens afterIfParens = operand
+addParens afterBlock = operand
+addParens (afterFunction inObject) = operand
+addParens (afterFunctionName inObject) = afterFunctionParens inObject
+addParens (afterFunctionParens inObject) = operand
+
+-- a function in an operand's place is an operand
+abbrev pub functionBlock : Bool → Summary
+functionBlock true = operand
+functionBlock false = afterBlock
+
+abbrev pub addBlock : Summary → Summary
+addBlock nothing = afterBlock
+addBlock operand = afterBlock
+addBlock afterOperator = afterBlock
+addBlock afterColon = afterBlock
+addBlock afterOther = afterBlock
+addBlock afterReturn = afterBlock
+addBlock afterIf = afterBlock
+addBlock afterIfParens = afterBlock
+addBlock afterBlock = afterBlock
+addBlock (afterFunction inObject) = afterBlock
+addBlock (afterFunctionName inObject) = afterBlock
+addBlock (afterFunctionParens inObject) = functionBlock inObject
+
+-- after a tree of a class, before which a line end lies or not
+abbrev pub add : Bool → Summary → Class → Bool → Summary
+add expression s name line = addName s
+add expression s literal line = operand
+add expression s operator line = afterOperator
+add expression s colon line = afterColon
+add expression s other line = afterOther
+add expression s returnWord line = afterReturn
+add expression s functionWord line = afterFunction (braceBy expression s line)
+add expression s ifWord line = afterIf
+add expression s parens line = addParens s
+add expression s object line = operand
+add expression s block line = addBlock s
+
+unfoldable pub summary : Bool → List Before → Summary
+summary expression [] = nothing
+summary expression (tree class line ∷ before) = add expression (summary expression before) class line
+
+-- the number that the code keeps for a summary
+abbrev pub code : Summary → ℕ
+code operand = 0
+code (afterFunctionName inObject) = cond inObject 2 1
+code (afterFunctionParens inObject) = cond inObject 4 3
+code (afterFunction inObject) = cond inObject 6 5
+code nothing = 7
+code afterOperator = 8
+code afterColon = 9
+code afterOther = 10
+code afterReturn = 11
+code afterIf = 12
+code afterIfParens = 13
+code afterBlock = 14
+
+-- and for a level: the kind of its group, and its summary
+abbrev pub wordFor : ℕ → Summary → ℕ
+wordFor kind s = 16 * kind + code s
+
+-- the word of the innermost level
+unfoldable pub wordOf : Levels → ℕ
+wordOf levels = wordFor (kindOf levels) (summary (isExpression (kindOf levels)) (backwards (treesOf levels)))
