@@ -3,3 +3,4 @@ pub mod SummaryLaws
 pub mod WordLaws
 pub mod StateLaws
 pub mod StepLaws
+pub mod ReadingLaws

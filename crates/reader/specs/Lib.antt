@@ -1,0 +1,3 @@
+pub mod Records
+pub mod Read
+pub mod Table

@@ -1,0 +1,170 @@
+// Reading: a text to tree records.
+ghost use mathlib.Core.Path.{_≡_};
+ghost use mathlib.Core.List.{List, _++_};
+ghost use Prim.Native.Nat.{ℕ, _+_, _*_, _≤_};
+ghost use lib.ListN.{length, take, drop, set};
+ghost use Rattle.prefix.specs.Levels.{Levels};
+ghost use Rattle.prefix.specs.Reading.{step};
+ghost use Rattle.reader.specs.Records.{treeWidth, treeRecord};
+ghost use Rattle.reader.specs.Read.{mostBytes, mostGroups, readingFor, answerOf, tableAfter};
+ghost use Rattle.reader.specs.Table.{Holds, Some, Turned, Filled};
+
+mod records;
+
+use elements::Answer;
+use elements::Element;
+use elements::Next;
+use prefix::Advanced;
+use prefix::State;
+use records::TreeRecord;
+
+// The number of the table's first row, and the bytes that a text has at most.
+pub const LONG: u32 = 1;
+
+pub const MOST_BYTES: usize = 262144;
+
+// Writes the record of an index.
+fn put(trees: &mut [u32], index: usize, tree: TreeRecord)
+    requires { ⌜ treeWidth * index + treeWidth ≤ length (now trees) ⌝ }
+    ensures { λ r. ⌜ now (trees .exit) ≡ take (treeWidth * index) (now (trees .entry)) ++ (treeRecord (tree .kind) (tree .first) (tree .end) (tree .number) (tree .line) ++ drop (treeWidth * index + treeWidth) (now (trees .entry))) ⌝ }
+{
+    let at = TreeRecord::WIDTH * index;
+    trees[at] = tree.kind;
+    trees[at + 1] = tree.first;
+    trees[at + 2] = tree.end;
+    trees[at + 3] = tree.number;
+    trees[at + 4] = records::line_mark(tree.line);
+}
+
+// Writes the end and the number of the group whose record has an index.
+fn finish(trees: &mut [u32], index: usize, end: u32, number: u32)
+    requires { ⌜ treeWidth * index + treeWidth ≤ length (now trees) ⌝ }
+    ensures { λ r. ⌜ now (trees .exit) ≡ set (set (now (trees .entry)) (treeWidth * index + 2) end) (treeWidth * index + 3) number ⌝ }
+{
+    let at = TreeRecord::WIDTH * index;
+    trees[at + 2] = end;
+    trees[at + 3] = number;
+}
+
+// What storing an element's record makes of the state: another, or a refusal.
+enum Stored {
+    More(State),
+    Stop(u32, usize),
+}
+
+// Advances the state by an element, and writes what that makes of the records.
+fn store(trees: &mut [u32], stack: &mut [u32], room: usize, state: State, e: Element) -> Stored
+    requires { ⌜ (e .end ≤ mostBytes) × (e .first ≤ e .end) × Some (now trees) (now stack) room state ⌝ }
+    ensures { λ r. ⌜ ((before : List ℕ) (levels : Levels) → Holds before (now (trees .entry)) (now (stack .entry)) room state levels → Turned before (now (trees .exit)) (now (stack .exit)) room r (step (record { groups = mostGroups; room = room }) levels e)) ⌝ }
+{
+    let index = state.number;
+    let first = e.first as u32;
+    let end = e.end as u32;
+    let line = e.line;
+    let advanced = prefix::advance(stack, state, room, index as u32, e);
+    match advanced {
+        Advanced::Leaf(next) => {
+            let kind = e.kind;
+            put(
+                trees,
+                index,
+                TreeRecord {
+                    kind,
+                    first,
+                    end,
+                    number: 1,
+                    line,
+                },
+            );
+            Stored::More(next)
+        }
+        Advanced::Opened(kind, next) => {
+            put(
+                trees,
+                index,
+                TreeRecord {
+                    kind,
+                    first,
+                    end: 0,
+                    number: 0,
+                    line,
+                },
+            );
+            Stored::More(next)
+        }
+        Advanced::Closed(opener, next) => {
+            let group = opener as usize;
+            finish(trees, group, end, (index - group) as u32);
+            Stored::More(next)
+        }
+        Advanced::Stopped(number, place) => Stored::Stop(number, place),
+    }
+}
+
+// The answer where no element is left: the innermost opener's record has its place.
+fn ending(trees: &[u32], stack: &[u32], state: State) -> Answer
+    requires { ⌜ ((room : ℕ) × Some (now trees) (now stack) room state) ⌝ }
+    ensures { λ r. ⌜ ((before : List ℕ) (room : ℕ) (levels : Levels) → Holds before (now (trees .entry)) (now (stack .entry)) room state levels → r ≡ answerOf (Rattle.prefix.specs.Reading.ending levels)) ⌝ }
+{
+    let depth = state.depth;
+    if depth == 0 {
+        return Answer::Accepted(state.number);
+    }
+    let index = stack[2 * (depth - 1) + 1] as usize;
+    let first = trees[TreeRecord::WIDTH * index + 1] as usize;
+    Answer::Refused(prefix::UNCLOSED, first)
+}
+
+// The reading, with what was written left in the table where it is refused.
+fn fill(text: &[u8], trees: &mut [u32], stack: &mut [u32]) -> Answer
+    requires { ⌜ (length (now text) ≤ mostBytes) × (length (now stack) ≡ 200) ⌝ }
+    ensures { λ r. ⌜ (r ≡ answerOf (readingFor (now (text .entry)) (length (now (trees .entry))))) × Filled (readingFor (now (text .entry)) (length (now (trees .entry)))) (now (trees .entry)) (now (trees .exit)) ⌝ }
+{
+    let room = records::room_for(trees.len());
+    let mut state = prefix::start();
+    let mut place = 0usize;
+    loop {
+        let pattern = prefix::slash_opens(state);
+        let next = elements::element_at(text, place, pattern);
+        match next {
+            Next::End => {
+                return ending(trees, stack, state);
+            }
+            Next::Fault(number, at) => {
+                return Answer::Refused(number, at);
+            }
+            Next::Found(e) => {
+                let stored = store(trees, stack, room, state, e);
+                match stored {
+                    Stored::More(after) => {
+                        state = after;
+                        place = e.end;
+                    }
+                    Stored::Stop(number, at) => {
+                        return Answer::Refused(number, at);
+                    }
+                }
+            }
+        }
+    }
+}
+
+// Reads a text: the count of its tree records, which the table then starts with; or the number and place of its first fault,
+// with every cell of the table 0.
+pub fn read(text: &[u8], trees: &mut [u32]) -> Answer
+    ensures { λ r. ⌜ (r ≡ answerOf (readingFor (now (text .entry)) (length (now (trees .entry))))) × (now (trees .exit) ≡ tableAfter (readingFor (now (text .entry)) (length (now (trees .entry)))) (now (trees .entry))) ⌝ }
+{
+    if MOST_BYTES < text.len() {
+        records::clear(trees);
+        return Answer::Refused(LONG, MOST_BYTES);
+    }
+    let mut stack = [0u32; 200];
+    let answer = fill(text, trees, &mut stack);
+    match answer {
+        Answer::Accepted(count) => Answer::Accepted(count),
+        Answer::Refused(number, place) => {
+            records::clear(trees);
+            Answer::Refused(number, place)
+        }
+    }
+}

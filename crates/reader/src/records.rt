@@ -1,0 +1,52 @@
+// Tree records, and the table that they are written to.
+ghost use mathlib.Core.Path.{_≡_};
+ghost use mathlib.Core.Bool.{cond};
+ghost use lib.ListN.{length, replicate};
+ghost use Rattle.reader.specs.Read.{roomFor};
+
+// A tree record: its kind, its first byte, the byte after its last, the records in it with itself, and whether a line end
+// lies before it.
+pub struct TreeRecord {
+    pub kind: u32,
+    pub first: u32,
+    pub end: u32,
+    pub number: u32,
+    pub line: bool,
+}
+
+impl TreeRecord {
+    // How many numbers a record has, and how many records a table holds at most.
+    pub const WIDTH: usize = 5;
+
+    pub const MOST: usize = 16384;
+}
+
+// The fifth number of a record.
+pub fn line_mark(line: bool) -> u32
+    ensures { λ r. ⌜ r ≡ cond line 1 0 ⌝ }
+{
+    if line { 1 } else { 0 }
+}
+
+// The records that a table of so many numbers has room for.
+pub fn room_for(cells: usize) -> usize
+    ensures { λ r. ⌜ r ≡ roomFor cells ⌝ }
+{
+    let room = cells / TreeRecord::WIDTH;
+    if room <= TreeRecord::MOST {
+        room
+    } else {
+        TreeRecord::MOST
+    }
+}
+
+// Every cell of a table becomes 0.
+pub fn clear(table: &mut [u32])
+    ensures { λ r. ⌜ now (table .exit) ≡ replicate (length (now (table .entry))) 0 ⌝ }
+{
+    let mut i = 0;
+    while i < table.len() {
+        table[i] = 0;
+        i += 1;
+    }
+}
