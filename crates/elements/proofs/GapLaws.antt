@@ -1,12 +1,12 @@
 -- Laws of gaps and comments at a place of the text: one for each way that a byte is taken.
 use mathlib.Core.Path.{_≡_, refl, sym, ap, _∙_}
 use mathlib.Core.List.{List, [], _∷_}
-use mathlib.Core.Bool.{Bool, true, false, _&&_, _||_, and-false}
+use mathlib.Core.Bool.{Bool, true, false, _&&_, _||_}
 use Prim.Native.Nat.{ℕ, _+_, _-_, _<_, _≤_}
 use native.Mathlib.Omega.{arith}
-use borrow.Author.Tests.{eq-eqb, ne-eqb, eqb-true, lt-ltb, le-ltb}
+use borrow.Author.Tests.{eq-eqb, ne-eqb, eqb-true, ltb-true, ltb-false}
 use lib.Dec.{eqb, ltb}
-use lib.ListN.{length, getD, drop, drop-of-length-le}
+use lib.ListN.{length, getD, drop, drop-of-length-le, List·getD-eq-default}
 use Rattle.text.specs.Quoted.{byte}
 use Rattle.text.specs.Bytes.{blank, lineEnd, illegal}
 use Rattle.text.specs.Inside.{insideOf}
@@ -103,70 +103,65 @@ module _ (s : List ℕ) (i : ℕ) (line : Bool) where
         let f = inside-passed (getD s i 0) l g in
         rw (drop-at s i h) (rw (f .0, f .1, inLine))
 
--- a `*` of the comment stands before i: its text starts at `start`
-unfoldable pub starBefore : List ℕ → ℕ → ℕ → Bool
-starBefore s start i = ltb start i && eqb (getD s (i - 1) 0) (byte "*")
-
-pub star-first : (s : List ℕ) (start : ℕ) → starBefore s start start ≡ false
-unfolding starBefore
-star-first s start = rw (le-ltb start start (omega arith))
-
-star-next : (s : List ℕ) (start i : ℕ) → start ≤ i → starBefore s start (i + 1) ≡ eqb (getD s i 0) (byte "*")
-unfolding starBefore
-star-next s start i h =
-    let e : i + 1 - 1 ≡ i = omega arith in
-    rw (lt-ltb start (i + 1) (omega arith), e)
-
--- in a `/*`
-module _ (slash : ℕ) (s : List ℕ) (start i : ℕ) (line : Bool) where
-  pub block-past : (star : Bool) → length s ≤ i → inBlock slash i line star (drop i s) ≡ Gap.Fault openComment slash
+-- In a `/*`. A `*` before the place matters only where a slash stands there, so that the loop needs no memory of it: it looks
+-- ahead at each `*`.
+module _ (slash : ℕ) (s : List ℕ) (i : ℕ) (line : Bool) where
+  pub block-past : length s ≤ i → inBlock slash i line false (drop i s) ≡ Gap.Fault openComment slash
   unfolding inBlock
-  block-past star h = rw (drop-of-length-le s h)
+  block-past h = rw (drop-of-length-le s h)
+
+  -- a star before the place is forgotten where no slash stands there
+  star-forgotten : (getD s i 0 ≡ byte "/" → ⊥) → inBlock slash i line true (drop i s) ≡ inBlock slash i line false (drop i s)
+  unfolding inBlock
+  star-forgotten n = go (ltb i (length s)) refl
+    where
+      go : (b : Bool) → ltb i (length s) ≡ b → inBlock slash i line true (drop i s) ≡ inBlock slash i line false (drop i s)
+      go true e = rw (drop-at s i (ltb-true i (length s) e), ne-eqb (getD s i 0) (byte "/") n)
+      go false e = rw (drop-of-length-le s (ltb-false i (length s) e))
 
   module _ (h : i < length s) where
-    pub block-stray : (star : Bool) → insideOf (getD s i 0) ≡ 2 → inBlock slash i line star (drop i s) ≡ Gap.Fault stray i
+    pub block-stray : insideOf (getD s i 0) ≡ 2 → inBlock slash i line false (drop i s) ≡ Gap.Fault stray i
     unfolding inBlock
-    block-stray star k =
+    block-stray k =
         let f = inside-illegal (getD s i 0) k in
         rw (drop-at s i h) (rw (f .0, f .1, inBlock))
 
-    module _ (b : start ≤ i) where
-      pub block-line-end : (star : Bool) → insideOf (getD s i 0) ≡ 1
-          → inBlock slash i line star (drop i s) ≡ inBlock slash (i + 1) true (starBefore s start (i + 1)) (drop (i + 1) s)
+    pub block-line-end : insideOf (getD s i 0) ≡ 1 → inBlock slash i line false (drop i s) ≡ inBlock slash (i + 1) true false (drop (i + 1) s)
+    unfolding inBlock
+    block-line-end k = rw (drop-at s i h) (rw (inside-line (getD s i 0) k, inBlock))
+
+    module _ (l : insideOf (getD s i 0) ≡ 1 → ⊥) (g : insideOf (getD s i 0) ≡ 2 → ⊥) where
+      passed : inBlock slash i line false (drop i s) ≡ inBlock slash (i + 1) line (eqb (getD s i 0) (byte "*")) (drop (i + 1) s)
       unfolding inBlock
-      block-line-end star k =
-          let e = inside-line (getD s i 0) k in
-          rw (star-next s start i b, not-star (getD s i 0) e) (rw (drop-at s i h) (rw (e, inBlock)))
+      passed =
+          let f = inside-passed (getD s i 0) l g in
+          rw (drop-at s i h) (rw (f .0, f .1, inBlock))
 
-      module _ (l : insideOf (getD s i 0) ≡ 1 → ⊥) (g : insideOf (getD s i 0) ≡ 2 → ⊥) where
-        more : (star : Bool) → (star && eqb (getD s i 0) (byte "/")) ≡ false
-            → inBlock slash i line star (drop i s) ≡ inBlock slash (i + 1) line (starBefore s start (i + 1)) (drop (i + 1) s)
-        unfolding inBlock
-        more star e =
-            let f = inside-passed (getD s i 0) l g in
-            rw (star-next s start i b) (rw (drop-at s i h) (rw (f .0, f .1, e, inBlock)))
+      pub block-more : (getD s i 0 ≡ byte "*" → ⊥) → inBlock slash i line false (drop i s) ≡ inBlock slash (i + 1) line false (drop (i + 1) s)
+      block-more n = rw (ne-eqb _ _ n) at passed
 
-        pub block-more : (star : Bool) → (getD s i 0 ≡ byte "/" → ⊥)
-            → inBlock slash i line star (drop i s) ≡ inBlock slash (i + 1) line (starBefore s start (i + 1)) (drop (i + 1) s)
-        block-more star n = more star (rw (ne-eqb _ _ n) (and-false star))
+      module _ (e : getD s i 0 ≡ byte "*") where
+        starred : inBlock slash i line false (drop i s) ≡ inBlock slash (i + 1) line true (drop (i + 1) s)
+        starred = rw (eq-eqb _ _ e) at passed
 
-        -- a slash that follows no `*` of the comment
-        pub block-first : start ≡ i
-            → inBlock slash i line (starBefore s start i) (drop i s) ≡ inBlock slash (i + 1) line (starBefore s start (i + 1)) (drop (i + 1) s)
-        unfolding starBefore
-        block-first e = more (starBefore s start i) (rw (le-ltb start i (omega arith)))
+-- a `*` at a place, and what follows it
+module _ (slash : ℕ) (s : List ℕ) (i : ℕ) (line : Bool) (h : i < length s) (l : insideOf (getD s i 0) ≡ 1 → ⊥) (g : insideOf (getD s i 0) ≡ 2 → ⊥) (e : getD s i 0 ≡ byte "*") where
+  pub block-star : (getD s (i + 1) 0 ≡ byte "/" → ⊥) → inBlock slash i line false (drop i s) ≡ inBlock slash (i + 1) line false (drop (i + 1) s)
+  block-star n = starred slash s i line h l g e ∙ star-forgotten slash s (i + 1) line n
 
-        pub block-slash : (getD s (i - 1) 0 ≡ byte "*" → ⊥)
-            → inBlock slash i line (starBefore s start i) (drop i s) ≡ inBlock slash (i + 1) line (starBefore s start (i + 1)) (drop (i + 1) s)
-        unfolding starBefore
-        block-slash n = more (starBefore s start i) (rw (ne-eqb _ _ n, and-false (ltb start i)))
+  pub block-star-last : i + 1 ≡ length s → inBlock slash i line false (drop i s) ≡ inBlock slash (i + 1) line false (drop (i + 1) s)
+  block-star-last last =
+      let z : getD s (i + 1) 0 ≡ 0 = List·getD-eq-default s 0 (omega arith) in
+      block-star (λ x. let clash : _≡_ {A = ℕ} 0 47 = sym z ∙ x in omega arith)
 
-        pub block-close : getD s i 0 ≡ byte "/" → start < i → getD s (i - 1) 0 ≡ byte "*"
-            → inBlock slash i line (starBefore s start i) (drop i s) ≡ gap (i + 1) line (drop (i + 1) s)
-        unfolding inBlock starBefore
-        block-close e m d =
-            let f = inside-passed (getD s i 0) l g in
-            rw (lt-ltb start i m, eq-eqb _ _ d) (rw (drop-at s i h) (rw (f .0, f .1, eq-eqb _ _ e, inBlock)))
+  pub block-close : i + 1 < length s → getD s (i + 1) 0 ≡ byte "/" → inBlock slash i line false (drop i s) ≡ gap (i + 2) line (drop (i + 2) s)
+  unfolding inBlock lineEnd illegal blank
+  block-close n d =
+      let next : i + 1 + 1 ≡ i + 2 = omega arith in
+      rw next at (starred slash s i line h l g e ∙ closed (i + 1) n d)
+    where
+      closed : (j : ℕ) → j < length s → getD s j 0 ≡ byte "/" → inBlock slash j line true (drop j s) ≡ gap (j + 1) line (drop (j + 1) s)
+      closed j m q = rw (drop-at s j m) (rw q)
 
 -- a comment that does not end before a place does not end before an earlier one
 pub not-before-less : (m n : ℕ) → m ≤ n → (r : Comment) → NotBefore n r → NotBefore m r

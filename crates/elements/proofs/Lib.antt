@@ -12,3 +12,4 @@ pub mod Separators
 pub mod Shifts
 pub mod Copies
 pub mod OwnBytes
+pub mod FoundKinds

@@ -54,14 +54,14 @@ abbrev pub literal : ℕ → Bool → ℕ → Literal → Next
 literal kind line first (Literal.Ends end) = element kind 0 line first end
 literal kind line first (Literal.Fault number place) = Next.Fault number place
 
--- "Names: letters, `$`, `_`, and digits after the first byte." A reserved word is taken here, or refused.
+-- a name; a reserved word that is taken here; or one that is refused
 abbrev pub wordOrName : ℕ → Bool → ℕ → ℕ → Next
 wordOrName word line first end =
     cond (eqb word 0) (element nameKind 0 line first end)
     (cond (taken word) (element wordKind word line first end)
     (Next.Fault barredWord first))
 
--- the name or word at `first`, where s is the text from there on
+-- "Names: letters, `$`, `_`, and digits after the first byte": the name or word at `first`, where s is the text from there on
 unfoldable pub named : Bool → ℕ → List ℕ → Next
 named line first s = wordOrName (wordNumber (take (run nameByte s) s)) line first (first + run nameByte s)
 
@@ -82,7 +82,9 @@ signOrStray line first Longest.None = Next.Fault stray first
 signOrStray line first (Longest.Sign number n legal) =
     cond legal (element (cond (delimiter number) delimiterKind signKind) number line first (first + n)) (Next.Fault barredSign first)
 
--- the element at `first`, where the list is the text from there on and no blank, line end or comment starts there
+-- The element at `first`, where the list is the text from there on and no blank, line end or comment starts there. "A slash
+-- that opens a regular expression is not a sign." "A `.` directly before a digit is refused too." An illegal byte starts no
+-- sign, so it is stray.
 unfoldable pub elementFrom : Bool → Bool → ℕ → List ℕ → Next
 elementFrom pattern line first [] = Next.End
 elementFrom pattern line first (b ∷ s) =
@@ -103,10 +105,11 @@ afterGap text pattern (Gap.Fault number place) = Next.Fault number place
 unfoldable pub elementAt : List ℕ → ℕ → Bool → Next
 elementAt text place pattern = afterGap text pattern (gap place false (drop place text))
 
--- "A slash is met where an element would start with it and no comment starts there."
+-- whether the element behind a gap would start with a slash
 abbrev pub slashAfter : List ℕ → Gap → Bool
 slashAfter text (Gap.Ends first line) = eqb (getD text first 0) (byte "/")
 slashAfter text (Gap.Fault number place) = false
 
+-- "A slash is met where an element would start with it and no comment starts there."
 unfoldable pub slashMet : List ℕ → ℕ → Bool
 slashMet text place = slashAfter text (gap place false (drop place text))

@@ -9,7 +9,8 @@ use Rattle.text.specs.Bytes.{blank, lineEnd, illegal}
 use Rattle.elements.specs.Faults.{stray, openComment}
 use Rattle.elements.specs.declared.gaps.Gap.{Gap}
 
--- In each, i is the offset of the list's head, and `line` says whether a line end was met so far.
+-- In each, i is the offset of the list's head, but for `afterSlash`, whose slash stands at i before it; `line` says whether a
+-- line end was met so far.
 unfoldable mutual
   -- outside a comment: where the gap ends and whether a line end lies in it, or the first fault of a comment
   pub gap : ℕ → Bool → List ℕ → Gap

@@ -8,6 +8,7 @@ use Rattle.text.specs.Bytes.{lineEnd, illegal}
 use Rattle.elements.specs.Faults.{stray, openString}
 use Rattle.elements.specs.declared.literals.Literal.{Literal}
 
+-- the byte of a backslash
 abbrev pub backslash : ℕ
 backslash = 0x5C
 

@@ -46,9 +46,8 @@ fn block_comment(text: &[u8], slash: usize) -> Comment
     requires { ⌜ slash + 1 < length (now text) ⌝ }
     ensures { λ r. ⌜ ((line : Bool) → inBlock slash (slash + 2) line false (drop (slash + 2) (now (text .entry))) ≡ resumed (now (text .entry)) slash line r) × NotBefore (slash + 2) r ⌝ }
 {
-    let start = slash + 2;
     let mut lined = false;
-    let mut i = start;
+    let mut i = slash + 2;
     while i < text.len() {
         let b = text[i];
         let k = text::inside(b);
@@ -60,19 +59,19 @@ fn block_comment(text: &[u8], slash: usize) -> Comment
         if k == 2 {
             return Comment::Fault(STRAY, i);
         }
-        if b != b'/' {
+        if b != b'*' {
             i += 1;
             continue;
         }
-        if i == start {
+        if i + 1 == text.len() {
             i += 1;
             continue;
         }
-        if text[i - 1] != b'*' {
+        if text[i + 1] != b'/' {
             i += 1;
             continue;
         }
-        return Comment::Ends(i + 1, lined);
+        return Comment::Ends(i + 2, lined);
     }
     Comment::Fault(OPEN_COMMENT, slash)
 }

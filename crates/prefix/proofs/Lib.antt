@@ -4,3 +4,6 @@ pub mod WordLaws
 pub mod StateLaws
 pub mod StepLaws
 pub mod ReadingLaws
+pub mod LimitLaws
+pub mod Induction
+pub mod StepCases

@@ -9,7 +9,7 @@ use Rattle.prefix.specs.Levels.{Levels, slashOpens}
 use Rattle.prefix.specs.Reading.{Limits, Step, stop, more, step, Reading, refused, ending, Turn, over, on, stepped, met, turn, readOn}
 
 module _ (bytes : List ℕ) (limits : Limits) (fuel : ℕ) (levels : Levels) (place : ℕ) where
-  taken : (t : Turn) → turn bytes limits levels place ≡ t
+  pub taken : (t : Turn) → turn bytes limits levels place ≡ t
       → readOn bytes limits (suc fuel) levels place ≡ elim t as (λ x. Reading) [ over reading ↦ reading | on after next ↦ readOn bytes limits fuel after next ]
   unfolding readOn
   taken t e = rw (e, readOn)

@@ -16,6 +16,7 @@ pub data Levels : Type 0 where
 abbrev pub isExpression : ℕ → Bool
 isExpression kind = eqb kind parenKind || eqb kind objectKind
 
+-- the kind of the innermost group that is open
 abbrev pub kindOf : Levels → ℕ
 kindOf (text trees) = 0
 kindOf (inside around kind first line trees) = kind
@@ -25,7 +26,8 @@ abbrev pub treesOf : Levels → Trees
 treesOf (text trees) = trees
 treesOf (inside around kind first line trees) = trees
 
--- what a slash, and what a brace before which a line end lies or not, is at the end of the innermost level
+-- whether a slash opens a regular expression at the end of the innermost level, and whether a brace opens an object there,
+-- where a line end lies before it or not
 abbrev pub slashOpens : Levels → Bool
 slashOpens levels = opensPattern (isExpression (kindOf levels)) (backwards (treesOf levels))
 

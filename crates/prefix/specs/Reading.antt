@@ -1,4 +1,5 @@
--- Reading: a text to trees, element by element, "and the first fault met answers".
+-- Document 01, Refused texts: "Elements are then taken left to right, .. and the first fault met answers; an element's own
+-- faults and 9 precede 12." A text to trees, element by element.
 use Prim.Native.Nat.{ℕ, zero, suc, _+_}
 use mathlib.Core.Bool.{Bool, cond, _||_}
 use mathlib.Core.List.{List}
@@ -11,25 +12,29 @@ use Rattle.prefix.specs.Trees.{Trees, none, leaf, group, parenKind, obje
 use Rattle.prefix.specs.Rule.{isSign}
 use Rattle.prefix.specs.Levels.{Levels, text, inside, kindOf, slashOpens, braceOpens, depth, number, onTop}
 
--- Document 01, Refused texts, rows 9 to 12
+-- Document 01, Refused texts, row 9, deep: "opener inside 100 open groups"; place: the opener
 abbrev pub deep : ℕ
 deep = 9
 
+-- row 10, closer: "nothing open, or the other shape"; place: the closer
 abbrev pub wrongCloser : ℕ
 wrongCloser = 10
 
+-- row 11, unclosed: "text ends in a group"; place: the innermost opener
 abbrev pub unclosed : ℕ
 unclosed = 11
 
+-- row 12, trees full: "an element needs a record and the table or 16,384 is used up"; place: the element
 abbrev pub treesFull : ℕ
 treesFull = 12
 
--- how many groups may be open, and how many records there is room for
+-- How many groups may be open, and how many records there is room for. A call sets them: reading, 100 and the room of the
+-- table that it is lent.
 pub record Limits : Type 0 where
   pub groups : ℕ
   pub room : ℕ
 
--- what an element makes of the levels: others, or a fault
+-- what an element makes of the levels: others, or a fault with its number and place
 pub data Step : Type 0 where
   stop : ℕ → ℕ → Step
   more : Levels → Step
@@ -88,6 +93,7 @@ abbrev pub stepped : ℕ → Step → Turn
 stepped end (stop number place) = over (refused number place)
 stepped end (more levels) = on levels end
 
+-- what stands at the place where an element is looked for
 abbrev pub met : Limits → Levels → Next → Turn
 met limits levels Next.End = over (ending levels)
 met limits levels (Next.Fault number place) = over (refused number place)

@@ -32,13 +32,14 @@ pub data Class : Type 0 where
   object : Class
   block : Class
 
--- the number of a word, or of a sign
+-- whether a number is that of the reserved word, or of the sign, that is spelled so
 abbrev pub isWord : String → ℕ → Bool
 isWord t which = eqb which (wordNumber (bytes t))
 
 abbrev pub isSign : String → ℕ → Bool
 isSign t which = eqb which (numberOfSign (longestSign (bytes t)))
 
+-- the class of the reserved word of a number
 abbrev pub wordClass : ℕ → Class
 wordClass which =
     cond (isWord "return" which) returnWord
@@ -46,12 +47,14 @@ wordClass which =
     (cond (isWord "if" which) ifWord
     other))
 
+-- the class of the sign of a number
 abbrev pub signClass : ℕ → Class
 signClass which =
     cond (isSign "/" which || isSign "+" which || isSign "=" which) operator
     (cond (isSign ":" which) colon
     other)
 
+-- the class of an element that is no delimiter: kinds 1, 2 and 6, and else a number, string or regular expression
 unfoldable pub elementClass : Element → Class
 elementClass e =
     cond (eqb (e .kind) nameKind) name
@@ -59,6 +62,7 @@ elementClass e =
     (cond (eqb (e .kind) signKind) (signClass (e .which))
     literal))
 
+-- the class of a group: kinds 7 and 8, and else a block, kind 9
 unfoldable pub groupClass : ℕ → Class
 groupClass kind = cond (eqb kind parenKind) parens (cond (eqb kind objectKind) object block)
 
@@ -73,7 +77,7 @@ backwards (leaf before e) = tree (elementClass e) (e .line) ∷ backwards before
 backwards (group before kind first end line within) = tree (groupClass kind) line ∷ backwards before
 
 -- "`{` opens an object when: .. last is `/`, `+` or `=`; last is `:` on an expression level; last is `return` and no line
--- end lies between. Otherwise it opens a block."
+-- end lies between. Otherwise it opens a block." `line` says whether a line end lies between last and the brace.
 abbrev pub objectAfter : Bool → Class → Bool → Bool
 objectAfter expression name line = false
 objectAfter expression literal line = false

@@ -21,7 +21,7 @@ pub data Trees : Type 0 where
   -- and its inside
   group : Trees → ℕ → ℕ → ℕ → Bool → Trees → Trees
 
--- the number of records of trees: one for each element and each group
+-- the number of records of trees: one for each group, and one for each element that is no opener or closer
 unfoldable pub count : Trees → ℕ
 count none = 0
 count (leaf before e) = count before + 1

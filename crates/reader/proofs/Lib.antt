@@ -1,3 +1,5 @@
 pub mod CellLaws
 pub mod StoreLaws
 pub mod ReadLaws
+pub mod Formed
+pub mod Theorems

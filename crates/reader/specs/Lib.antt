@@ -1,3 +1,4 @@
 pub mod Records
 pub mod Read
+pub mod Nested
 pub mod Table

@@ -16,10 +16,12 @@ pub data Spelled : Type 0 where
   legal : String → Spelled
   barred : String → Spelled
 
+-- its bytes
 abbrev pub spelling : Spelled → List ℕ
 spelling (legal t) = bytes t
 spelling (barred t) = bytes t
 
+-- "Legal here"
 abbrev pub isLegal : Spelled → Bool
 isLegal (legal t) = true
 isLegal (barred t) = false

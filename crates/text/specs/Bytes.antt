@@ -25,6 +25,7 @@ illegal b = not (blank b || lineEnd b || between 0x21 0x7E b)
 unfoldable pub letter : ℕ → Bool
 letter b = between (byte "a") (byte "z") b || between (byte "A") (byte "Z") b || eqb b (byte "$") || eqb b (byte "_")
 
+-- a digit of a number or name
 unfoldable pub digit : ℕ → Bool
 digit b = between (byte "0") (byte "9") b
 

@@ -1,5 +1,5 @@
--- How a byte counts inside a comment, a string or a pattern. Machinery: the definitions of these go by `lineEnd` and
--- `illegal` themselves.
+-- How a byte counts inside a comment, a string or a pattern: what `text::inside` promises to the scanners. The definitions of
+-- comments, strings and patterns go by `lineEnd` and `illegal` themselves.
 use Prim.Native.Nat.{ℕ}
 use mathlib.Core.Bool.{Bool, cond}
 use Rattle.text.specs.Bytes.{lineEnd, illegal}

@@ -71,14 +71,14 @@ pub fn is_name_byte(b: u8) -> bool
 }
 
 // How a byte counts inside a comment, a string or a pattern: 0 it is passed over, 1 it is a line end, 2 it is illegal.
-// The first test settles nearly all bytes.
+// The first test, one comparison, settles nearly all bytes: 20 to 7E.
 pub fn inside(b: u8) -> u8
     ensures { λ r. ⌜ r ≡ insideOf b ⌝ }
 {
+    if std::num::wrapping_sub_u8(b, 32) < 95 {
+        return 0;
+    }
     if 31 < b {
-        if b < 127 {
-            return 0;
-        }
         return 2;
     }
     if b < 9 {

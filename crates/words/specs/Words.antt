@@ -8,7 +8,8 @@ use lib.Dec.{eqb}
 use Rattle.text.specs.Quoted.{bytes}
 use Rattle.text.specs.Runs.{same}
 
--- the keywords (7.6.1.1), the future reserved words (7.6.1.2) and the null and Boolean literals, in that section's order
+-- the keywords (7.6.1.1), the future reserved words (7.6.1.2) and the null and Boolean literals, row by row as that section
+-- prints them
 abbrev pub words : List String
 words =
     "break" ∷ "do" ∷ "instanceof" ∷ "typeof" ∷

@@ -1,0 +1,63 @@
+-- An element that is found has one of the kinds 0 to 6.
+use mathlib.Core.Path.{_≡_}
+use mathlib.Core.List.{List, [], _∷_}
+use mathlib.Core.Bool.{Bool, false, cond, _&&_}
+use Prim.Native.Nat.{ℕ, _+_, _≤_}
+use native.Mathlib.Omega.{arith}
+use lib.Dec.{eqb}
+use lib.ListN.{getD, take, drop}
+use Rattle.text.specs.Quoted.{byte}
+use Rattle.text.specs.Bytes.{letter, digit, nameByte}
+use Rattle.text.specs.Runs.{run}
+use Rattle.words.specs.Words.{wordNumber, taken}
+use Rattle.signs.specs.Signs.{longestSign}
+use Rattle.signs.specs.declared.Longest.{Longest}
+use Rattle.elements.specs.Gaps.{gap}
+use Rattle.elements.specs.Numbers.{numberFrom}
+use Rattle.elements.specs.Strings.{quote, stringRest}
+use Rattle.elements.specs.Patterns.{patternRest}
+use Rattle.elements.specs.Elements.{literal, named, delimiter, signOrStray, elementFrom, afterGap, elementAt, delimiterKind, numberKind, stringKind, patternKind, signKind}
+use Rattle.elements.specs.declared.gaps.Gap.{Gap}
+use Rattle.elements.specs.declared.literals.Literal.{Literal}
+use Rattle.elements.specs.declared.Element.{Element}
+use Rattle.elements.specs.declared.Next.{Next}
+use Rattle.elements.proofs.Choices.{cond-both}
+
+abbrev KindIn : Next → Type 0
+KindIn Next.End = Unit {0}
+KindIn (Next.Found e) = e .kind ≤ 6
+KindIn (Next.Fault number at) = Unit {0}
+
+literal-kind : (kind : ℕ) → kind ≤ 6 → (line : Bool) (first : ℕ) (l : Literal) → KindIn (literal kind line first l)
+literal-kind kind h line first (Literal.Ends end) = h
+literal-kind kind h line first (Literal.Fault number place) = tt
+
+sign-kind : (line : Bool) (first : ℕ) (l : Longest) → KindIn (signOrStray line first l)
+sign-kind line first Longest.None = tt
+sign-kind line first (Longest.Sign number n legal) =
+    cond-both KindIn legal (cond-both (λ k. k ≤ 6) (delimiter number) (omega arith) (omega arith)) tt
+
+named-kind : (line : Bool) (first : ℕ) (s : List ℕ) → KindIn (named line first s)
+unfolding named
+named-kind line first s =
+    let word = wordNumber (take (run nameByte s) s) in
+    cond-both KindIn (eqb word 0) (omega arith) (cond-both KindIn (taken word) (omega arith) tt)
+
+from-kind : (pattern line : Bool) (first : ℕ) (s : List ℕ) → KindIn (elementFrom pattern line first s)
+unfolding elementFrom
+from-kind pattern line first [] = tt
+from-kind pattern line first (b ∷ s) =
+    cond-both KindIn (letter b) (named-kind line first (b ∷ s))
+    (cond-both KindIn (digit b) (literal-kind numberKind (omega arith) line first (numberFrom first (b ∷ s)))
+    (cond-both KindIn (quote b) (literal-kind stringKind (omega arith) line first (stringRest b first false (first + 1) s))
+    (cond-both KindIn (pattern && eqb b (byte "/")) (literal-kind patternKind (omega arith) line first (patternRest first false false (first + 1) s))
+    (cond-both KindIn (eqb b (byte ".") && digit (getD s 0 0)) tt
+    (sign-kind line first (longestSign (b ∷ s)))))))
+
+after-kind : (s : List ℕ) (pattern : Bool) (g : Gap) → KindIn (afterGap s pattern g)
+after-kind s pattern (Gap.Ends first line) = from-kind pattern line first (drop first s)
+after-kind s pattern (Gap.Fault number place) = tt
+
+pub found-kind : (s : List ℕ) (place : ℕ) (pattern : Bool) (e : Element) → elementAt s place pattern ≡ Next.Found e → e .kind ≤ 6
+unfolding elementAt
+found-kind s place pattern e f = rw f at (after-kind s pattern (gap place false (drop place s)))

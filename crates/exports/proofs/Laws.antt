@@ -1,0 +1,16 @@
+-- A count or a place fits the lower half of the number that an answer is packed into.
+use mathlib.Core.Path.{_≡_, refl}
+use mathlib.Core.List.{List}
+use Prim.Native.Nat.{ℕ, _<_, _^_}
+use native.Mathlib.Omega.{arith}
+use Rattle.elements.specs.Answers.{valueOf}
+use Rattle.prefix.specs.Reading.{Reading, accepted, refused}
+use Rattle.reader.specs.Read.{readingFor, answerOf}
+use Rattle.reader.proofs.Theorems.{refused-place, accepted-count}
+
+pub value-small : (text : List ℕ) (cells : ℕ) → valueOf (answerOf (readingFor text cells)) < 2 ^ 32
+value-small text cells = go (readingFor text cells) refl
+  where
+    go : (r : Reading) → readingFor text cells ≡ r → valueOf (answerOf r) < 2 ^ 32
+    go (accepted trees) e = omega (arith, accepted-count text cells trees e)
+    go (refused number place) e = omega (arith, refused-place text cells number place e)

@@ -1,0 +1,27 @@
+-- `reader::read`, with its answer packed.
+use borrow.Author.Needs.{needs}
+use mathlib.Core.Path.{_≡_, ap, _∙_}
+use lib.ListN.{length}
+use Rattle.elements.specs.Answers.{valueOf}
+use Rattle.exports.specs.Packed.{packed}
+use Rattle.exports.proofs.Laws.{value-small}
+use borrow.Author.Needs.{needs}
+use Rattle.exports.proofs.buldrekso_read.Statement.{statement}
+use Rattle.exports.proofs.buldrekso_read.Tie as tie
+
+read-requires : tie.Need-read-requires
+read-requires c κs = search needs
+
+pack-requires : tie.Need-pack-requires
+pack-requires c κs =
+    let a = c .before .before .before .before .before .before .args in
+    rw (c .before .before .read .ensures .0) (value-small (a .text .now) (length (a .trees .now)))
+
+same-length : tie.Need-same-length
+same-length c = search needs
+
+returns : tie.Need-returns
+returns c = (c .pack .ensures ∙ ap packed (c .before .before .before .read .ensures .0), c .before .before .before .read .ensures .1)
+
+pub buldrekso-read-spec : {M : Type 1} → statement M
+buldrekso-read-spec = tie.close (tie.spec read-requires pack-requires same-length returns)

@@ -1,0 +1,27 @@
+// The calls for programs in other languages. A slice is passed as a pointer and a length.
+ghost use mathlib.Core.Path.{_≡_};
+ghost use Prim.Native.Nat.{_<_, _^_};
+ghost use lib.ListN.{length};
+ghost use Rattle.elements.specs.Answers.{valueOf};
+ghost use Rattle.reader.specs.Read.{readingFor, answerOf, tableAfter};
+ghost use Rattle.exports.specs.Packed.{packed};
+use elements::Answer;
+
+// An answer as one number.
+fn pack(answer: Answer) -> u64
+    requires { ⌜ valueOf answer < 2 ^ 32 ⌝ }
+    ensures { λ r. ⌜ r ≡ packed answer ⌝ }
+{
+    match answer {
+        Answer::Accepted(count) => count as u64,
+        Answer::Refused(number, place) => (number as u64) * 4294967296 + place as u64,
+    }
+}
+
+// reader::read.
+#[no_mangle]
+pub extern "C" fn buldrekso_read(text: &[u8], trees: &mut [u32]) -> u64
+    ensures { λ r. ⌜ (r ≡ packed (answerOf (readingFor (now (text .entry)) (length (now (trees .entry)))))) × (now (trees .exit) ≡ tableAfter (readingFor (now (text .entry)) (length (now (trees .entry)))) (now (trees .entry))) ⌝ }
+{
+    pack(reader::read(text, trees))
+}

@@ -1,0 +1,42 @@
+-- What holds before the first element, and is kept by each step, tells of the whole reading.
+use mathlib.Core.Path.{_≡_, refl, sym, ap, _∙_}
+use mathlib.Core.List.{List}
+use Prim.Native.Nat.{ℕ, zero, suc}
+use lib.ListN.{length}
+use Rattle.elements.specs.Elements.{elementAt}
+use Rattle.elements.specs.declared.Element.{Element}
+use Rattle.elements.specs.declared.Next.{Next}
+use Rattle.prefix.specs.Trees.{none}
+use Rattle.prefix.specs.Levels.{Levels, text, slashOpens}
+use Rattle.prefix.specs.Reading.{Limits, Step, stop, more, step, Reading, refused, ending, readOn, reading}
+use Rattle.prefix.proofs.ReadingLaws.{read-end, read-fault, read-stop, read-more}
+
+module _ (bytes : List ℕ) (limits : Limits) (P : Levels → ℕ → Type 0) (Q : Reading → Type 0)
+    (ends : (levels : Levels) (place : ℕ) → P levels place → Q (ending levels))
+    (faults : (levels : Levels) (place number at : ℕ) → P levels place → elementAt bytes place (slashOpens levels) ≡ Next.Fault number at → Q (refused number at))
+    (stops : (levels : Levels) (place : ℕ) (e : Element) (number at : ℕ) → P levels place → elementAt bytes place (slashOpens levels) ≡ Next.Found e
+    → step limits levels e ≡ stop number at → Q (refused number at))
+    (goes-on : (levels : Levels) (place : ℕ) (e : Element) (after : Levels) → P levels place → elementAt bytes place (slashOpens levels) ≡ Next.Found e
+    → step limits levels e ≡ more after → P after (e .end))
+  where
+    pub read-on-tells : (fuel : ℕ) (levels : Levels) (place : ℕ) → P levels place → Q (readOn bytes limits fuel levels place)
+    unfolding readOn
+    read-on-tells zero levels place p = ends levels place p
+    read-on-tells (suc fuel) levels place p = found (elementAt bytes place (slashOpens levels)) refl (λ after next. read-on-tells fuel after next)
+      where
+        stepped : (e : Element) (y : Step) → elementAt bytes place (slashOpens levels) ≡ Next.Found e → step limits levels e ≡ y
+            → ((after : Levels) (next : ℕ) → P after next → Q (readOn bytes limits fuel after next))
+            → Q (readOn bytes limits (suc fuel) levels place)
+        stepped e (stop n q) f s rest = rw (read-stop bytes limits fuel levels place e f n q s) (stops levels place e n q p f s)
+        stepped e (more after) f s rest = rw (read-more bytes limits fuel levels place e f after s) (rest after (e .end) (goes-on levels place e after p f s))
+
+        found : (next : Next) → elementAt bytes place (slashOpens levels) ≡ next
+            → ((after : Levels) (q : ℕ) → P after q → Q (readOn bytes limits fuel after q))
+            → Q (readOn bytes limits (suc fuel) levels place)
+        found Next.End f rest = rw (read-end bytes limits fuel levels place f) (ends levels place p)
+        found (Next.Fault n q) f rest = rw (read-fault bytes limits fuel levels place n q f) (faults levels place n q p f)
+        found (Next.Found e) f rest = stepped e (step limits levels e) f refl rest
+
+    pub reading-tells : P (text none) 0 → Q (reading bytes limits)
+    unfolding reading
+    reading-tells p = read-on-tells (suc (length bytes)) (text none) 0 p

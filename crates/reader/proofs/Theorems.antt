@@ -1,0 +1,59 @@
+-- The theorems of reading.
+use mathlib.Core.Path.{_≡_, refl, sym, _∙_}
+use mathlib.Core.List.{List}
+use mathlib.Core.Bool.{Bool, true, false, cond}
+use Prim.Native.Nat.{ℕ, _*_, _≤_}
+use native.Mathlib.Omega.{arith}
+use borrow.Author.Tests.{leb-true}
+use lib.Dec.{leb}
+use lib.ListN.{length}
+use Rattle.prefix.specs.Trees.{Trees, count}
+use Rattle.prefix.specs.Reading.{Limits, Reading, accepted, refused, reading}
+use Rattle.prefix.proofs.LimitLaws.{Within, reading-within}
+use Rattle.reader.specs.Records.{treeWidth, records}
+use Rattle.reader.specs.Read.{longText, mostBytes, roomFor, readLimits, readingFor}
+use Rattle.reader.specs.Nested.{Nested}
+use Rattle.reader.proofs.CellLaws.{records-length}
+use Rattle.reader.proofs.Formed.{reading-formed, records-nested, reading-within-text, reading-count}
+
+-- Limits: more room, or more groups, changes no accepted reading.
+pub larger-limits : (text : List ℕ) (small large : Limits) → Within small large → (trees : Trees) → reading text small ≡ accepted trees → reading text large ≡ accepted trees
+larger-limits text small large w trees e = reading-within text small large w trees e
+
+-- The count is the number of records of the trees.
+pub count-of-records : (trees : Trees) → length (records trees) ≡ treeWidth * count trees
+count-of-records = records-length
+
+-- The records of the trees of a reading are well nested.
+pub reading-nested : (text : List ℕ) (limits : Limits) (trees : Trees) → reading text limits ≡ accepted trees → Nested (records trees)
+reading-nested text limits trees e = records-nested trees (rw e at (reading-formed text limits))
+
+-- A text that is read has at most 262,144 bytes, and its reading is one of `reading`.
+for-accepted : (text : List ℕ) (cells : ℕ) (trees : Trees) → readingFor text cells ≡ accepted trees → reading text (readLimits cells) ≡ accepted trees
+unfolding readingFor
+for-accepted text cells trees = go (leb (length text) mostBytes)
+  where
+    go : (b : Bool) → cond b (reading text (readLimits cells)) (refused longText mostBytes) ≡ accepted trees → reading text (readLimits cells) ≡ accepted trees
+    go true e = e
+    go false e = absurd (let z : _≡_ {A = ℕ} 0 1 = cc in omega arith)
+
+-- So are the records that `read` leaves in its table.
+pub read-nested : (text : List ℕ) (cells : ℕ) (trees : Trees) → readingFor text cells ≡ accepted trees → Nested (records trees)
+read-nested text cells trees e = reading-nested text (readLimits cells) trees (for-accepted text cells trees e)
+
+-- The place of a refusal is at most 262,144.
+pub refused-place : (text : List ℕ) (cells number place : ℕ) → readingFor text cells ≡ refused number place → place ≤ mostBytes
+unfolding readingFor
+refused-place text cells number place = go (leb (length text) mostBytes) refl
+  where
+    go : (b : Bool) → leb (length text) mostBytes ≡ b → cond b (reading text (readLimits cells)) (refused longText mostBytes) ≡ refused number place → place ≤ mostBytes
+    go true short e =
+        let w : place ≤ length text = rw e at (reading-within-text text (readLimits cells)) in
+        omega (arith, leb-true (length text) mostBytes short)
+    go false short e =
+        let q : mostBytes ≡ place = cc in
+        omega arith
+
+-- The count of an accepted reading is at most 16,384, and what the table has room for.
+pub accepted-count : (text : List ℕ) (cells : ℕ) (trees : Trees) → readingFor text cells ≡ accepted trees → count trees ≤ roomFor cells
+accepted-count text cells trees e = rw (for-accepted text cells trees e) at (reading-count text (readLimits cells))
