@@ -64,32 +64,13 @@ fn store(trees: &mut [u32], stack: &mut [u32], room: usize, state: State, e: Ele
     let advanced = prefix::advance(stack, state, room, index as u32, e);
     match advanced {
         Advanced::Leaf(next) => {
-            let kind = e.kind;
-            put(
-                trees,
-                index,
-                TreeRecord {
-                    kind,
-                    first,
-                    end,
-                    number: 1,
-                    line,
-                },
-            );
+            let record = TreeRecord::new(e.kind, first, end, 1, line);
+            put(trees, index, record);
             Stored::More(next)
         }
         Advanced::Opened(kind, next) => {
-            put(
-                trees,
-                index,
-                TreeRecord {
-                    kind,
-                    first,
-                    end: 0,
-                    number: 0,
-                    line,
-                },
-            );
+            let record = TreeRecord::new(kind, first, 0, 0, line);
+            put(trees, index, record);
             Stored::More(next)
         }
         Advanced::Closed(opener, next) => {

@@ -19,6 +19,18 @@ impl TreeRecord {
     pub const WIDTH: usize = 5;
 
     pub const MOST: usize = 16384;
+
+    pub fn new(kind: u32, first: u32, end: u32, number: u32, line: bool) -> TreeRecord
+        ensures { λ r. ⌜ r ≡ record { kind = kind; first = first; end = end; number = number; line = line } ⌝ }
+    {
+        TreeRecord {
+            kind,
+            first,
+            end,
+            number,
+            line,
+        }
+    }
 }
 
 // The fifth number of a record.

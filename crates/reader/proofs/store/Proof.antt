@@ -23,21 +23,27 @@ advance-requires c κs = search needs
 enum-known-advanced : tie.Need-enum-known-advanced
 enum-known-advanced c = search needs
 
+new-requires : tie.Need-new-requires
+new-requires c κs = search needs
+
 put-requires : tie.Need-put-requires
 put-requires c κs =
-    let pre = c .before .before .before .before .before .before .before .before .before .before .before .before .pre in
+    let pre = c .before .before .before .before .before .before .before .before .before .before .before .before .before .pre in
     let h = pre .2 .holds in
-    let f = rw (c .before .before .advanced .given .1) at (c .before .before .before .before .before .before .advance .ensures recordIndex (pre .2 .levels) (h .held) (h .held .number-is)) in
+    let f = rw (c .before .before .before .advanced .given .1) at (c .before .before .before .before .before .before .before .advance .ensures recordIndex (pre .2 .levels) (h .held) (h .held .number-is)) in
     omega (arith, leaf-room f, h .room-fits, h .length-is, h .held .number-is)
 
 enum-known-advanced-2 : tie.Need-enum-known-advanced-2
 enum-known-advanced-2 c = search needs
 
+new-requires-2 : tie.Need-new-requires-2
+new-requires-2 c κs = search needs
+
 put-requires-2 : tie.Need-put-requires-2
 put-requires-2 c κs =
-    let pre = c .before .before .before .before .before .before .before .before .before .before .before .before .pre in
+    let pre = c .before .before .before .before .before .before .before .before .before .before .before .before .before .pre in
     let h = pre .2 .holds in
-    let f = rw (c .before .before .advanced2 .given .1) at (c .before .before .before .before .before .before .advance .ensures recordIndex (pre .2 .levels) (h .held) (h .held .number-is)) in
+    let f = rw (c .before .before .before .advanced2 .given .1) at (c .before .before .before .before .before .before .before .advance .ensures recordIndex (pre .2 .levels) (h .held) (h .held .number-is)) in
     omega (arith, open-room f, h .room-fits, h .length-is, h .held .number-is)
 
 enum-known-advanced-3 : tie.Need-enum-known-advanced-3
@@ -75,8 +81,8 @@ same-length-2 c = search needs
 returns : tie.Need-returns
 returns c =
     λ before levels h.
-    let f = rw (h .stack-is, c .before .before .before .before .before .advanced .given .1) at (c .before .before .before .before .before .before .before .before .before .advance .ensures recordIndex levels (h .held) (h .held .number-is)) in
-    rw (c .before .before .put .ensures) (store-leaf before _ _ _ _ levels h _ (search needs) _ f)
+    let f = rw (h .stack-is, c .before .before .before .before .before .before .advanced .given .1) at (c .before .before .before .before .before .before .before .before .before .before .advance .ensures recordIndex levels (h .held) (h .held .number-is)) in
+    rw (c .before .before .put .ensures, c .before .before .before .before .new .ensures) (store-leaf before _ _ _ _ levels h _ (search needs) _ f)
 
 same-length-3 : tie.Need-same-length-3
 same-length-3 c = search needs
@@ -87,8 +93,8 @@ same-length-4 c = search needs
 returns-2 : tie.Need-returns-2
 returns-2 c =
     λ before levels h.
-    let f = rw (h .stack-is, c .before .before .before .before .before .advanced2 .given .1) at (c .before .before .before .before .before .before .before .before .before .advance .ensures recordIndex levels (h .held) (h .held .number-is)) in
-    rw (c .before .before .put2 .ensures) (store-open before _ _ _ _ levels h _ (search needs) _ f)
+    let f = rw (h .stack-is, c .before .before .before .before .before .before .advanced2 .given .1) at (c .before .before .before .before .before .before .before .before .before .before .advance .ensures recordIndex levels (h .held) (h .held .number-is)) in
+    rw (c .before .before .put2 .ensures, c .before .before .before .before .new2 .ensures) (store-open before _ _ _ _ levels h _ (search needs) _ f)
 
 same-length-5 : tie.Need-same-length-5
 same-length-5 c = search needs
@@ -120,8 +126,10 @@ store-spec =
     cast-advance
     advance-requires
     enum-known-advanced
+    new-requires
     put-requires
     enum-known-advanced-2
+    new-requires-2
     put-requires-2
     enum-known-advanced-3
     cast-group
