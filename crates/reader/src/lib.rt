@@ -9,7 +9,7 @@ ghost use Rattle.reader.specs.Records.{treeWidth, treeRecord};
 ghost use Rattle.reader.specs.Read.{mostBytes, mostGroups, readingFor, answerOf, tableAfter};
 ghost use Rattle.reader.specs.Table.{Holds, Some, Turned, Filled};
 
-mod records;
+pub mod records;
 
 use elements::Answer;
 use elements::Element;

@@ -1,0 +1,3 @@
+pub mod WritingLaws
+pub mod ListingLaws
+pub mod Examples

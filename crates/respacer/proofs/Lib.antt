@@ -1,0 +1,3 @@
+pub mod OverLaws
+pub mod WriteLaws
+pub mod LoopLaws

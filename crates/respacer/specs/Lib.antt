@@ -1,0 +1,3 @@
+pub mod Respaced
+pub mod Respace
+pub mod Written

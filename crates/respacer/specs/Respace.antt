@@ -1,0 +1,48 @@
+-- What `respace` answers, and what it leaves in the lent output.
+use Prim.Native.Nat.{ℕ}
+use mathlib.Core.Bool.{cond}
+use mathlib.Core.List.{List, _++_}
+use lib.Dec.{leb}
+use lib.ListN.{length, drop, replicate}
+use Rattle.elements.specs.declared.Answer.{Answer}
+use Rattle.prefix.specs.Reading.{Limits, Reading, accepted, refused, reading}
+use Rattle.reader.specs.Records.{mostTrees}
+use Rattle.reader.specs.Read.{longText, mostBytes, mostGroups}
+use Rattle.respacer.specs.Respaced.{respaced}
+
+-- Document 01, Refused texts, row 15, output full: "respacing; more bytes than fit"; place: text length
+abbrev pub outputFull : ℕ
+outputFull = 15
+
+-- "Respacing keeps no tree table: 12 there means over 16,384."
+abbrev pub respaceLimits : Limits
+respaceLimits = record { groups = mostGroups; room = mostTrees }
+
+-- the reading that respacing rests on; "Length comes first"
+unfoldable pub wholeReading : List ℕ → Reading
+wholeReading text = cond (leb (length text) mostBytes) (reading text respaceLimits) (refused longText mostBytes)
+
+-- the bytes that are written, or a refusal's number and place
+pub data Respacing : Type 0 where
+  written : List ℕ → Respacing
+  denied : ℕ → ℕ → Respacing
+
+-- what is read is written if it fits; "13 to 15 follow a full reading"
+abbrev pub fitted : List ℕ → ℕ → Reading → Respacing
+fitted text room (accepted trees) =
+    cond (leb (length (respaced text trees)) room) (written (respaced text trees)) (denied outputFull (length text))
+fitted text room (refused number place) = denied number place
+
+-- the respacing of a text with an output of so many bytes
+abbrev pub respacingFor : List ℕ → ℕ → Respacing
+respacingFor text room = fitted text room (wholeReading text)
+
+-- "The count is of .. bytes written."
+abbrev pub answerOf : Respacing → Answer
+answerOf (written bytes) = Answer.Accepted (length bytes)
+answerOf (denied number place) = Answer.Refused number place
+
+-- bytes past the last written are unchanged; "A refusal zeroes every cell of each lent table and output."
+abbrev pub outputAfter : Respacing → List ℕ → List ℕ
+outputAfter (written bytes) output = bytes ++ drop (length bytes) output
+outputAfter (denied number place) output = replicate (length output) 0

@@ -1,0 +1,203 @@
+// Respacing: a text to the same elements with one blank or line end between them.
+ghost use mathlib.Core.Path.{_≡_};
+ghost use mathlib.Core.List.{List, [], _∷_, _++_};
+ghost use Prim.Native.Nat.{ℕ, _+_, _*_, _<_, _≤_, _^_};
+ghost use lib.ListN.{length, replicate};
+ghost use Rattle.respacer.specs.Respaced.{lineFeed, space, bytesOf, addElement, addCloser};
+ghost use Rattle.respacer.specs.Respace.{respacingFor, answerOf, outputAfter};
+ghost use Rattle.prefix.specs.Levels.{Levels};
+ghost use Rattle.prefix.specs.Reading.{step};
+ghost use Rattle.reader.specs.Read.{mostBytes};
+ghost use Rattle.respacer.specs.Respace.{respaceLimits, wholeReading};
+ghost use Rattle.respacer.specs.Written.{over, Writes, Turned, Told};
+use elements::Answer;
+use elements::Element;
+use elements::Next;
+use prefix::Advanced;
+use prefix::State;
+use reader::records::TreeRecord;
+
+// The number of the table's row for an output that is too short.
+pub const OUTPUT_FULL: u32 = 15;
+
+// Writes a byte behind what is written so far, if it fits; the next place is counted in any case.
+fn put_byte(output: &mut [u8], at: usize, b: u8) -> usize
+    requires { ⌜ at < 2 ^ 32 ⌝ }
+    ensures { λ r. ⌜ (r ≡ at + 1) × ((written old : List ℕ) → at ≡ length written → now (output .entry) ≡ over written old → now (output .exit) ≡ over (written ++ (b ∷ [])) old) ⌝ }
+{
+    if at < output.len() {
+        output[at] = b;
+        return at + 1;
+    }
+    at + 1
+}
+
+// Writes the bytes of a text from `first` to before `end`.
+fn put_bytes(text: &[u8], output: &mut [u8], at: usize, first: usize, end: usize) -> usize
+    requires { ⌜ (at < 2 ^ 31) × (first ≤ end) × (end ≤ length (now text)) × (end < 2 ^ 31) ⌝ }
+    ensures { λ r. ⌜ (r + first ≡ at + end) × ((written old : List ℕ) → at ≡ length written → now (output .entry) ≡ over written old → now (output .exit) ≡ over (written ++ bytesOf (now (text .entry)) first end) old) ⌝ }
+{
+    let mut i = first;
+    let mut to = at;
+    while i < end {
+        to = put_byte(output, to, text[i]);
+        i += 1;
+    }
+    to
+}
+
+// Writes what comes before an element that has a record, and its bytes.
+fn put_element(
+    text: &[u8],
+    output: &mut [u8],
+    at: usize,
+    first: usize,
+    end: usize,
+    line: bool,
+) -> usize
+    requires { ⌜ (at + 1 < 2 ^ 31) × (first ≤ end) × (end ≤ length (now text)) × (end < 2 ^ 31) ⌝ }
+    ensures { λ r. ⌜ (r + first ≤ at + end + 1) × ((written old : List ℕ) → at ≡ length written → now (output .entry) ≡ over written old → (r ≡ length (addElement (now (text .entry)) written first end line)) × (now (output .exit) ≡ over (addElement (now (text .entry)) written first end line) old)) ⌝ }
+{
+    if line {
+        let next = put_byte(output, at, 10);
+        return put_bytes(text, output, next, first, end);
+    }
+    if at == 0 {
+        return put_bytes(text, output, at, first, end);
+    }
+    let next = put_byte(output, at, 32);
+    put_bytes(text, output, next, first, end)
+}
+
+// Writes a blank and a closer.
+fn put_closer(text: &[u8], output: &mut [u8], at: usize, first: usize, end: usize) -> usize
+    requires { ⌜ (at + 1 < 2 ^ 31) × (first ≤ end) × (end ≤ length (now text)) × (end < 2 ^ 31) ⌝ }
+    ensures { λ r. ⌜ (r + first ≤ at + end + 1) × ((written old : List ℕ) → at ≡ length written → now (output .entry) ≡ over written old → (r ≡ length (addCloser (now (text .entry)) written first end)) × (now (output .exit) ≡ over (addCloser (now (text .entry)) written first end) old)) ⌝ }
+{
+    let next = put_byte(output, at, 32);
+    put_bytes(text, output, next, first, end)
+}
+
+// What writing an element makes of the state and the place: others, or a refusal.
+enum Wrote {
+    More(State, usize),
+    Stop(u32, usize),
+}
+
+// Advances the state by an element, and writes it.
+fn write_element(
+    text: &[u8],
+    output: &mut [u8],
+    stack: &mut [u32],
+    state: State,
+    at: usize,
+    e: Element,
+) -> Wrote
+    requires { ⌜ (at ≤ 2 * mostBytes) × (e .first < e .end) × (e .end ≤ length (now text)) × (e .end ≤ mostBytes) × (length (now stack) ≡ 200) ⌝ }
+    ensures { λ r. ⌜ ((old : List ℕ) (place : ℕ) (levels : Levels) → place ≤ e .first → Writes (now (text .entry)) old (now (output .entry)) (now (stack .entry)) state at place levels → Turned (now (text .entry)) old (now (output .exit)) (now (stack .exit)) (e .end) r (step respaceLimits levels e)) ⌝ }
+{
+    let first = e.first;
+    let end = e.end;
+    let line = e.line;
+    let advanced = prefix::advance(stack, state, TreeRecord::MOST, first as u32, e);
+    match advanced {
+        Advanced::Leaf(next) => {
+            let to = put_element(text, output, at, first, end, line);
+            Wrote::More(next, to)
+        }
+        Advanced::Opened(_, next) => {
+            let to = put_element(text, output, at, first, first + 1, line);
+            Wrote::More(next, to)
+        }
+        Advanced::Closed(_, next) => {
+            let to = put_closer(text, output, at, end - 1, end);
+            Wrote::More(next, to)
+        }
+        Advanced::Stopped(number, place) => Wrote::Stop(number, place),
+    }
+}
+
+// The end of the text: the last line end; or the place of the innermost opener.
+fn write_end(output: &mut [u8], stack: &[u32], state: State, at: usize) -> Answer
+    requires { ⌜ (at ≤ 2 * mostBytes) × (2 * state .depth ≤ length (now stack)) ⌝ }
+    ensures { λ r. ⌜ ((bytes old : List ℕ) (place : ℕ) (levels : Levels) → Writes bytes old (now (output .entry)) (now (stack .entry)) state at place levels → Told bytes old (now (output .exit)) (Rattle.prefix.specs.Reading.ending levels) r) ⌝ }
+{
+    let depth = state.depth;
+    if depth == 0 {
+        return Answer::Accepted(put_byte(output, at, 10));
+    }
+    let first = stack[2 * (depth - 1) + 1] as usize;
+    Answer::Refused(prefix::UNCLOSED, first)
+}
+
+// The elements of the whole text, as many as fit; and the count of all.
+fn write_text(text: &[u8], output: &mut [u8], stack: &mut [u32]) -> Answer
+    requires { ⌜ (length (now text) ≤ mostBytes) × (length (now stack) ≡ 200) ⌝ }
+    ensures { λ r. ⌜ Told (now (text .entry)) (now (output .entry)) (now (output .exit)) (wholeReading (now (text .entry))) r ⌝ }
+{
+    let mut state = prefix::start();
+    let mut place = 0usize;
+    let mut at = 0usize;
+    loop {
+        let pattern = prefix::slash_opens(state);
+        let next = elements::element_at(text, place, pattern);
+        match next {
+            Next::End => {
+                return write_end(output, stack, state, at);
+            }
+            Next::Fault(number, fault) => {
+                return Answer::Refused(number, fault);
+            }
+            Next::Found(e) => {
+                let wrote = write_element(text, output, stack, state, at, e);
+                match wrote {
+                    Wrote::More(after, to) => {
+                        state = after;
+                        at = to;
+                        place = e.end;
+                    }
+                    Wrote::Stop(number, fault) => {
+                        return Answer::Refused(number, fault);
+                    }
+                }
+            }
+        }
+    }
+}
+
+// Every byte of an output becomes 0.
+fn clear(output: &mut [u8])
+    ensures { λ r. ⌜ now (output .exit) ≡ replicate (length (now (output .entry))) 0 ⌝ }
+{
+    let mut i = 0;
+    while i < output.len() {
+        output[i] = 0;
+        i += 1;
+    }
+}
+
+// Respaces a text: the count of bytes written to the output, whose bytes past these are as they were; or the number and place
+// of a refusal, with every byte of the output 0.
+pub fn respace(text: &[u8], output: &mut [u8]) -> Answer
+    ensures { λ r. ⌜ (r ≡ answerOf (respacingFor (now (text .entry)) (length (now (output .entry))))) × (now (output .exit) ≡ outputAfter (respacingFor (now (text .entry)) (length (now (output .entry)))) (now (output .entry))) ⌝ }
+{
+    if reader::MOST_BYTES < text.len() {
+        clear(output);
+        return Answer::Refused(reader::LONG, reader::MOST_BYTES);
+    }
+    let mut stack = [0u32; 200];
+    let answer = write_text(text, output, &mut stack);
+    match answer {
+        Answer::Accepted(count) => {
+            if output.len() < count {
+                clear(output);
+                return Answer::Refused(OUTPUT_FULL, text.len());
+            }
+            Answer::Accepted(count)
+        }
+        Answer::Refused(number, place) => {
+            clear(output);
+            Answer::Refused(number, place)
+        }
+    }
+}
