@@ -1,0 +1,174 @@
+// How a case spells its text. `~` with two hexadecimal digits is that byte. `~<`, a number, a blank, a piece and `~>` are
+// as many copies of the piece, one after the other; a piece holds no such copies. Any other byte is itself.
+use crate::number;
+use crate::number::Number;
+
+// The most bytes of a text: a longer one is a bad case.
+pub const MOST: usize = 262200;
+
+pub enum Size {
+    Bytes(usize),
+    Bad,
+}
+
+// The place in the line, the size of the text so far, and where the open piece starts, if one is open, with its number of
+// copies.
+struct Spelling {
+    at: usize,
+    size: usize,
+    open: bool,
+    start: usize,
+    times: usize,
+}
+
+enum Stepped {
+    On(Spelling),
+    Bad,
+}
+
+// Each step passes a byte of the line at least, so the turns do not run out before the line does.
+pub fn text_of(line: &[u8], from: usize, text: &mut [u8; MOST]) -> Size {
+    let mut s = Spelling {
+        at: from,
+        size: 0,
+        open: false,
+        start: 0,
+        times: 0,
+    };
+    let mut turns = line.len();
+    while turns > 0 && s.at < line.len() {
+        let step = step(line, text, s);
+        match step {
+            Stepped::On(next) => s = next,
+            Stepped::Bad => return Size::Bad,
+        }
+        turns -= 1;
+    }
+    if s.open {
+        Size::Bad
+    } else {
+        Size::Bytes(s.size)
+    }
+}
+
+fn step(line: &[u8], text: &mut [u8; MOST], s: Spelling) -> Stepped {
+    let at = s.at;
+    if at >= line.len() {
+        return Stepped::Bad;
+    }
+    if line[at] != b'~' {
+        return put(text, s, line[at], at + 1);
+    }
+    if line.len() - at < 2 {
+        return Stepped::Bad;
+    }
+    match line[at + 1] {
+        b'<' => open(line, s, at + 2),
+        b'>' => close(text, s, at + 2),
+        _ => put_digits(line, text, s, at + 1),
+    }
+}
+
+// The byte of two hexadecimal digits.
+fn put_digits(line: &[u8], text: &mut [u8; MOST], s: Spelling, at: usize) -> Stepped {
+    if line.len() < 2 {
+        return Stepped::Bad;
+    }
+    if at > line.len() - 2 {
+        return Stepped::Bad;
+    }
+    let high = number::digit(line[at]);
+    let low = number::digit(line[at + 1]);
+    if high > 15 {
+        return Stepped::Bad;
+    }
+    if low > 15 {
+        return Stepped::Bad;
+    }
+    put(text, s, high * 16 + low, at + 2)
+}
+
+fn put(text: &mut [u8; MOST], s: Spelling, byte: u8, next: usize) -> Stepped {
+    let size = s.size;
+    if size < MOST {
+        text[size] = byte;
+        Stepped::On(Spelling {
+            at: next,
+            size: size + 1,
+            open: s.open,
+            start: s.start,
+            times: s.times,
+        })
+    } else {
+        Stepped::Bad
+    }
+}
+
+fn open(line: &[u8], s: Spelling, at: usize) -> Stepped {
+    if s.open {
+        return Stepped::Bad;
+    }
+    let times = number::number_at(line, at);
+    match times {
+        Number::Of(n, next) => Stepped::On(Spelling {
+            at: next,
+            size: s.size,
+            open: true,
+            start: s.size,
+            times: n,
+        }),
+        Number::Bad => Stepped::Bad,
+    }
+}
+
+// The piece stands there once. It has to be copied once at least, and there has to be room.
+fn close(text: &mut [u8; MOST], s: Spelling, next: usize) -> Stepped {
+    if !s.open {
+        return Stepped::Bad;
+    }
+    if s.times == 0 {
+        return Stepped::Bad;
+    }
+    let size = copied(text, s.start, s.size, s.times - 1);
+    match size {
+        Size::Bytes(n) => Stepped::On(Spelling {
+            at: next,
+            size: n,
+            open: false,
+            start: 0,
+            times: 0,
+        }),
+        Size::Bad => Stepped::Bad,
+    }
+}
+
+// Copies the piece from `start` to `end` behind itself as often as is asked.
+fn copied(text: &mut [u8; MOST], start: usize, end: usize, times: usize) -> Size {
+    let mut size = end;
+    for _ in 0..times {
+        let next = copy(text, start, end, size);
+        match next {
+            Size::Bytes(n) => size = n,
+            Size::Bad => return Size::Bad,
+        }
+    }
+    Size::Bytes(size)
+}
+
+// Copies the bytes from `start` to `end` to `place`.
+fn copy(text: &mut [u8; MOST], start: usize, end: usize, place: usize) -> Size {
+    let mut from = start;
+    let mut to = place;
+    while from < end {
+        if to >= MOST {
+            return Size::Bad;
+        }
+        if from >= MOST {
+            return Size::Bad;
+        }
+        text[to] = text[from];
+        from += 1;
+        to += 1;
+    }
+    Size::Bytes(to)
+}
