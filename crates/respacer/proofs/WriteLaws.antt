@@ -27,13 +27,13 @@ use Rattle.respacer.specs.declared.Wrote.{Wrote}
 use Rattle.respacer.proofs.OverLaws.{over-nothing, over-fits, byte-length}
 
 -- a leaf more, and a group ended
-written-leaf : (bytes : List ℕ) (e : Element) (levels : Levels)
+pub written-leaf : (bytes : List ℕ) (e : Element) (levels : Levels)
     → writtenOf bytes (onTop (λ before. leaf before e) levels) ≡ addElement bytes (writtenOf bytes levels) (e .first) (e .end) (e .line)
 unfolding addTrees
 written-leaf bytes e (text trees) = refl
 written-leaf bytes e (inside around kind first line trees) = refl
 
-written-group : (bytes : List ℕ) (kind first end : ℕ) (line : Bool) (trees : Trees) (around : Levels)
+pub written-group : (bytes : List ℕ) (kind first end : ℕ) (line : Bool) (trees : Trees) (around : Levels)
     → writtenOf bytes (onTop (λ before. group before kind first end line trees) around)
     ≡ addCloser bytes (addTrees bytes (addElement bytes (writtenOf bytes around) first (first + 1) line) trees) (end - 1) end
 unfolding addTrees

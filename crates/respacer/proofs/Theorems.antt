@@ -1,0 +1,57 @@
+-- The theorems of respacing.
+use mathlib.Core.Path.{_≡_, refl, sym, _∙_}
+use mathlib.Core.List.{List, [], _∷_}
+use mathlib.Core.Bool.{Bool, true, false, cond}
+use Prim.Native.Nat.{ℕ, _+_, _*_, _≤_}
+use native.Mathlib.Omega.{arith}
+use borrow.Author.Tests.{leb-true}
+use lib.Dec.{leb}
+use lib.ListN.{length, length-append}
+use Rattle.elements.specs.Answers.{valueOf}
+use Rattle.prefix.specs.Trees.{Trees}
+use Rattle.prefix.specs.Reading.{Reading, accepted, refused, reading}
+use Rattle.reader.specs.Read.{longText, mostBytes}
+use Rattle.reader.proofs.Formed.{reading-within-text}
+use Rattle.respacer.specs.Respaced.{lineFeed, addTrees, respaced}
+use Rattle.respacer.specs.Respace.{respaceLimits, wholeReading, outputFull, Respacing, written, denied, fitted, respacingFor, answerOf}
+use Rattle.respacer.proofs.Lengths.{reading-short}
+
+-- A text that is respaced has at most 262,144 bytes, and its respaced text at most twice as many and one.
+pub record Short (text : List ℕ) (trees : Trees) : Type 0 where
+  pub text-short : length text ≤ mostBytes
+  pub respaced-short : length (respaced text trees) ≤ 2 * length text + 1
+
+abbrev Bounded : List ℕ → Reading → Type 0
+Bounded text (accepted trees) = Short text trees
+Bounded text (refused number place) = place ≤ mostBytes
+
+bounded : (text : List ℕ) → Bounded text (wholeReading text)
+unfolding wholeReading
+bounded text = go (leb (length text) mostBytes) refl
+  where
+    inner : (r : Reading) → reading text respaceLimits ≡ r → length text ≤ mostBytes → Bounded text r
+    inner (accepted trees) e short =
+        let s : length (addTrees text [] trees) ≤ 2 * length text = rw e at (reading-short text respaceLimits) in
+        record { text-short = short; respaced-short = omega (arith, length-append (addTrees text [] trees) (lineFeed ∷ [])) }
+    inner (refused number place) e short =
+        let w : place ≤ length text = rw e at (reading-within-text text respaceLimits) in
+        omega arith
+
+    go : (b : Bool) → leb (length text) mostBytes ≡ b → Bounded text (cond b (reading text respaceLimits) (refused longText mostBytes))
+    go true short = inner (reading text respaceLimits) refl (leb-true (length text) mostBytes short)
+    go false short = omega arith
+
+pub respaced-length : (text : List ℕ) (trees : Trees) → wholeReading text ≡ accepted trees → Short text trees
+respaced-length text trees e = rw e at (bounded text)
+
+-- The count of bytes, or the place of a refusal, is small.
+pub value-bounded : (text : List ℕ) (room : ℕ) → valueOf (answerOf (respacingFor text room)) ≤ 2 * mostBytes + 1
+value-bounded text room = go (wholeReading text) (bounded text)
+  where
+    fit : (trees : Trees) → Short text trees → (b : Bool) → valueOf (answerOf (cond b (written (respaced text trees)) (denied outputFull (length text)))) ≤ 2 * mostBytes + 1
+    fit trees s true = omega (arith, s .text-short, s .respaced-short)
+    fit trees s false = omega (arith, s .text-short)
+
+    go : (r : Reading) → Bounded text r → valueOf (answerOf (fitted text room r)) ≤ 2 * mostBytes + 1
+    go (accepted trees) s = fit trees s (leb (length (respaced text trees)) room)
+    go (refused number place) s = omega arith
