@@ -45,7 +45,7 @@ abbrev pub signKind : ℕ
 signKind = 6
 
 -- the element of a kind from `first` to before `end`; `which` is its number among the reserved words or the signs, else
--- 0; `line` says whether a line end lies between it and the element before
+-- 0; `line` says whether a line end lies between it and the place from which it was looked for
 abbrev pub element : ℕ → ℕ → Bool → ℕ → ℕ → Next
 element kind which line first end = Next.Found (record { kind = kind; which = which; first = first; end = end; line = line })
 

@@ -1,5 +1,5 @@
-// The cutting of a text into elements: the element at a place under a stated slash answer. And the answer of every call
-// of this project.
+// The cutting of a text into elements: the element at a place under a stated slash answer. And the answer of reading,
+// respacing and parsing.
 ghost use mathlib.Core.Path.{_≡_};
 ghost use mathlib.Core.Bool.{_&&_};
 ghost use Prim.Native.Nat.{_+_, _<_};

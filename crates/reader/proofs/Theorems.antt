@@ -28,7 +28,7 @@ count-of-records = records-length
 pub reading-nested : (text : List ℕ) (limits : Limits) (trees : Trees) → reading text limits ≡ accepted trees → Nested (records trees)
 reading-nested text limits trees e = records-nested trees (rw e at (reading-formed text limits))
 
--- A text that is read has at most 262,144 bytes, and its reading is one of `reading`.
+-- What `read` accepts is accepted by `reading`.
 for-accepted : (text : List ℕ) (cells : ℕ) (trees : Trees) → readingFor text cells ≡ accepted trees → reading text (readLimits cells) ≡ accepted trees
 unfolding readingFor
 for-accepted text cells trees = go (leb (length text) mostBytes)

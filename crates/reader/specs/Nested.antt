@@ -1,6 +1,6 @@
 -- Cells that are whole tree records, well nested: what follows a group's record, as far as its number of records says, is its
--- content. This is what the reader promises to whoever walks its table.
-use Prim.Native.Nat.{ℕ, _+_, _-_, _*_, _≤_}
+-- content. The records of a reading's trees, with which an accepted `read` starts its table, are so (`read-nested`).
+use Prim.Native.Nat.{ℕ, _-_, _*_, _≤_}
 use mathlib.Core.Path.{_≡_}
 use mathlib.Core.List.{List, [], _∷_}
 use lib.ListN.{length, take, drop}

@@ -26,7 +26,7 @@ add-result c =
     omega arith
 
 returns : tie.Need-returns
-returns c = search needs
+returns c = rw (c .before .answer .given .1) (omega arith)
 
 returns-2 : tie.Need-returns-2
 returns-2 c = sym (ap packed (c .before .answer2 .given .1))
