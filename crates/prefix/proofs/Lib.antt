@@ -4,6 +4,8 @@ pub mod WordLaws
 pub mod StateLaws
 pub mod StepLaws
 pub mod ReadingLaws
-pub mod LimitLaws
-pub mod Induction
 pub mod StepCases
+pub mod Induction
+pub mod Sizes
+pub mod Unlimited
+pub mod LimitLaws

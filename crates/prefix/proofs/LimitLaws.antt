@@ -1,130 +1,87 @@
--- More room, or more groups, changes no accepted reading.
-use mathlib.Core.Path.{_≡_, refl, sym, ap, _∙_}
+-- Laws of the limits of a reading: they change nothing that fits them, and refuse nothing else than what passes them.
+use mathlib.Core.Path.{_≡_, refl, sym, _∙_}
+use mathlib.Core.Logic.{_⊎_, inl, inr}
 use mathlib.Core.List.{List}
-use mathlib.Core.Bool.{Bool, true, false, cond}
-use Prim.Native.Nat.{ℕ, zero, suc, _≤_, _<_}
+use Prim.Native.Nat.{ℕ, _≤_, _<_}
 use native.Mathlib.Omega.{arith}
-use borrow.Author.Tests.{leb-true, leb-false, le-leb, lt-leb}
-use lib.Dec.{eqb, leb}
-use lib.ListN.{length}
-use Rattle.elements.specs.Elements.{elementAt, delimiterKind}
-use Rattle.elements.specs.declared.Element.{Element}
-use Rattle.elements.specs.declared.Next.{Next}
-use Rattle.prefix.specs.Trees.{Trees, none, leaf, parenKind, objectKind, blockKind}
-use Rattle.prefix.specs.Rule.{isSign}
-use Rattle.prefix.specs.Levels.{Levels, text, inside, slashOpens, braceOpens, depth, number, onTop}
-use Rattle.prefix.specs.Reading.{
-  Limits,
-  Step,
-  stop,
-  more,
-  addLeaf,
-  openGroup,
-  closeGroup,
-  delimit,
-  step,
-  Reading,
-  accepted,
-  refused,
-  ending,
-  Turn,
-  over,
-  on,
-  stepped,
-  met,
-  turn,
-  readOn,
-  reading,
-}
-use Rattle.prefix.proofs.ReadingLaws.{taken}
+use Rattle.prefix.specs.Trees.{Trees, count, deepest}
+use Rattle.prefix.specs.Reading.{Limits, deep, treesFull, Reading, accepted, refused, reading, unlimitedReading}
+use Rattle.prefix.proofs.Sizes.{accepted-fits}
+use Rattle.prefix.proofs.Unlimited.{Under, same, full, deeper, reading-under, NoLimit}
 
--- a stop is no step onward
-not-more : {A : Type 0} {n p : ℕ} {after : Levels} → stop n p ≡ more after → A
-not-more e = absurd (let z : _≡_ {A = ℕ} 0 1 = cc in omega arith)
+-- a refusal is no acceptance
+not-accepted : {A : Type 0} {number place : ℕ} {trees : Trees} → refused number place ≡ accepted trees → A
+not-accepted e = absurd (let z : _≡_ {A = ℕ} 0 1 = cc in omega arith)
+
+module _ (bytes : List ℕ) (limits : Limits) where
+  -- What is accepted is accepted without limits.
+  pub accepted-unlimited : (trees : Trees) → reading bytes limits ≡ accepted trees → unlimitedReading bytes ≡ accepted trees
+  accepted-unlimited trees = go (reading-under bytes limits)
+    where
+      go : {r free : Reading} → Under limits r free → r ≡ accepted trees → free ≡ accepted trees
+      go same a = a
+      go (full h) a = not-accepted a
+      go (deeper h) a = not-accepted a
+
+  -- What is accepted without limits is accepted if it fits.
+  unlimited-accepted : (trees : Trees) → unlimitedReading bytes ≡ accepted trees → count trees ≤ limits .room → deepest trees ≤ limits .groups
+      → reading bytes limits ≡ accepted trees
+  unlimited-accepted trees a room groups = go (reading-under bytes limits) a
+    where
+      go : {r free : Reading} → Under limits r free → free ≡ accepted trees → r ≡ accepted trees
+      go same a = a
+      go (full h) a = absurd (let more : limits .room < count trees = rw a at h in omega arith)
+      go (deeper h) a = absurd (let more : limits .groups < deepest trees = rw a at h in omega arith)
+
+  -- A refusal for no limit is the one without limits.
+  pub refusal-unlimited : (number place : ℕ) → reading bytes limits ≡ refused number place → NoLimit number → unlimitedReading bytes ≡ refused number place
+  refusal-unlimited number place e u = go (reading-under bytes limits) e
+    where
+      go : {r free : Reading} → Under limits r free → r ≡ refused number place → free ≡ refused number place
+      go same e = e
+      go (full h) e = absurd (u .not-full (cc))
+      go (deeper h) e = absurd (u .not-deep (cc))
+
+  -- What is refused without limits is refused so, or for a limit.
+  pub unlimited-refusal : (number place : ℕ) → unlimitedReading bytes ≡ refused number place
+      → (reading bytes limits ≡ refused number place) ⊎ ((at : ℕ) × (reading bytes limits ≡ refused deep at)) ⊎ ((at : ℕ) × (reading bytes limits ≡ refused treesFull at))
+  unlimited-refusal number place e = go (reading-under bytes limits) e
+    where
+      go : {r free : Reading} → Under limits r free → free ≡ refused number place
+          → (r ≡ refused number place) ⊎ ((at : ℕ) × (r ≡ refused deep at)) ⊎ ((at : ℕ) × (r ≡ refused treesFull at))
+      go same e = inl e
+      go (full {place = at} h) e = inr (inr (at, refl))
+      go (deeper {place = at} h) e = inr (inl (at, refl))
+
+module _ (bytes : List ℕ) (limits other : Limits) (trees : Trees) (a : reading bytes other ≡ accepted trees) where
+  -- What is accepted under other limits is accepted if it fits,
+  pub fits-accepted : count trees ≤ limits .room → deepest trees ≤ limits .groups → reading bytes limits ≡ accepted trees
+  fits-accepted = unlimited-accepted bytes limits trees (accepted-unlimited bytes other trees a)
+
+  -- and is refused for a limit only if it passes it.
+  pub full-means-more : (place : ℕ) → reading bytes limits ≡ refused treesFull place → limits .room < count trees
+  full-means-more place e = go (reading-under bytes limits) e (accepted-unlimited bytes other trees a)
+    where
+      go : {r free : Reading} → Under limits r free → r ≡ refused treesFull place → free ≡ accepted trees → limits .room < count trees
+      go same e a = not-accepted (sym e ∙ a)
+      go (full h) e a = rw a at h
+      go (deeper h) e a = absurd (let z : _≡_ {A = ℕ} deep treesFull = cc in omega arith)
+
+  pub deep-means-deeper : (place : ℕ) → reading bytes limits ≡ refused deep place → limits .groups < deepest trees
+  deep-means-deeper place e = go (reading-under bytes limits) e (accepted-unlimited bytes other trees a)
+    where
+      go : {r free : Reading} → Under limits r free → r ≡ refused deep place → free ≡ accepted trees → limits .groups < deepest trees
+      go same e a = not-accepted (sym e ∙ a)
+      go (full h) e a = absurd (let z : _≡_ {A = ℕ} deep treesFull = cc in omega arith)
+      go (deeper h) e a = rw a at h
 
 -- the limits of one reading are at most those of another
 pub record Within (small large : Limits) : Type 0 where
   pub groups : small .groups ≤ large .groups
   pub room : small .room ≤ large .room
 
-module _ (small large : Limits) (w : Within small large) (levels : Levels) (e : Element) (after : Levels) where
-  leaf-more : addLeaf small levels e ≡ more after → addLeaf large levels e ≡ more after
-  leaf-more = go (leb (small .room) (number levels)) refl
-    where
-      go : (b : Bool) → leb (small .room) (number levels) ≡ b
-          → cond b (stop 12 (e .first)) (more (onTop (λ before. leaf before e) levels)) ≡ more after → addLeaf large levels e ≡ more after
-      go true q m = not-more m
-      go false q m = rw (lt-leb (large .room) (number levels) (omega (arith, leb-false (small .room) (number levels) q, w .room))) m
-
-  open-more : (kind : ℕ) → openGroup small levels kind e ≡ more after → openGroup large levels kind e ≡ more after
-  open-more kind = go (leb (small .groups) (depth levels)) refl (leb (small .room) (number levels)) refl
-    where
-      go : (a : Bool) → leb (small .groups) (depth levels) ≡ a → (b : Bool) → leb (small .room) (number levels) ≡ b
-          → cond a (stop 9 (e .first)) (cond b (stop 12 (e .first)) (more (inside levels kind (e .first) (e .line) none))) ≡ more after
-          → openGroup large levels kind e ≡ more after
-      go true p b q m = not-more m
-      go false p true q m = not-more m
-      go false p false q m =
-          rw (
-            lt-leb (large .groups) (depth levels) (omega (arith, leb-false (small .groups) (depth levels) p, w .groups)),
-            lt-leb (large .room) (number levels) (omega (arith, leb-false (small .room) (number levels) q, w .room)),
-          )
-          m
-
-  pub step-more : step small levels e ≡ more after → step large levels e ≡ more after
-  unfolding step
-  step-more = go (eqb (e .kind) delimiterKind) (isSign "(" (e .which)) (isSign "{" (e .which)) (braceOpens levels (e .line))
-    where
-      go : (d p b o : Bool)
-          → cond d (cond p (openGroup small levels parenKind e) (cond b (openGroup small levels (cond o objectKind blockKind) e) (closeGroup levels e))) (addLeaf small levels e) ≡ more after
-          → cond d (cond p (openGroup large levels parenKind e) (cond b (openGroup large levels (cond o objectKind blockKind) e) (closeGroup levels e))) (addLeaf large levels e) ≡ more after
-      go true true b o m = open-more parenKind m
-      go true false true o m = open-more (cond o objectKind blockKind) m
-      go true false false o m = m
-      go false p b o m = leaf-more m
-
--- a turn of an accepted reading is the same under larger limits
-module _ (bytes : List ℕ) (small large : Limits) (w : Within small large) where
-  turn-on : (levels after : Levels) (place next : ℕ) → turn bytes small levels place ≡ on after next → turn bytes large levels place ≡ on after next
-  unfolding turn
-  turn-on levels after place next = found (elementAt bytes place (slashOpens levels))
-    where
-      steps : (e : Element) (y : Step) → step small levels e ≡ y → stepped (e .end) y ≡ on after next → stepped (e .end) (step large levels e) ≡ on after next
-      steps e (stop n p) q m = absurd (let z : _≡_ {A = ℕ} 0 1 = cc in omega arith)
-      steps e (more l) q m = rw (step-more small large w levels e l q) m
-
-      found : (x : Next) → met small levels x ≡ on after next → met large levels x ≡ on after next
-      found Next.End m = absurd (let z : _≡_ {A = ℕ} 0 1 = cc in omega arith)
-      found (Next.Fault n p) m = absurd (let z : _≡_ {A = ℕ} 0 1 = cc in omega arith)
-      found (Next.Found e) m = steps e (step small levels e) refl m
-
-  turn-over : (levels : Levels) (place : ℕ) (trees : Trees) → turn bytes small levels place ≡ over (accepted trees) → turn bytes large levels place ≡ over (accepted trees)
-  unfolding turn
-  turn-over levels place trees = found (elementAt bytes place (slashOpens levels))
-    where
-      steps : (e : Element) (y : Step) → stepped (e .end) y ≡ over (accepted trees) → stepped (e .end) (step large levels e) ≡ over (accepted trees)
-      steps e (stop n p) m = absurd (let z : _≡_ {A = ℕ} 0 1 = cc in omega arith)
-      steps e (more l) m = absurd (let z : _≡_ {A = ℕ} 0 1 = cc in omega arith)
-
-      found : (x : Next) → met small levels x ≡ over (accepted trees) → met large levels x ≡ over (accepted trees)
-      found Next.End m = m
-      found (Next.Fault n p) m = absurd (let z : _≡_ {A = ℕ} 0 1 = cc in omega arith)
-      found (Next.Found e) m = steps e (step small levels e) m
-
-  pub read-on-within : (fuel : ℕ) (levels : Levels) (place : ℕ) (trees : Trees)
-      → readOn bytes small fuel levels place ≡ accepted trees → readOn bytes large fuel levels place ≡ accepted trees
-  unfolding readOn
-  read-on-within zero levels place trees m = m
-  read-on-within (suc fuel) levels place trees m = go (turn bytes small levels place) refl (λ l p. read-on-within fuel l p trees)
-    where
-      go : (t : Turn) → turn bytes small levels place ≡ t
-          → ((l : Levels) (p : ℕ) → readOn bytes small fuel l p ≡ accepted trees → readOn bytes large fuel l p ≡ accepted trees)
-          → readOn bytes large (suc fuel) levels place ≡ accepted trees
-      go (over r) q rest =
-          let e : r ≡ accepted trees = sym (taken bytes small fuel levels place (over r) q) ∙ m in
-          taken bytes large fuel levels place (over (accepted trees)) (turn-over levels place trees (q ∙ ap over e))
-      go (on l p) q rest = taken bytes large fuel levels place (on l p) (turn-on levels l place p q) ∙ rest l p (sym (taken bytes small fuel levels place (on l p) q) ∙ m)
-
-  pub reading-within : (trees : Trees) → reading bytes small ≡ accepted trees → reading bytes large ≡ accepted trees
-  unfolding reading
-  reading-within trees m = read-on-within (suc (length bytes)) (text none) 0 trees m
+-- More room, or more groups, changes no accepted reading.
+pub reading-within : (bytes : List ℕ) (small large : Limits) → Within small large → (trees : Trees) → reading bytes small ≡ accepted trees → reading bytes large ≡ accepted trees
+reading-within bytes small large w trees a =
+    let f = accepted-fits bytes small trees a in
+    fits-accepted bytes large small trees a (omega arith) (omega arith)

@@ -3,7 +3,7 @@ use mathlib.Core.Path.{_≡_, refl, sym, ap, subst, _∙_}
 use mathlib.Core.Bool.{Bool, true, false, cond}
 use Prim.Native.Nat.{ℕ, _≤_, _<_}
 use native.Mathlib.Omega.{arith}
-use borrow.Author.Tests.{eqb-false, leb-false}
+use borrow.Author.Tests.{eqb-false, leb-true, leb-false}
 use lib.Dec.{eqb, leb}
 use Rattle.elements.specs.Elements.{delimiterKind}
 use Rattle.elements.specs.declared.Element.{Element}
@@ -11,7 +11,7 @@ use Rattle.elements.proofs.Choices.{cond-both, cond-known}
 use Rattle.prefix.specs.Trees.{Trees, none, leaf, group, parenKind, objectKind, blockKind}
 use Rattle.prefix.specs.Rule.{isSign}
 use Rattle.prefix.specs.Levels.{Levels, text, inside, braceOpens, depth, number, onTop}
-use Rattle.prefix.specs.Reading.{Limits, Step, stop, more, addLeaf, openGroup, closes, closeGroup, delimit, step}
+use Rattle.prefix.specs.Reading.{Limits, Step, stop, more, addLeaf, openGroup, closes, closeGroup, delimit, step, deep, wrongCloser, treesFull}
 
 -- one element more, one group more, or one group ended; the first two within the limits
 pub data Taken (limits : Limits) (e : Element) : Levels → Levels → Type 0 where
@@ -21,24 +21,33 @@ pub data Taken (limits : Limits) (e : Element) : Levels → Levels → Type 0 wh
   close-taken : {around : Levels} {kind first : ℕ} {line : Bool} {trees : Trees}
       → Taken limits e (inside around kind first line trees) (onTop (λ before. group before kind first (e .end) line trees) around)
 
+-- why a step stops: a limit is reached, or the closer is wrong
+pub data Stopped (limits : Limits) (levels : Levels) : ℕ → Type 0 where
+  at-depth : limits .groups ≤ depth levels → Stopped limits levels deep
+  at-room : limits .room ≤ number levels → Stopped limits levels treesFull
+  at-closer : Stopped limits levels wrongCloser
+
 -- what a step says: a stop stands at the element
 abbrev pub Says : Limits → Element → Levels → Step → Type 0
-Says limits e levels (stop n p) = p ≡ e .first
+Says limits e levels (stop n p) = (p ≡ e .first) × Stopped limits levels n
 Says limits e levels (more after) = Taken limits e levels after
 
 module _ (limits : Limits) (e : Element) where
+  full-says : (levels : Levels) → leb (limits .room) (number levels) ≡ true → Says limits e levels (stop treesFull (e .first))
+  full-says levels reached = (refl, at-room (leb-true (limits .room) (number levels) reached))
+
   leaf-says : (levels : Levels) → (e .kind ≡ 0 → ⊥) → Says limits e levels (addLeaf limits levels e)
-  leaf-says levels k = cond-known (Says limits e levels) (leb (limits .room) (number levels)) (λ full. refl) (λ some. leaf-taken k (leb-false (limits .room) (number levels) some))
+  leaf-says levels k = cond-known (Says limits e levels) (leb (limits .room) (number levels)) (full-says levels) (λ some. leaf-taken k (leb-false (limits .room) (number levels) some))
 
   open-says : (levels : Levels) (kind : ℕ) → 7 ≤ kind → kind ≤ 9 → Says limits e levels (openGroup limits levels kind e)
   open-says levels kind l h =
-      cond-known (Says limits e levels) (leb (limits .groups) (depth levels)) (λ deep. refl) λ shallow.
-      cond-known (Says limits e levels) (leb (limits .room) (number levels)) (λ full. refl) λ some.
+      cond-known (Says limits e levels) (leb (limits .groups) (depth levels)) (λ reached. (refl, at-depth (leb-true (limits .groups) (depth levels) reached))) λ shallow.
+      cond-known (Says limits e levels) (leb (limits .room) (number levels)) (full-says levels) λ some.
       open-taken l h (leb-false (limits .groups) (depth levels) shallow) (leb-false (limits .room) (number levels) some)
 
   close-says : (levels : Levels) → Says limits e levels (closeGroup levels e)
-  close-says (text trees) = refl
-  close-says (inside around kind first line trees) = cond-both (Says limits e (inside around kind first line trees)) (closes (e .which) kind) close-taken refl
+  close-says (text trees) = (refl, at-closer)
+  close-says (inside around kind first line trees) = cond-both (Says limits e (inside around kind first line trees)) (closes (e .which) kind) close-taken (refl, at-closer)
 
   brace-says : (levels : Levels) (b : Bool) → Says limits e levels (openGroup limits levels (cond b objectKind blockKind) e)
   brace-says levels true = open-says levels objectKind (omega arith) (omega arith)
@@ -57,5 +66,12 @@ module _ (limits : Limits) (e : Element) where
   pub step-taken : (levels after : Levels) → step limits levels e ≡ more after → Taken limits e levels after
   step-taken levels after s = rw s at (step-says levels)
 
-  pub step-stopped : (levels : Levels) (n p : ℕ) → step limits levels e ≡ stop n p → p ≡ e .first
-  step-stopped levels n p s = rw s at (step-says levels)
+  module _ (levels : Levels) (n p : ℕ) (s : step limits levels e ≡ stop n p) where
+    stop-says : Says limits e levels (stop n p)
+    stop-says = rw s at (step-says levels)
+
+    pub step-stopped : p ≡ e .first
+    step-stopped = stop-says .0
+
+    pub step-reason : Stopped limits levels n
+    step-reason = stop-says .1

@@ -112,3 +112,11 @@ readOn bytes limits (suc fuel) levels place =
 -- the reading of a text under limits
 unfoldable pub reading : List ℕ → Limits → Reading
 reading bytes limits = readOn bytes limits (suc (length bytes)) (text none) 0
+
+-- Reading without limits: a program is one "whatever the text", and there are no limits in that. Each element has a byte of
+-- its own, so that no reading reaches limits as large as the text.
+abbrev pub unlimited : List ℕ → Limits
+unlimited bytes = record { groups = length bytes; room = length bytes }
+
+abbrev pub unlimitedReading : List ℕ → Reading
+unlimitedReading bytes = reading bytes (unlimited bytes)

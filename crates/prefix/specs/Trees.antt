@@ -1,5 +1,5 @@
 -- Trees of one level: elements and groups, in text order with the last outermost.
-use Prim.Native.Nat.{ℕ, _+_}
+use Prim.Native.Nat.{ℕ, _+_, max}
 use mathlib.Core.Bool.{Bool}
 use Rattle.elements.specs.declared.Element.{Element}
 
@@ -26,3 +26,9 @@ unfoldable pub count : Trees → ℕ
 count none = 0
 count (leaf before e) = count before + 1
 count (group before kind first end line within) = count before + (count within + 1)
+
+-- the most groups of trees that are open at once
+unfoldable pub deepest : Trees → ℕ
+deepest none = 0
+deepest (leaf before e) = deepest before
+deepest (group before kind first end line within) = max (deepest before) (deepest within + 1)
