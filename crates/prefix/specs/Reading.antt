@@ -113,8 +113,8 @@ readOn bytes limits (suc fuel) levels place =
 unfoldable pub reading : List ℕ → Limits → Reading
 reading bytes limits = readOn bytes limits (suc (length bytes)) (text none) 0
 
--- Reading without limits: a program is one "whatever the text", and there are no limits in that. Each element has a byte of
--- its own, so that no reading reaches limits as large as the text.
+-- Reading without limits: demand 3 is held "whatever the text", and has no limits in it. Each element has a byte of its own, so
+-- that no reading reaches limits as large as its text is long.
 abbrev pub unlimited : List ℕ → Limits
 unlimited bytes = record { groups = length bytes; room = length bytes }
 

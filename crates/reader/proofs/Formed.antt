@@ -12,9 +12,8 @@ use Rattle.elements.specs.declared.Next.{Next}
 use Rattle.elements.proofs.Bounds.{found-placed, fault-placed}
 use Rattle.elements.proofs.FoundKinds.{found-kind}
 use Rattle.prefix.specs.Trees.{Trees, none, leaf, group, count}
-use Rattle.prefix.specs.Levels.{Levels, text, inside, slashOpens, number, onTop}
+use Rattle.prefix.specs.Levels.{Levels, text, inside, slashOpens, onTop}
 use Rattle.prefix.specs.Reading.{Limits, Step, stop, more, step, Reading, accepted, refused, ending, reading}
-use Rattle.prefix.proofs.StateLaws.{number-on-top}
 use Rattle.prefix.proofs.Induction.{reading-tells}
 use Rattle.prefix.proofs.StepCases.{Taken, leaf-taken, open-taken, close-taken, step-taken, step-stopped}
 use Rattle.reader.specs.Records.{treeWidth, treeRecord, records}
@@ -114,29 +113,3 @@ reading-within-text bytes limits =
     starts levels place e f =
         let placed = found-placed bytes place (slashOpens levels) e f in
         omega (arith, placed .some, placed .within)
-
--- a reading has no more records than there is room for
-number-taken : (e : Element) {limits : Limits} {levels after : Levels} → Taken limits e levels after → number levels ≤ limits .room → number after ≤ limits .room
-unfolding count
-number-taken e (leaf-taken {levels = levels} n r) p = omega (arith, number-on-top (λ before. leaf before e) 1 (λ t. refl) levels)
-number-taken e (open-taken l h d r) p = omega arith
-number-taken e (close-taken {around = around} {kind = kind} {first = first} {line = line} {trees = trees}) p =
-    omega (arith, number-on-top (λ before. group before kind first (e .end) line trees) (count trees + 1) (λ t. refl) around)
-
-abbrev CountWithin : ℕ → Reading → Type 0
-CountWithin room (accepted trees) = count trees ≤ room
-CountWithin room (refused number place) = Unit {0}
-
-ending-count : (room : ℕ) (levels : Levels) → number levels ≤ room → CountWithin room (ending levels)
-ending-count room (text trees) p = p
-ending-count room (inside around kind first line trees) p = tt
-
-pub reading-count : (bytes : List ℕ) (limits : Limits) → CountWithin (limits .room) (reading bytes limits)
-unfolding count
-reading-count bytes limits =
-    reading-tells bytes limits (λ levels place. number levels ≤ limits .room) (CountWithin (limits .room))
-    (λ levels place p. ending-count (limits .room) levels p)
-    (λ levels place number at p f. tt)
-    (λ levels place e number at p f s. tt)
-    (λ levels place e after p f s. number-taken e (step-taken limits e levels after s) p)
-    (omega arith)

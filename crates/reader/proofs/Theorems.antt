@@ -2,19 +2,21 @@
 use mathlib.Core.Path.{_≡_, refl, sym, _∙_}
 use mathlib.Core.List.{List}
 use mathlib.Core.Bool.{Bool, true, false, cond}
-use Prim.Native.Nat.{ℕ, _*_, _≤_}
+use Prim.Native.Nat.{ℕ, _*_, _≤_, _<_}
 use native.Mathlib.Omega.{arith}
 use borrow.Author.Tests.{leb-true}
 use lib.Dec.{leb}
 use lib.ListN.{length}
-use Rattle.prefix.specs.Trees.{Trees, count}
-use Rattle.prefix.specs.Reading.{Limits, Reading, accepted, refused, reading}
+use Rattle.prefix.specs.Trees.{Trees, count, deepest}
+use Rattle.prefix.specs.Reading.{Limits, Reading, accepted, refused, reading, unlimitedReading, deep, treesFull}
+use Rattle.prefix.proofs.Sizes.{accepted-fits}
 use Rattle.prefix.proofs.LimitLaws.{Within, reading-within}
 use Rattle.reader.specs.Records.{treeWidth, records}
-use Rattle.reader.specs.Read.{longText, mostBytes, roomFor, readLimits, readingFor}
+use Rattle.reader.specs.Read.{longText, mostBytes, mostGroups, roomFor, readLimits, readingFor}
 use Rattle.reader.specs.Nested.{Nested}
 use Rattle.reader.proofs.CellLaws.{records-length}
-use Rattle.reader.proofs.Formed.{reading-formed, records-nested, reading-within-text, reading-count}
+use Rattle.reader.proofs.Formed.{reading-formed, records-nested, reading-within-text}
+use Rattle.reader.proofs.LengthFirst.{first-accepted, first-fits, first-full, first-deep}
 
 -- Limits: more room, or more groups, changes no accepted reading.
 pub larger-limits : (text : List ℕ) (small large : Limits) → Within small large → (trees : Trees) → reading text small ≡ accepted trees → reading text large ≡ accepted trees
@@ -31,11 +33,7 @@ reading-nested text limits trees e = records-nested trees (rw e at (reading-form
 -- What `read` accepts is accepted by `reading`.
 for-accepted : (text : List ℕ) (cells : ℕ) (trees : Trees) → readingFor text cells ≡ accepted trees → reading text (readLimits cells) ≡ accepted trees
 unfolding readingFor
-for-accepted text cells trees = go (leb (length text) mostBytes)
-  where
-    go : (b : Bool) → cond b (reading text (readLimits cells)) (refused longText mostBytes) ≡ accepted trees → reading text (readLimits cells) ≡ accepted trees
-    go true e = e
-    go false e = absurd (let z : _≡_ {A = ℕ} 0 1 = cc in omega arith)
+for-accepted text cells = first-accepted text (readLimits cells)
 
 -- So are the records that `read` leaves in its table.
 pub read-nested : (text : List ℕ) (cells : ℕ) (trees : Trees) → readingFor text cells ≡ accepted trees → Nested (records trees)
@@ -56,4 +54,22 @@ refused-place text cells number place = go (leb (length text) mostBytes) refl
 
 -- The count of an accepted reading is at most 16,384, and what the table has room for.
 pub accepted-count : (text : List ℕ) (cells : ℕ) (trees : Trees) → readingFor text cells ≡ accepted trees → count trees ≤ roomFor cells
-accepted-count text cells trees e = rw (for-accepted text cells trees e) at (reading-count text (readLimits cells))
+accepted-count text cells trees e = accepted-fits text (readLimits cells) trees (for-accepted text cells trees e) .0
+
+-- The trees of a text of at most 262,144 bytes are read if they fit.
+pub read-fits : (text : List ℕ) (cells : ℕ) (trees : Trees) → unlimitedReading text ≡ accepted trees
+    → length text ≤ mostBytes → count trees ≤ roomFor cells → deepest trees ≤ mostGroups → readingFor text cells ≡ accepted trees
+unfolding readingFor
+read-fits text cells = first-fits text (readLimits cells)
+
+-- 12 only where the trees are more than the table has room for, or 16,384.
+pub read-full : (text : List ℕ) (cells : ℕ) (trees : Trees) → unlimitedReading text ≡ accepted trees
+    → (place : ℕ) → readingFor text cells ≡ refused treesFull place → roomFor cells < count trees
+unfolding readingFor
+read-full text cells = first-full text (readLimits cells)
+
+-- 9 only where more than 100 groups are open at once.
+pub read-deep : (text : List ℕ) (cells : ℕ) (trees : Trees) → unlimitedReading text ≡ accepted trees
+    → (place : ℕ) → readingFor text cells ≡ refused deep place → mostGroups < deepest trees
+unfolding readingFor
+read-deep text cells = first-deep text (readLimits cells)

@@ -2,16 +2,18 @@
 use mathlib.Core.Path.{_≡_, refl, sym, _∙_}
 use mathlib.Core.List.{List, [], _∷_}
 use mathlib.Core.Bool.{Bool, true, false, cond}
-use Prim.Native.Nat.{ℕ, _+_, _*_, _≤_}
+use Prim.Native.Nat.{ℕ, _+_, _*_, _≤_, _<_}
 use native.Mathlib.Omega.{arith}
 use borrow.Author.Tests.{leb-true}
 use lib.Dec.{leb}
 use lib.ListN.{length, length-append}
 use Rattle.elements.specs.Answers.{valueOf}
-use Rattle.prefix.specs.Trees.{Trees}
-use Rattle.prefix.specs.Reading.{Reading, accepted, refused, reading}
-use Rattle.reader.specs.Read.{longText, mostBytes}
+use Rattle.prefix.specs.Trees.{Trees, count, deepest}
+use Rattle.prefix.specs.Reading.{Reading, accepted, refused, reading, unlimitedReading, deep, treesFull}
+use Rattle.reader.specs.Records.{mostTrees}
+use Rattle.reader.specs.Read.{longText, mostBytes, mostGroups}
 use Rattle.reader.proofs.Formed.{reading-within-text}
+use Rattle.reader.proofs.LengthFirst.{first-fits, first-full, first-deep}
 use Rattle.respacer.specs.Respaced.{lineFeed, addTrees, respaced}
 use Rattle.respacer.specs.Respace.{respaceLimits, wholeReading, outputFull, Respacing, written, denied, fitted, respacingFor, answerOf}
 use Rattle.respacer.proofs.Lengths.{reading-short}
@@ -43,6 +45,24 @@ bounded text = go (leb (length text) mostBytes) refl
 
 pub respaced-length : (text : List ℕ) (trees : Trees) → wholeReading text ≡ accepted trees → Short text trees
 respaced-length text trees e = rw e at (bounded text)
+
+-- The trees of a text of at most 262,144 bytes are read if they fit,
+pub respace-fits : (text : List ℕ) (trees : Trees) → unlimitedReading text ≡ accepted trees
+    → length text ≤ mostBytes → count trees ≤ mostTrees → deepest trees ≤ mostGroups → wholeReading text ≡ accepted trees
+unfolding wholeReading
+respace-fits text = first-fits text respaceLimits
+
+-- and "12 there means over 16,384",
+pub respace-full : (text : List ℕ) (trees : Trees) → unlimitedReading text ≡ accepted trees
+    → (place : ℕ) → wholeReading text ≡ refused treesFull place → mostTrees < count trees
+unfolding wholeReading
+respace-full text = first-full text respaceLimits
+
+-- as 9 means more than 100 groups open at once.
+pub respace-deep : (text : List ℕ) (trees : Trees) → unlimitedReading text ≡ accepted trees
+    → (place : ℕ) → wholeReading text ≡ refused deep place → mostGroups < deepest trees
+unfolding wholeReading
+respace-deep text = first-deep text respaceLimits
 
 -- The count of bytes, or the place of a refusal, is small.
 pub value-bounded : (text : List ℕ) (room : ℕ) → valueOf (answerOf (respacingFor text room)) ≤ 2 * mostBytes + 1
