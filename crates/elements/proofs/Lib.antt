@@ -13,3 +13,4 @@ pub mod Shifts
 pub mod Copies
 pub mod OwnBytes
 pub mod FoundKinds
+pub mod Delimiters

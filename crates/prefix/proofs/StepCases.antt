@@ -27,6 +27,10 @@ pub data Stopped (limits : Limits) (levels : Levels) : ℕ → Type 0 where
   at-room : limits .room ≤ number levels → Stopped limits levels treesFull
   at-closer : Stopped limits levels wrongCloser
 
+-- a stop is no step onward
+pub not-more : {A : Type 0} {n p : ℕ} {after : Levels} → stop n p ≡ more after → A
+not-more e = absurd (let z : _≡_ {A = ℕ} 0 1 = cc in omega arith)
+
 -- what a step says: a stop stands at the element
 abbrev pub Says : Limits → Element → Levels → Step → Type 0
 Says limits e levels (stop n p) = (p ≡ e .first) × Stopped limits levels n

@@ -1,3 +1,4 @@
 pub mod Laws
 pub mod Table
 pub mod Single
+pub mod Legal

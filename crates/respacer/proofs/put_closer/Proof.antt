@@ -4,7 +4,7 @@ use native.Mathlib.Omega.{arith}
 use mathlib.Core.Path.{_≡_, refl, sym, _∙_}
 use mathlib.Core.List.{List, [], _∷_, _++_}
 use Prim.Native.Nat.{ℕ}
-use Rattle.respacer.specs.Respaced.{addCloser}
+use Rattle.respacer.specs.Respaced.{space, addCloser}
 use Rattle.respacer.proofs.OverLaws.{byte-length, closer-blank, element-put}
 use borrow.Author.Needs.{needs}
 use Rattle.respacer.proofs.put_closer.Statement.{statement}
@@ -26,8 +26,8 @@ returns c =
     let p = c .before .before .put-bytes .ensures in (
       omega (arith, b .0, p .0),
       λ written old e o.
-          let w : List ℕ = written ++ (32 ∷ []) in
-          let n = byte-length written 32 (a .at) _ e (b .0) in
+          let w : List ℕ = written ++ (space ∷ []) in
+          let n = byte-length written space (a .at) _ e (b .0) in
           element-put (a .text .now) (a .first) (a .end) (omega arith) (omega arith) w old _ _ _ n (p .0) (p .1 w old n (b .1 written old e o)) _ (closer-blank (a .text .now) (a .first) (a .end) written),
     )
 

@@ -4,7 +4,7 @@ use native.Mathlib.Omega.{arith}
 use mathlib.Core.Path.{_≡_, refl, sym, _∙_}
 use mathlib.Core.List.{List, [], _∷_, _++_}
 use Prim.Native.Nat.{ℕ}
-use Rattle.respacer.specs.Respaced.{addElement}
+use Rattle.respacer.specs.Respaced.{lineFeed, space, addElement}
 use Rattle.respacer.proofs.OverLaws.{byte-length, element-line, element-first, element-blank, element-put}
 use borrow.Author.Needs.{needs}
 use Rattle.respacer.proofs.put_element.Statement.{statement}
@@ -26,8 +26,8 @@ returns c =
     let p = c .before .before .put-bytes .ensures in (
       omega (arith, b .0, p .0),
       λ written old e o.
-          let w : List ℕ = written ++ (10 ∷ []) in
-          let n = byte-length written 10 (a .at) _ e (b .0) in
+          let w : List ℕ = written ++ (lineFeed ∷ []) in
+          let n = byte-length written lineFeed (a .at) _ e (b .0) in
           element-put (a .text .now) (a .first) (a .end) (omega arith) (omega arith) w old _ _ _ n (p .0) (p .1 w old n (b .1 written old e o)) _ (rw (c .before .before .before .before .before .before .before .before .if1 .taken) (element-line (a .text .now) (a .first) (a .end) written)),
     )
 
@@ -63,8 +63,8 @@ returns-3 c =
     let p = c .before .before .put-bytes3 .ensures in (
       omega (arith, b .0, p .0),
       λ written old e o.
-          let w : List ℕ = written ++ (32 ∷ []) in
-          let n = byte-length written 32 (a .at) _ e (b .0) in
+          let w : List ℕ = written ++ (space ∷ []) in
+          let n = byte-length written space (a .at) _ e (b .0) in
           element-put (a .text .now) (a .first) (a .end) (omega arith) (omega arith) w old _ _ _ n (p .0) (p .1 w old n (b .1 written old e o)) _ (rw (c .before .before .before .before .before .before .before .before .before .if1 .left) (element-blank (a .text .now) (a .first) (a .end) written (λ z. c .before .before .before .before .before .before .before .before .if2 .left (e ∙ z)))),
     )
 

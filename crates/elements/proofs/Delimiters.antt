@@ -1,0 +1,78 @@
+-- A delimiter that is found is one byte long, and `which` says which of the four it is.
+use mathlib.Core.Path.{_≡_, refl, sym, ap, _∙_}
+use mathlib.Core.List.{List, [], _∷_}
+use mathlib.Core.Bool.{Bool, true, false, cond, _&&_}
+use Prim.Native.Nat.{ℕ, _+_, _<_}
+use native.Mathlib.Omega.{arith}
+use lib.Dec.{eqb}
+use lib.ListN.{getD, take, drop}
+use Rattle.text.specs.Quoted.{byte}
+use Rattle.text.specs.Bytes.{letter, digit, nameByte}
+use Rattle.text.specs.Runs.{run}
+use Rattle.words.specs.Words.{wordNumber, taken}
+use Rattle.signs.specs.Signs.{longestSign}
+use Rattle.signs.specs.declared.Longest.{Longest}
+use Rattle.signs.proofs.Legal.{legal-single}
+use Rattle.elements.specs.Gaps.{gap}
+use Rattle.elements.specs.Numbers.{numberFrom}
+use Rattle.elements.specs.Strings.{quote, stringRest}
+use Rattle.elements.specs.Patterns.{patternRest}
+use Rattle.elements.specs.Elements.{literal, named, delimiter, signOrStray, elementFrom, afterGap, elementAt, delimiterKind, numberKind, stringKind, patternKind, signKind}
+use Rattle.elements.specs.declared.gaps.Gap.{Gap}
+use Rattle.elements.specs.declared.literals.Literal.{Literal}
+use Rattle.elements.specs.declared.Element.{Element}
+use Rattle.elements.specs.declared.Next.{Next}
+use Rattle.elements.proofs.Choices.{cond-both, cond-known}
+
+abbrev OneByte : Next → Type 0
+OneByte Next.End = Unit {0}
+OneByte (Next.Found e) = e .kind ≡ delimiterKind → (e .end ≡ e .first + 1) × (delimiter (e .which) ≡ true)
+OneByte (Next.Fault number at) = Unit {0}
+
+literal-byte : (kind : ℕ) → 0 < kind → (line : Bool) (first : ℕ) (l : Literal) → OneByte (literal kind line first l)
+literal-byte kind h line first (Literal.Ends end) = λ k. absurd (omega arith)
+literal-byte kind h line first (Literal.Fault number place) = tt
+
+named-byte : (line : Bool) (first : ℕ) (s : List ℕ) → OneByte (named line first s)
+unfolding named
+named-byte line first s =
+    let word = wordNumber (take (run nameByte s) s) in
+    cond-both OneByte (eqb word 0) (λ k. absurd (omega arith)) (cond-both OneByte (taken word) (λ k. absurd (omega arith)) tt)
+
+sign-byte : (line : Bool) (first : ℕ) (s : List ℕ) (l : Longest) → longestSign s ≡ l → OneByte (signOrStray line first l)
+sign-byte line first s Longest.None e = tt
+sign-byte line first s (Longest.Sign number n legal) e =
+    cond-known OneByte legal
+    (λ allowed k. (ap (_+_ first) (legal-single s number n (e ∙ ap (Longest.Sign number n) allowed)), only (delimiter number) refl k))
+    (λ refused. tt)
+  where
+    only : (b : Bool) → delimiter number ≡ b → cond b delimiterKind signKind ≡ delimiterKind → delimiter number ≡ true
+    only true d k = d
+    only false d k = absurd (omega arith)
+
+from-byte : (pattern line : Bool) (first : ℕ) (s : List ℕ) → OneByte (elementFrom pattern line first s)
+unfolding elementFrom
+from-byte pattern line first [] = tt
+from-byte pattern line first (b ∷ s) =
+    cond-both OneByte (letter b) (named-byte line first (b ∷ s))
+    (cond-both OneByte (digit b) (literal-byte numberKind (omega arith) line first (numberFrom first (b ∷ s)))
+    (cond-both OneByte (quote b) (literal-byte stringKind (omega arith) line first (stringRest b first false (first + 1) s))
+    (cond-both OneByte (pattern && eqb b (byte "/")) (literal-byte patternKind (omega arith) line first (patternRest first false false (first + 1) s))
+    (cond-both OneByte (eqb b (byte ".") && digit (getD s 0 0)) tt
+    (sign-byte line first (b ∷ s) (longestSign (b ∷ s)) refl)))))
+
+after-byte : (s : List ℕ) (pattern : Bool) (g : Gap) → OneByte (afterGap s pattern g)
+after-byte s pattern (Gap.Ends first line) = from-byte pattern line first (drop first s)
+after-byte s pattern (Gap.Fault number place) = tt
+
+found-delimiter : (s : List ℕ) (place : ℕ) (pattern : Bool) (e : Element) → elementAt s place pattern ≡ Next.Found e
+    → e .kind ≡ delimiterKind → (e .end ≡ e .first + 1) × (delimiter (e .which) ≡ true)
+unfolding elementAt
+found-delimiter s place pattern e f = rw f at (after-byte s pattern (gap place false (drop place s)))
+
+module _ (s : List ℕ) (place : ℕ) (pattern : Bool) (e : Element) (f : elementAt s place pattern ≡ Next.Found e) (k : e .kind ≡ delimiterKind) where
+  pub delimiter-byte : e .end ≡ e .first + 1
+  delimiter-byte = found-delimiter s place pattern e f k .0
+
+  pub delimiter-which : delimiter (e .which) ≡ true
+  delimiter-which = found-delimiter s place pattern e f k .1

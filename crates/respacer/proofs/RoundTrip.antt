@@ -1,0 +1,41 @@
+-- The round trip: what respacing keeps, and that it has nothing more to do with its own output.
+use mathlib.Core.Path.{_≡_}
+use mathlib.Core.List.{List}
+use Prim.Native.Nat.{ℕ, _≤_}
+use lib.ListN.{length}
+use Rattle.prefix.specs.Trees.{Trees, count}
+use Rattle.prefix.specs.Reading.{Limits, Reading, accepted, reading}
+use Rattle.reader.specs.Read.{mostBytes, readingFor}
+use Rattle.respacer.specs.Respaced.{respaced}
+use Rattle.respacer.specs.Respace.{wholeReading, written, respacingFor}
+use Rattle.respacer.specs.Alike.{Kept}
+use Rattle.respacer.proofs.AlikeLevels.{alike-count}
+use Rattle.respacer.proofs.ReadAgain.{read-again}
+use Rattle.respacer.proofs.CallsAgain.{kept-by-read, kept-by-respace, written-again, respacing-again}
+
+-- A respaced text, of any length, is read under the limits of its text's reading, with the same trees but for positions.
+pub round-trip : (text : List ℕ) (limits : Limits) (trees : Trees) → reading text limits ≡ accepted trees → Kept text trees (reading (respaced text trees) limits)
+round-trip = read-again
+
+-- So it is by `read`, with a table of the same length, if it has at most 262,144 bytes.
+pub read-round-trip : (text : List ℕ) (trees : Trees) → length (respaced text trees) ≤ mostBytes → (cells : ℕ) → readingFor text cells ≡ accepted trees
+    → Kept text trees (readingFor (respaced text trees) cells)
+read-round-trip = kept-by-read
+
+-- So it is by `respace`.
+pub respace-round-trip : (text : List ℕ) (trees : Trees) → length (respaced text trees) ≤ mostBytes → wholeReading text ≡ accepted trees
+    → Kept text trees (wholeReading (respaced text trees))
+respace-round-trip = kept-by-respace
+
+-- The count is the same.
+pub kept-count : (text : List ℕ) (trees : Trees) (answer : Reading) (k : Kept text trees answer) → count trees ≡ count (k .kept)
+kept-count text trees answer k = alike-count (k .alike)
+
+-- Respacing a respaced text gives it back.
+pub respaced-twice : (text : List ℕ) (trees : Trees) (answer : Reading) (k : Kept text trees answer) → respaced (respaced text trees) (k .kept) ≡ respaced text trees
+respaced-twice text trees answer k = written-again text trees k
+
+-- So it does by `respace`, with every output that it fits.
+pub respace-twice : (text : List ℕ) (room : ℕ) (bytes : List ℕ) → respacingFor text room ≡ written bytes → length bytes ≤ mostBytes
+    → (other : ℕ) → length bytes ≤ other → respacingFor bytes other ≡ written bytes
+respace-twice = respacing-again
