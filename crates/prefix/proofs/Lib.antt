@@ -9,3 +9,4 @@ pub mod Induction
 pub mod Sizes
 pub mod Unlimited
 pub mod LimitLaws
+pub mod Course

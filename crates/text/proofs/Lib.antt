@@ -1,3 +1,4 @@
 pub mod Range
 pub mod Lists
 pub mod Laws
+pub mod Members
