@@ -1,0 +1,201 @@
+-- What the token machine follows, the prefix rule reads the same: one test over the machine's table.
+use mathlib.Core.Bool.{Bool, true, false, not, cond, _&&_, _||_}
+use mathlib.Core.List.{List, [], _∷_}
+use Prim.Native.Nat.{ℕ}
+use lib.Dec.{T, eqb, eqb→eq}
+use Rattle.text.proofs.Range.{and-left, and-right}
+use Rattle.prefix.specs.Rule.{groupClass}
+use Rattle.prefix.specs.Levels.{isExpression}
+use Rattle.prefix.specs.Summary.{Summary, nothing, braceBy, slashBy, add, code}
+use Rattle.prefix.proofs.Finite.{bothBools, at-bool, allSummaries, at-summary}
+use Rattle.grammar.specs.Tokens.{pattern, divide}
+use Rattle.grammar.specs.Grammar.{Scope, body, block}
+use Rattle.grammar.specs.Machine.{
+  Ending,
+  byStatement,
+  byReturn,
+  byParen,
+  byBrace,
+  declared,
+  operandIn,
+  Control,
+  statementDue,
+  nameFirst,
+  returnFirst,
+  ifFirst,
+  operandDue,
+  operandDone,
+  dotLast,
+  functionFirst,
+  functionNamed,
+  parameterPast,
+  objectOpened,
+  propertyNamed,
+  parameterDue,
+  parameterNamed,
+  finished,
+  Effect,
+  Closing,
+  Value,
+  Action,
+  fail,
+  goto,
+  push,
+  pop,
+  finish,
+  Entry,
+  on,
+  look,
+  row,
+  endOfText,
+}
+use Rattle.text.proofs.Members.{Has, here, there, allIn, at, isIn, found}
+use Rattle.grammar.proofs.Classes.{isLeaf, treeClass}
+use Rattle.grammar.proofs.Related.{kinds, summaries, codes, related}
+use Rattle.grammar.proofs.ClassSteps.{opensGroup, openedKind, closesGroup, closesKind}
+
+-- a slash is taken as the summary answers
+unfoldable pub slashRight : Summary → ℕ → Bool
+slashRight s class = cond (eqb class pattern) (slashBy s) (cond (eqb class divide) (not (slashBy s)) true)
+
+-- a group of a kind is opened behind trees with a summary: the control inside it, and the one behind it
+unfoldable pub opensRight : ℕ → Summary → Bool → ℕ → Control → Control → Bool
+opensRight kind s line group within behind = related within group nothing && related behind kind (add (isExpression kind) s (groupClass group) line)
+
+-- What is asked of an action for a class of tokens: a tree more, a group more or a group ended leaves the machine where it may
+-- stand. The whole text, of kind 0, is no group: there the machine stops.
+unfoldable pub allows : ℕ → Summary → Bool → ℕ → Action → Bool
+allows kind s line class fail = true
+allows kind s line class (goto next effect) = slashRight s class && (isLeaf class && related next kind (add (isExpression kind) s (treeClass class) line))
+allows kind s line class (push within behind closing) =
+    slashRight s class && (opensGroup class && opensRight kind s line (openedKind (braceBy (isExpression kind) s line) class) within behind)
+allows kind s line class (pop value) = slashRight s class && (closesGroup class && (eqb kind 0 || closesKind class kind))
+allows kind s line class finish = eqb class endOfText
+
+-- the same part by part
+both : (a b : Bool) → T (a && b) → T a × T b
+both a b t = (and-left a b t, and-right a b t)
+
+three : (a b c : Bool) → T (a && (b && c)) → T a × T b × T c
+three a b c t = (and-left a (b && c) t, and-left b c (and-right a (b && c) t), and-right b c (and-right a (b && c) t))
+
+module _ (kind : ℕ) (s : Summary) (line : Bool) where
+  pub opens-right : (group : ℕ) (within behind : Control) → T (opensRight kind s line group within behind)
+      → T (related within group nothing) × T (related behind kind (add (isExpression kind) s (groupClass group) line))
+  unfolding opensRight
+  opens-right group within behind = both (related within group nothing) (related behind kind (add (isExpression kind) s (groupClass group) line))
+
+  module _ (class : ℕ) where
+    pub goto-allowed : (next : Control) (effect : Effect) → T (allows kind s line class (goto next effect))
+        → T (slashRight s class) × T (isLeaf class) × T (related next kind (add (isExpression kind) s (treeClass class) line))
+    unfolding allows
+    goto-allowed next effect = three (slashRight s class) (isLeaf class) (related next kind (add (isExpression kind) s (treeClass class) line))
+
+    pub push-allowed : (within behind : Control) (closing : Closing) → T (allows kind s line class (push within behind closing))
+        → T (slashRight s class) × T (opensGroup class) × T (opensRight kind s line (openedKind (braceBy (isExpression kind) s line) class) within behind)
+    unfolding allows
+    push-allowed within behind closing =
+        three (slashRight s class) (opensGroup class) (opensRight kind s line (openedKind (braceBy (isExpression kind) s line) class) within behind)
+
+    pub pop-allowed : (value : Value) → T (allows kind s line class (pop value))
+        → T (slashRight s class) × T (closesGroup class) × T (eqb kind 0 || closesKind class kind)
+    unfolding allows
+    pop-allowed value = three (slashRight s class) (closesGroup class) (eqb kind 0 || closesKind class kind)
+
+    pub finish-allowed : T (allows kind s line class finish) → T (eqb class endOfText)
+    unfolding allows
+    finish-allowed t = t
+
+-- the test of a control: all entries of its rows, wherever it may stand
+abbrev allowsEntry : ℕ → Summary → Bool → Entry → Bool
+allowsEntry kind s line (on class action) = allows kind s line class action
+
+abbrev implies : Bool → Bool → Bool
+implies true b = b
+implies false b = true
+
+unfoldable passes : Control → ℕ → Summary → Bool
+passes control kind s = implies (related control kind s) (bothBools λ line. allIn (allowsEntry kind s line) (row control line))
+
+unfoldable test : Control → Bool
+test control = allIn (λ kind. allSummaries λ s. passes control kind s) (kinds control)
+
+-- all endings and scopes
+abbrev scopes : List Scope
+scopes = body ∷ block ∷ []
+
+a-scope : (scope : Scope) → Has scope scopes
+a-scope body = here
+a-scope block = there here
+
+abbrev endings : List Ending
+endings = byStatement body ∷ byStatement block ∷ byReturn body ∷ byReturn block ∷ byParen ∷ byBrace ∷ []
+
+an-ending : (ending : Ending) → Has ending endings
+an-ending (byStatement body) = here
+an-ending (byStatement block) = there here
+an-ending (byReturn body) = there (there here)
+an-ending (byReturn block) = there (there (there here))
+an-ending byParen = there (there (there (there here)))
+an-ending byBrace = there (there (there (there (there here))))
+
+each-scope : (control : Scope → Control) → T (allIn (λ scope. test (control scope)) scopes) → (scope : Scope) → T (test (control scope))
+each-scope control t scope = at (λ scope. test (control scope)) (a-scope scope) t
+
+each-ending : (control : Ending → Bool → Control) → T (allIn (λ ending. bothBools λ target. test (control ending target)) endings)
+    → (ending : Ending) (target : Bool) → T (test (control ending target))
+each-ending control t ending target =
+    at-bool (λ target. test (control ending target)) (at (λ ending. bothBools λ target. test (control ending target)) (an-ending ending) t) target
+
+passed : (control : Control) → T (test control)
+unfolding test passes related allows opensRight slashRight isLeaf treeClass groupClass
+passed (statementDue true scope) = each-scope (statementDue true) tt scope
+passed (statementDue false scope) = each-scope (statementDue false) tt scope
+passed (nameFirst scope) = each-scope nameFirst tt scope
+passed (returnFirst scope) = each-scope returnFirst tt scope
+passed (ifFirst scope) = each-scope ifFirst tt scope
+passed (operandDue ending target) = each-ending operandDue tt ending target
+passed (operandDone ending target) = each-ending operandDone tt ending target
+passed (dotLast ending target) = each-ending dotLast tt ending target
+passed (functionFirst declared) = tt
+passed (functionFirst (operandIn ending target)) = each-ending (λ ending target. functionFirst (operandIn ending target)) tt ending target
+passed (functionNamed declared) = tt
+passed (functionNamed (operandIn ending target)) = each-ending (λ ending target. functionNamed (operandIn ending target)) tt ending target
+passed (parameterPast declared) = tt
+passed (parameterPast (operandIn ending target)) = each-ending (λ ending target. parameterPast (operandIn ending target)) tt ending target
+passed objectOpened = tt
+passed propertyNamed = tt
+passed parameterDue = tt
+passed parameterNamed = tt
+passed finished = tt
+
+-- the entry of a class, if each entry of the row is as asked
+looked : (kind : ℕ) (s : Summary) (line : Bool) (entries : List Entry) (class : ℕ) → T (allIn (allowsEntry kind s line) entries)
+    → T (allows kind s line class (look class entries))
+unfolding allows
+looked kind s line [] class t = tt
+looked kind s line (on x action ∷ rest) class t =
+    go (eqb class x) (λ h. h) (looked kind s line rest class (and-right (allows kind s line x action) (allIn (allowsEntry kind s line) rest) t))
+  where
+    go : (b : Bool) → (T b → T (eqb class x)) → T (allows kind s line class (look class rest)) → T (allows kind s line class (cond b action (look class rest)))
+    go true h r = rw (eqb→eq class x (h tt)) (and-left (allows kind s line x action) (allIn (allowsEntry kind s line) rest) t)
+    go false h r = r
+
+implied : (a b : Bool) → T (implies a b) → T a → T b
+implied true b t s = t
+implied false b t s = absurd s
+
+-- where a control may stand, each of its actions is as asked
+pub rule : (control : Control) (kind : ℕ) (s : Summary) → T (related control kind s) → (line : Bool) (class : ℕ)
+    → T (allows kind s line class (look class (row control line)))
+unfolding test passes related
+rule control kind s r line class =
+    looked kind s line (row control line) class
+    (at-bool (λ line. allIn (allowsEntry kind s line) (row control line))
+    (implied (related control kind s) (bothBools λ line. allIn (allowsEntry kind s line) (row control line))
+    (at-summary (λ s. passes control kind s)
+    (at (λ kind. allSummaries λ s. passes control kind s)
+    (found (kinds control) kind (and-left (isIn (kinds control) kind) (isIn (codes (summaries control)) (code s)) r)) (passed control))
+    s)
+    r)
+    line)

@@ -1,0 +1,141 @@
+-- What an expression begins with; where a statement or a returned value may begin, the machine takes it as an expression.
+use mathlib.Core.Path.{_≡_, refl, _∙_, ap}
+use mathlib.Core.Bool.{Bool, true, false, not}
+use mathlib.Core.List.{List, [], _∷_}
+use Prim.Native.Nat.{ℕ}
+use lib.Dec.{T, eqb}
+use Rattle.grammar.specs.Tokens.{Token, token, Spot, name, number, string, pattern, colon, semicolon, openParen, openBrace, functionWord}
+use Rattle.grammar.specs.Syntax.{Syntax, nil, node}
+use Rattle.grammar.specs.Grammar.{
+  Leaf,
+  leaf-name,
+  leaf-number,
+  leaf-string,
+  leaf-pattern,
+  operators,
+  isOperator,
+  startsExpression,
+  onSameLine,
+  Scope,
+  Chain,
+  chain-leaf,
+  chain-empty,
+  chain-object,
+  chain-parens,
+  chain-function,
+  chain-call,
+  chain-member,
+  Binary,
+  binary-chain,
+  binary-operator,
+  Assign,
+  assign-binary,
+  assign-to,
+}
+use Rattle.grammar.specs.Machine.{
+  Pending,
+  Frame,
+  frame,
+  statementDue,
+  nameFirst,
+  returnFirst,
+  operandDue,
+  operandDone,
+  byStatement,
+  byReturn,
+  takeLabel,
+  endBareReturn,
+  Action,
+  goto,
+  Entry,
+  look,
+  operand,
+  afterOperand,
+  unlessLine,
+  Held,
+  live,
+  act,
+  run,
+}
+use Rattle.grammar.proofs.TableLaws.{at-operator, look-past, no-line}
+
+-- a token comes, and it is no `:`
+abbrev pub noColon : List Token → Bool
+noColon [] = false
+noColon (token class spot ∷ rest) = not (eqb class colon)
+
+-- the tokens begin as an expression does, and not as a label does
+pub data Begins : List Token → Type 0 where
+  by-name : {spot : Spot} {rest : List Token} → T (noColon rest) → Begins (token name spot ∷ rest)
+  by-number : {spot : Spot} {rest : List Token} → Begins (token number spot ∷ rest)
+  by-string : {spot : Spot} {rest : List Token} → Begins (token string spot ∷ rest)
+  by-pattern : {spot : Spot} {rest : List Token} → Begins (token pattern spot ∷ rest)
+  by-parens : {spot : Spot} {rest : List Token} → Begins (token openParen spot ∷ rest)
+  by-object : {spot : Spot} {rest : List Token} → Begins (token openBrace spot ∷ rest)
+  by-function : {spot : Spot} {rest : List Token} → Begins (token functionWord spot ∷ rest)
+
+leaf-begins : {class : ℕ} (spot : Spot) (rest : List Token) → Leaf class → T (noColon rest) → Begins (token class spot ∷ rest)
+leaf-begins spot rest leaf-name next = by-name next
+leaf-begins spot rest leaf-number next = by-number
+leaf-begins spot rest leaf-string next = by-string
+leaf-begins spot rest leaf-pattern next = by-pattern
+
+chain-begins : {before after : List Token} {value : Syntax} → Chain before after value → T (noColon after) → Begins before
+chain-begins (chain-leaf {spot = spot} {after = after} leaf) next = leaf-begins spot after leaf next
+chain-begins chain-empty next = by-object
+chain-begins (chain-object value) next = by-object
+chain-begins (chain-parens value) next = by-parens
+chain-begins (chain-function called) next = by-function
+chain-begins (chain-call callee value) next = chain-begins callee tt
+chain-begins (chain-member object) next = chain-begins object tt
+
+operator-no-colon : (class : ℕ) → T (isOperator class) → T (not (eqb class colon))
+operator-no-colon class h = at-operator (λ x. not (eqb x colon)) operators class h tt
+
+binary-begins : {least : ℕ} {before after : List Token} {value : Syntax} → Binary least before after value → T (noColon after) → Begins before
+binary-begins (binary-chain chain) next = chain-begins chain next
+binary-begins (binary-operator {class = class} op tight left right) next = binary-begins left (operator-no-colon class op)
+
+pub assign-begins : {before after : List Token} {value : Syntax} → Assign before after value → T (noColon after) → Begins before
+assign-begins (assign-binary binary) next = binary-begins binary next
+assign-begins (assign-to target value) next = chain-begins target tt
+
+-- a name before no `:` is an operand
+name-is-operand : (scope : Scope) (f : Frame) (around : List Held) (rest : List Token) → T (noColon rest)
+    → run (live (nameFirst scope) f around) rest ≡ run (live (operandDone (byStatement scope) true) f around) rest
+name-is-operand scope f around [] next = absurd next
+name-is-operand scope f around (token class spot ∷ rest) next =
+    ap (λ (z : Action). run (act z (spot .mark) f around) rest)
+    (look-past class colon (goto (statementDue true scope) takeLabel) (afterOperand (byStatement scope) true) next)
+
+-- "not starting with `{` or `function`": a statement that begins as an expression is taken as one
+pub expression-is-taken : (must : Bool) (scope : Scope) (done : Syntax) (starts : List Pending) (around : List Held) {before : List Token}
+    → Begins before → T (startsExpression before)
+    → run (live (statementDue must scope) (frame done starts [] nil) around) before
+    ≡ run (live (operandDue (byStatement scope) true) (frame done starts [] nil) around) before
+expression-is-taken must scope done starts around (by-name {spot = spot} {rest = rest} next) allowed =
+    name-is-operand scope (frame done starts [] (node name (spot .mark) nil nil)) around rest next
+expression-is-taken must scope done starts around by-number allowed = refl
+expression-is-taken must scope done starts around by-string allowed = refl
+expression-is-taken must scope done starts around by-pattern allowed = refl
+expression-is-taken must scope done starts around by-parens allowed = refl
+expression-is-taken must scope done starts around by-object allowed = absurd allowed
+expression-is-taken must scope done starts around by-function allowed = absurd allowed
+
+begins-no-semicolon : {class : ℕ} {spot : Spot} {rest : List Token} → Begins (token class spot ∷ rest) → T (not (eqb class semicolon))
+begins-no-semicolon (by-name next) = tt
+begins-no-semicolon by-number = tt
+begins-no-semicolon by-string = tt
+begins-no-semicolon by-pattern = tt
+begins-no-semicolon by-parens = tt
+begins-no-semicolon by-object = tt
+begins-no-semicolon by-function = tt
+
+-- "with no line end after `return`": a value is taken
+pub value-is-returned : (scope : Scope) (f : Frame) (around : List Held) (before : List Token) → Begins before → T (onSameLine before)
+    → run (live (returnFirst scope) f around) before ≡ run (live (operandDue (byReturn scope) true) f around) before
+value-is-returned scope f around (token class spot ∷ rest) begins same =
+    ap (λ (z : Action). run (act z (spot .mark) f around) rest)
+    (look-past class semicolon (goto (statementDue false scope) endBareReturn) (unlessLine (spot .line) (operand (byReturn scope) true))
+    (begins-no-semicolon begins)
+    ∙ ap (λ (z : List Entry). look class z) (no-line (spot .line) (operand (byReturn scope) true) same))

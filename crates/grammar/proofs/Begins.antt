@@ -1,0 +1,100 @@
+-- The elements of a text begin a program exactly as long as the machine follows them.
+use mathlib.Core.Path.{_≡_, refl, sym, ap, subst, _∙_}
+use mathlib.Core.List.{List, [], _∷_, _++_}
+use mathlib.Core.Bool.{Bool, false, cond}
+use Prim.Native.Nat.{ℕ, _+_}
+use native.Mathlib.Omega.{arith}
+use Rattle.elements.specs.Elements.{elementAt}
+use Rattle.elements.specs.declared.Element.{Element}
+use Rattle.elements.specs.declared.Next.{Next}
+use Rattle.grammar.specs.Cuts.{isCloser, marked, Cuts, cut-end, cut-element, cut-slash}
+use Rattle.grammar.specs.Tokens.{Token, token, classOf, tokenOf, tokensFrom, tokens}
+use Rattle.grammar.specs.Syntax.{Syntax}
+use Rattle.grammar.specs.Grammar.{Program}
+use Rattle.grammar.specs.Derivations.{Derivation, SameElements, no-elements, same-element, BeginsProgram}
+use Rattle.grammar.specs.Machine.{State, dead, live, Control, Frame, Held, finished, take, run, start}
+use Rattle.grammar.proofs.ReadCuts.{CutsInto}
+use Rattle.grammar.proofs.Spelling.{spelled, placedFrom, spelled-cuts, behindAll, placed-append}
+use Rattle.grammar.proofs.Respelled.{Pieces, piece-more}
+use Rattle.grammar.proofs.CompletedTexts.{Completed, completed}
+use Rattle.grammar.proofs.Viable.{Viable, viable, refused}
+use Rattle.grammar.proofs.Unfinished.{unfinished}
+use Rattle.grammar.proofs.TokenLaws.{tokens-before-end}
+
+-- the machine does not look at the place of a token
+take-same : (state : State) (mark : ℕ) (e f : Element) → classOf e ≡ classOf f → e .line ≡ f .line → take state (tokenOf mark e) ≡ take state (tokenOf mark f)
+take-same dead mark e f c l = refl
+take-same (live control g around) mark e f c l = rw (c, l)
+
+class-same : (e f : Element) → e .kind ≡ f .kind → e .which ≡ f .which → classOf e ≡ classOf f
+unfolding classOf
+class-same e f k w = rw (k, w)
+
+closer-same : (e f : Element) → e .kind ≡ f .kind → e .which ≡ f .which → isCloser e ≡ isCloser f
+closer-same e f k w = rw (k, w)
+
+pub run-same : {s t : List ℕ} {es fs : List Element} → SameElements s t es fs → (mark : ℕ) (state : State) → run state (tokensFrom mark es) ≡ run state (tokensFrom mark fs)
+unfolding tokensFrom
+run-same no-elements mark state = refl
+run-same (same-element {e} {f} {es} {fs} k w l b rest) mark state =
+    ap (λ (after : State). run after (tokensFrom (cond (isCloser e) mark (mark + 1)) es)) (take-same state mark e f (class-same e f k w) l)
+    ∙ ap (λ (b : Bool). run (take state (tokenOf mark f)) (tokensFrom (cond b mark (mark + 1)) es)) (closer-same e f k w)
+    ∙ run-same rest (cond (isCloser f) mark (mark + 1)) (take state (tokenOf mark f))
+
+-- tokens of elements one after the other
+abbrev marksAfter : ℕ → List Element → ℕ
+marksAfter mark [] = mark
+marksAfter mark (e ∷ es) = marksAfter (cond (isCloser e) mark (mark + 1)) es
+
+pub tokens-append : (mark : ℕ) (es fs : List Element) → tokensFrom mark (es ++ fs) ≡ tokensFrom mark es ++ tokensFrom (marksAfter mark es) fs
+unfolding tokensFrom
+tokens-append mark [] fs = refl
+tokens-append mark (e ∷ es) fs = ap (_∷_ (tokenOf mark e)) (tokens-append (cond (isCloser e) mark (mark + 1)) es fs)
+
+-- the first elements of a text, as pieces
+module _ (s : List ℕ) where
+  one-more : (place : ℕ) (e g : Element) (es : List Element) (answer : Bool) → elementAt s place answer ≡ Next.Found e → Pieces s es → marked e ≡ g → Pieces s (g ∷ es)
+  one-more place e g es answer f rest q = subst (λ (x : Element). Pieces s (x ∷ es)) q (piece-more s place e es answer f rest)
+
+  first-pieces : {place : ℕ} {choice : List Bool} {all : List Element} → Cuts s place choice all → (es rest : List Element) → all ≡ es ++ rest → Pieces s es
+  first-pieces cut [] rest q = record { pieces = []; same = λ u more. no-elements }
+  first-pieces (cut-end x) (e ∷ es) rest q = absurd (let z : _≡_ {A = ℕ} 0 1 = cc in omega arith)
+  first-pieces (cut-element {place} {e} m f cut) (g ∷ es) rest q = one-more place e g es false f (first-pieces cut es rest (cc)) (cc)
+  first-pieces (cut-slash {place} {e} {answer} m f cut) (g ∷ es) rest q = one-more place e g es answer f (first-pieces cut es rest (cc)) (cc)
+
+module _ (s : List ℕ) (all es rest : List Element) (cuts : CutsInto s 0 all) (split : all ≡ es ++ rest) where
+  -- as long as it follows them, some text begins so and is a program
+  pub begins : (control : Control) (f : Frame) (around : List Held) → run start (tokens es) ≡ live control f around → (control ≡ finished → ⊥) → BeginsProgram s es
+  begins control f around r going =
+      let p = first-pieces s (cuts .cut) es rest split in
+      let firsts = placedFrom 0 (p .pieces) in
+      let v = viable (tokens firsts) control f around (sym (run-same (p .same [] []) 0 start) ∙ r) going in
+      let c = completed (v .spelled) in
+      let more = placedFrom (behindAll 0 (p .pieces)) (c .pieces) in
+      let cut = spelled-cuts [] (p .pieces ++ c .pieces) in
+      let program = v .completes (tokensFrom (marksAfter 0 firsts) more) (c .are (marksAfter 0 firsts) (behindAll 0 (p .pieces))) in
+      let elements = placed-append 0 (p .pieces) (c .pieces) in
+      record {
+        other = spelled (p .pieces ++ c .pieces);
+        derivation = record {
+          choice = cut .choice;
+          elements = placedFrom 0 (p .pieces ++ c .pieces);
+          cut = cut .cut;
+          parts = program .0;
+          steps = subst (λ (ts : List Token). Program ts (program .0)) (sym (ap tokens elements ∙ tokens-append 0 firsts more)) (program .1);
+        };
+        firsts = firsts;
+        more = more;
+        starts = elements;
+        same = p .same [] (c .pieces);
+      }
+
+-- where it follows them no longer, none does
+pub begins-not : (s : List ℕ) (es : List Element) → run start (tokens es) ≡ dead → BeginsProgram s es → ⊥
+begins-not s es r b =
+    refused (tokens (b .firsts)) (sym (run-same (b .same) 0 start) ∙ r) (tokensFrom (marksAfter 0 (b .firsts)) (b .more)) (b .derivation .parts)
+    (subst (λ (ts : List Token). Program ts (b .derivation .parts)) (ap tokens (b .starts) ∙ tokens-append 0 (b .firsts) (b .more)) (b .derivation .steps))
+
+-- no element is the end of the text
+pub still-going : (es : List Element) (control : Control) (f : Frame) (around : List Held) → run start (tokens es) ≡ live control f around → control ≡ finished → ⊥
+still-going es control f around r = unfinished (tokens-before-end 0 es) control f around r

@@ -1,0 +1,205 @@
+-- Short texts, as one table and one test: which of them the token machine takes for programs, what records it makes of them, and
+-- how far it follows the others.
+use mathlib.Core.Bool.{Bool, true, false, cond, _&&_}
+use mathlib.Core.List.{List, [], _∷_}
+use mathlib.Core.Path.{_≡_, refl}
+use Prim.Native.Nat.{ℕ, _+_}
+use Prim.Native.String.{String}
+use lib.Dec.{eqb}
+use Rattle.text.specs.Quoted.{byte, bytes}
+use Rattle.text.specs.Runs.{same}
+use Rattle.grammar.specs.Tokens.{
+  Token,
+  token,
+  name,
+  number,
+  string,
+  pattern,
+  divide,
+  plus,
+  assign,
+  colon,
+  semicolon,
+  dot,
+  openParen,
+  closeParen,
+  openBrace,
+  closeBrace,
+  returnWord,
+  functionWord,
+  ifWord,
+}
+use Rattle.grammar.specs.Syntax.{
+  Syntax,
+  nil,
+  syntaxRecords,
+  programTree,
+}
+use Rattle.grammar.specs.Machine.{State, dead, live, take, run, start, doneOf, endOfText}
+use Rattle.grammar.proofs.ClassSteps.{closesGroup}
+use Rattle.grammar.proofs.InStep.{isLive}
+
+-- The texts are spelled with a byte for a token: `P` is a regular expression, `S` a string, and `F`, `I` and `R` are the words
+-- `function`, `if` and `return`. Every other letter is a name.
+data Spelling : Type 0 where
+  spells : ℕ → ℕ → Spelling
+
+abbrev spellings : List Spelling
+spellings =
+    spells (byte "1") number
+    ∷ spells (byte "S") string
+    ∷ spells (byte "P") pattern
+    ∷ spells (byte "/") divide
+    ∷ spells (byte "+") plus
+    ∷ spells (byte "=") assign
+    ∷ spells (byte ":") colon
+    ∷ spells (byte ";") semicolon
+    ∷ spells (byte ".") dot
+    ∷ spells (byte "(") openParen
+    ∷ spells (byte ")") closeParen
+    ∷ spells (byte "{") openBrace
+    ∷ spells (byte "}") closeBrace
+    ∷ spells (byte "R") returnWord
+    ∷ spells (byte "F") functionWord
+    ∷ spells (byte "I") ifWord
+    ∷ []
+
+abbrev spelledIn : List Spelling → ℕ → ℕ
+spelledIn [] b = name
+spelledIn (spells x class ∷ rest) b = cond (eqb b x) class (spelledIn rest b)
+
+abbrev spelled : ℕ → ℕ
+spelled b = spelledIn spellings b
+
+-- the tokens with the text's end behind them; a line end is marked, and a blank passed over
+abbrev tokensFrom : Bool → ℕ → List ℕ → List Token
+tokensFrom line mark [] = token endOfText (record { line = line; mark = mark; first = 0 }) ∷ []
+tokensFrom line mark (b ∷ rest) =
+    elim (eqb b (byte "\n")) [
+      | true ↦ tokensFrom true mark rest
+      | false ↦
+          elim (eqb b (byte " ")) [
+            | true ↦ tokensFrom line mark rest
+            | false ↦
+                token (spelled b) (record { line = line; mark = mark; first = 0 }) ∷ tokensFrom false (cond (closesGroup (spelled b)) mark (mark + 1)) rest
+          ]
+    ]
+
+abbrev tokens : String → List Token
+tokens t = tokensFrom false 0 (bytes t)
+
+-- how many of them the machine follows
+abbrev followed : State → List Token → ℕ
+followed state [] = 0
+followed state (t ∷ ts) = elim (isLive (take state t)) [ true ↦ followed (take state t) ts + 1 | false ↦ 0 ]
+
+abbrev isProgram : String → Bool
+isProgram t = isLive (run start (tokens t))
+
+-- the records that it makes; the mark of the text's end is the number of tree records
+abbrev endMark : List Token → ℕ
+endMark [] = 0
+endMark (token class spot ∷ ts) = cond (eqb class endOfText) (spot .mark) (endMark ts)
+
+abbrev partsOf : State → Syntax
+partsOf dead = nil
+partsOf (live control f around) = doneOf f
+
+unfoldable records : String → List ℕ
+records t = syntaxRecords (programTree (endMark (tokens t)) (partsOf (run start (tokens t))))
+
+-- a program; a program with its syntax records; and what is refused, with the number of tokens that are followed
+data Case : Type 0 where
+  program : String → Case
+  parsed : String → List ℕ → Case
+  refused : ℕ → String → Case
+
+unfoldable right : Case → Bool
+right (program t) = isProgram t
+right (parsed t cells) = isProgram t && same (records t) cells
+right (refused n t) = eqb (followed start (tokens t)) n
+
+table : List Case
+table =
+    -- Document 01, Readings
+    program ""
+    ∷ program "P;"
+    ∷ program "a/b/c;"
+    ∷ program "{} P;"
+    ∷ program "x={}/a/b;"
+    ∷ program "I(a) P;"
+    ∷ program "f(a)/b/c;"
+    ∷ program "F f(x){} P;"
+    ∷ program "y=F f(x){}/a/b;"
+    ∷ program "x:{} P;"
+    ∷ program "y={x:{}/a/b};"
+    ∷ program "R{}/a/b;"
+    ∷ refused 1 "R\n{} P;"
+    ∷ program "a=P;"
+    ∷ refused 1 "a"
+    ∷ refused 2 "a.I(b) P;"
+    -- the same slashes taken otherwise
+    ∷ refused 0 "/a/;"
+    ∷ refused 1 "aPb;"
+    ∷ refused 2 "{}/a;"
+    ∷ refused 4 "x={}P;"
+    ∷ refused 4 "I(a)/b;"
+    ∷ refused 7 "F f(x){}/a;"
+    ∷ refused 9 "y=F f(x){}P;"
+    -- statements
+    ∷ program "R;"
+    ∷ program "R\n;"
+    ∷ refused 1 "R\na;"
+    ∷ program "I(a)I(b){}"
+    ∷ refused 4 "I(a)"
+    ∷ refused 1 "I a;"
+    ∷ program "a:b:c;"
+    ∷ refused 2 "a:"
+    ∷ program "{a:b;}"
+    ∷ refused 4 "{a:b}"
+    ∷ refused 0 ";"
+    ∷ refused 0 "}"
+    ∷ refused 1 "{"
+    -- declarations stand in bodies alone
+    ∷ program "F f(x){F g(y){}}"
+    ∷ refused 1 "{F f(x){}}"
+    ∷ refused 4 "I(a)F f(x){}"
+    ∷ refused 2 "a:F f(x){}"
+    ∷ refused 1 "F(x){}"
+    ∷ refused 3 "F f(){}"
+    ∷ refused 5 "F f(x);"
+    -- expressions
+    ∷ program "1+S;"
+    ∷ program "(a)(b);"
+    ∷ program "({});"
+    ∷ program "(F f(x){});"
+    ∷ program "a.b.c=d=e;"
+    ∷ program "1=(a=b)=c;"
+    ∷ refused 3 "a+b=c;"
+    ∷ refused 5 "a=b+c=d;"
+    ∷ refused 2 "f();"
+    ∷ refused 1 "();"
+    ∷ refused 6 "x={a:b:c};"
+    ∷ refused 3 "x={1:a};"
+    ∷ refused 2 "a.1;"
+    ∷ refused 2 "({)"
+    ∷ refused 2 "(a}"
+    ∷ refused 3 "f(a;"
+    -- records: kind, mark and size of each part
+    ∷ parsed "" (20 ∷ 0 ∷ 1 ∷ [])
+    ∷ parsed "a={b:P}/c;" (1 ∷ 0 ∷ 1 ∷ 4 ∷ 5 ∷ 1 ∷ 5 ∷ 2 ∷ 2 ∷ 1 ∷ 7 ∷ 1 ∷ 10 ∷ 6 ∷ 4 ∷ 12 ∷ 1 ∷ 6 ∷ 13 ∷ 8 ∷ 7 ∷ 20 ∷ 9 ∷ 8 ∷ [])
+    ∷ parsed "a+b/c+d;" (1 ∷ 0 ∷ 1 ∷ 1 ∷ 2 ∷ 1 ∷ 1 ∷ 4 ∷ 1 ∷ 10 ∷ 3 ∷ 3 ∷ 11 ∷ 1 ∷ 5 ∷ 1 ∷ 6 ∷ 1 ∷ 11 ∷ 5 ∷ 7 ∷ 13 ∷ 7 ∷ 8 ∷ 20 ∷ 8 ∷ 9 ∷ [])
+    ∷ parsed "a.b(c);" (1 ∷ 0 ∷ 1 ∷ 8 ∷ 2 ∷ 2 ∷ 1 ∷ 4 ∷ 1 ∷ 9 ∷ 3 ∷ 4 ∷ 13 ∷ 5 ∷ 5 ∷ 20 ∷ 6 ∷ 6 ∷ [])
+    ∷ parsed "F f(x){R x;}" (1 ∷ 6 ∷ 1 ∷ 15 ∷ 5 ∷ 2 ∷ 19 ∷ 0 ∷ 3 ∷ 20 ∷ 8 ∷ 4 ∷ [])
+    ∷ parsed "I(a){b:R;}" (1 ∷ 2 ∷ 1 ∷ 14 ∷ 6 ∷ 1 ∷ 17 ∷ 4 ∷ 2 ∷ 16 ∷ 3 ∷ 3 ∷ 18 ∷ 0 ∷ 5 ∷ 20 ∷ 8 ∷ 6 ∷ [])
+    ∷ parsed "(F f(x){})(1);" (7 ∷ 1 ∷ 1 ∷ 6 ∷ 0 ∷ 2 ∷ 2 ∷ 7 ∷ 1 ∷ 9 ∷ 6 ∷ 4 ∷ 13 ∷ 8 ∷ 5 ∷ 20 ∷ 9 ∷ 6 ∷ [])
+    ∷ []
+
+-- those that are not as the table says
+abbrev failures : List Case → List Case
+failures [] = []
+failures (c ∷ rest) = elim (right c) [ true ↦ failures rest | false ↦ c ∷ failures rest ]
+
+no-failures : failures table ≡ []
+unfolding table right records syntaxRecords same
+no-failures = refl

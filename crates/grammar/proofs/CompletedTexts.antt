@@ -1,0 +1,77 @@
+-- The spelling of a completion: each of its classes has an element of its own.
+use mathlib.Core.Path.{_≡_, refl, sym, ap, subst, _∙_}
+use mathlib.Core.List.{List, [], _∷_, _++_}
+use mathlib.Core.Bool.{Bool, true, false, cond}
+use Prim.Native.Nat.{ℕ, _+_, _-_}
+use lib.ListN.{length, take, drop}
+use Rattle.text.specs.Quoted.{byte, bytes}
+use Rattle.text.specs.Bytes.{blank, lineEnd, illegal, letter, digit, nameByte}
+use Rattle.text.specs.Runs
+use Rattle.words.specs.Words.{placeIn, wordNumber, taken}
+use Rattle.signs.specs.Signs.{longestSign, longestOf}
+use Rattle.elements.specs.Gaps.{gap, afterSlash, inLine, inBlock}
+use Rattle.elements.specs.Strings.{quote}
+use Rattle.elements.specs.Elements.{elementAt, elementFrom, named, delimiter}
+use Rattle.elements.specs.declared.Element.{Element}
+use Rattle.elements.specs.declared.Next.{Next}
+use Rattle.grammar.specs.Cuts.{isCloser, marked}
+use Rattle.grammar.specs.Tokens.{Token, token, classOf, tokenOf, tokensFrom}
+use Rattle.grammar.proofs.Completion.{
+  Spelled,
+  spelled-name,
+  spelled-colon,
+  spelled-semicolon,
+  spelled-open-paren,
+  spelled-close-paren,
+  spelled-open-brace,
+  spelled-close-brace,
+  spelled-return,
+  AllSpelled,
+  none-spelled,
+  more-spelled,
+  OfClasses,
+  no-tokens,
+  more-tokens,
+}
+use Rattle.grammar.proofs.Spelling.{Piece, moved, placedFrom}
+
+-- an element of a class, as a piece
+record Spelling (class : ℕ) : Type 0 where
+  piece : Piece
+  is : (n : ℕ) → classOf (marked (moved n piece)) ≡ class
+
+-- a spelling by a text of its own
+made : (class : ℕ) (s : List ℕ) (e : Element) → elementAt s 0 false ≡ Next.Found e → classOf e ≡ class → Spelling class
+unfolding classOf
+made class s e found c = record { piece = record { source = s; place = 0; answer = false; element = e; found = found; line = false }; is = λ n. c }
+
+spelling : {class : ℕ} → Spelled class → Spelling class
+unfolding elementAt gap elementFrom named letter digit nameByte blank lineEnd illegal quote placeIn wordNumber taken delimiter longestSign longestOf Runs.same Runs.run classOf
+spelling spelled-name = made _ (bytes "a ") _ refl refl
+spelling spelled-colon = made _ (bytes ": ") _ refl refl
+spelling spelled-semicolon = made _ (bytes "; ") _ refl refl
+spelling spelled-open-paren = made _ (bytes "( ") _ refl refl
+spelling spelled-close-paren = made _ (bytes ") ") _ refl refl
+spelling spelled-open-brace = made _ (bytes "{ ") _ refl refl
+spelling spelled-close-brace = made _ (bytes "} ") _ refl refl
+spelling spelled-return = made _ (bytes "return ") _ refl refl
+
+-- pieces that are cut into tokens of the classes, wherever they stand
+pub record Completed (classes : List ℕ) : Type 0 where
+  pub pieces : List Piece
+  pub are : (mark place : ℕ) → OfClasses classes (tokensFrom mark (placedFrom place pieces))
+
+pub completed : {classes : List ℕ} → AllSpelled classes → Completed classes
+unfolding tokensFrom
+completed none-spelled = record { pieces = []; are = λ mark place. no-tokens }
+completed (more-spelled {classes = classes} one all) =
+    let s = spelling one in
+    let rest = completed all in
+    let size = s .piece .element .end - s .piece .element .first in
+    record {
+      pieces = s .piece ∷ rest .pieces;
+      are = λ mark place.
+          let e = marked (moved place (s .piece)) in
+          subst (λ (class : ℕ). OfClasses (class ∷ classes) (tokensFrom mark (placedFrom place (s .piece ∷ rest .pieces)))) (s .is place)
+          (more-tokens (rest .are (cond (isCloser e) mark (mark + 1)) (place + 1 + size)));
+    }

@@ -1,0 +1,51 @@
+-- Tokens that take the machine to where a program may end, given by their classes alone: each has a spelling of its own, and
+-- where they stand does not matter.
+use mathlib.Core.Path.{_≡_}
+use mathlib.Core.Bool.{false}
+use mathlib.Core.List.{List, [], _∷_}
+use Prim.Native.Nat.{ℕ}
+use Rattle.grammar.specs.Tokens.{Token, token, Spot, name, colon, semicolon, openParen, closeParen, openBrace, closeBrace, returnWord}
+use Rattle.grammar.specs.Grammar.{body}
+use Rattle.grammar.specs.Machine.{Frame, Control, statementDue, Held, State, live, take, run}
+
+-- the classes that a completion needs; no slash is among them, and nothing that starts with one
+pub data Spelled : ℕ → Type 0 where
+  spelled-name : Spelled name
+  spelled-colon : Spelled colon
+  spelled-semicolon : Spelled semicolon
+  spelled-open-paren : Spelled openParen
+  spelled-close-paren : Spelled closeParen
+  spelled-open-brace : Spelled openBrace
+  spelled-close-brace : Spelled closeBrace
+  spelled-return : Spelled returnWord
+
+pub data AllSpelled : List ℕ → Type 0 where
+  none-spelled : AllSpelled []
+  more-spelled : {class : ℕ} {classes : List ℕ} → Spelled class → AllSpelled classes → AllSpelled (class ∷ classes)
+
+-- tokens of these classes, wherever they stand
+pub data OfClasses : List ℕ → List Token → Type 0 where
+  no-tokens : OfClasses [] []
+  more-tokens : {class : ℕ} {spot : Spot} {classes : List ℕ} {more : List Token} → OfClasses classes more
+      → OfClasses (class ∷ classes) (token class spot ∷ more)
+
+-- tokens of these classes take a state to where a program may end
+abbrev pub Ends : List ℕ → State → Type 0
+Ends [] state = (f : Frame) × (state ≡ live (statementDue false body) f [])
+Ends (class ∷ classes) state = (spot : Spot) → Ends classes (take state (token class spot))
+
+pub ends-run : {classes : List ℕ} {more : List Token} (state : State) → OfClasses classes more → Ends classes state
+    → (f : Frame) × (run state more ≡ live (statementDue false body) f [])
+ends-run state no-tokens ends = ends
+ends-run state (more-tokens {class = class} {spot = spot} tokens) ends = ends-run (take state (token class spot)) tokens (ends spot)
+
+-- a control and the groups around it can be completed, whatever the frame
+pub record Completion (control : Control) (around : List Held) : Type 0 where
+  pub classes : List ℕ
+  pub spelled : AllSpelled classes
+  pub ends : (f : Frame) → Ends classes (live control f around)
+
+-- through a token of one more class
+pub through : {class : ℕ} {control next : Control} {around beyond : List Held} → Spelled class → (c : Completion next beyond)
+    → ((f : Frame) (spot : Spot) → Ends (c .classes) (take (live control f around) (token class spot))) → Completion control around
+through {class} spelled c ends = record { classes = class ∷ c .classes; spelled = more-spelled spelled (c .spelled); ends = ends }

@@ -1,0 +1,54 @@
+-- Tokens whose marks count their tree records.
+use mathlib.Core.Path.{_≡_}
+use mathlib.Core.Bool.{Bool, true, false, not}
+use mathlib.Core.List.{List, [], _∷_}
+use Prim.Native.Nat.{ℕ, _+_, _≤_, _<_}
+use native.Mathlib.Omega.{arith}
+use lib.Dec.{T, T-not, leb, leb→le, nleb→lt}
+use Rattle.grammar.specs.Tokens.{Token, token, Spot}
+use Rattle.grammar.proofs.Counts.{isClosing}
+
+-- The marks of the tokens that are no closers count up by one, from the next mark up to a total. The mark of a closer does
+-- not matter.
+pub data Counting (total : ℕ) : ℕ → List Token → Type 0 where
+  counting-none : Counting total total []
+  counting-closer : {next class : ℕ} {spot : Spot} {rest : List Token} → T (isClosing class) → Counting total next rest
+      → Counting total next (token class spot ∷ rest)
+  counting-mark : {next class : ℕ} {spot : Spot} {rest : List Token} → T (not (isClosing class)) → spot .mark ≡ next
+      → Counting total (next + 1) rest → Counting total next (token class spot ∷ rest)
+
+-- the next token is a closer; or it has the next mark
+pub record Marked (total next : ℕ) (spot : Spot) (rest : List Token) : Type 0 where
+  pub own : spot .mark ≡ next
+  pub then : Counting total (next + 1) rest
+
+module _ {total : ℕ} where
+  pub past-closer : (class : ℕ) {next : ℕ} {spot : Spot} {rest : List Token} → T (isClosing class) → Counting total next (token class spot ∷ rest)
+      → Counting total next rest
+  past-closer class h (counting-closer k counting) = counting
+  past-closer class h (counting-mark k own counting) = absurd (T-not (isClosing class) k h)
+
+  pub at-mark : (class : ℕ) {next : ℕ} {spot : Spot} {rest : List Token} → T (not (isClosing class)) → Counting total next (token class spot ∷ rest)
+      → Marked total next spot rest
+  at-mark class h (counting-closer k counting) = absurd (T-not (isClosing class) h k)
+  at-mark class h (counting-mark k own counting) = record { own = own; then = counting }
+
+-- a token that is no closer has this mark
+pub data MarkOf (m : ℕ) : List Token → Type 0 where
+  mark-here : {class : ℕ} {spot : Spot} {rest : List Token} → T (not (isClosing class)) → m ≡ spot .mark → MarkOf m (token class spot ∷ rest)
+  mark-later : {t : Token} {rest : List Token} → MarkOf m rest → MarkOf m (t ∷ rest)
+
+-- each number from the next mark up to the total is the mark of a token
+pub mark-of : {total next : ℕ} {all : List Token} (m : ℕ) → Counting total next all → next ≤ m → m < total → MarkOf m all
+mark-of m counting-none above below = absurd (omega arith)
+mark-of m (counting-closer h counting) above below = mark-later (mark-of m counting above below)
+mark-of {total} m (counting-mark {next = next} {class = class} {spot = spot} {rest = rest} h own counting) above below =
+    go (leb (next + 1) m) (λ t. t) (λ t. t) (λ over. mark-of m counting over below)
+  where
+    go : (b : Bool) → (T b → T (leb (next + 1) m)) → (T (not b) → T (not (leb (next + 1) m))) → (next + 1 ≤ m → MarkOf m rest)
+        → MarkOf m (token class spot ∷ rest)
+    go true passed failed later = mark-later (later (leb→le (next + 1) m (passed tt)))
+    go false passed failed later =
+        let under = nleb→lt (next + 1) m (failed tt) in
+        let same : m ≡ spot .mark = omega arith in
+        mark-here h same

@@ -1,0 +1,96 @@
+-- A program has at most as many syntax records as tree records.
+use mathlib.Core.Bool.{Bool, true, false, not, cond, _||_}
+use mathlib.Core.List.{List, [], _∷_}
+use Prim.Native.Nat.{ℕ, _+_, _≤_}
+use native.Mathlib.Omega.{arith}
+use lib.Dec.{T, eqb}
+use Rattle.grammar.specs.Tokens.{Token, token, Spot, closeParen, closeBrace}
+use Rattle.grammar.specs.Syntax.{Syntax, size}
+use Rattle.grammar.specs.Grammar.{
+  Leaf,
+  leaf-name,
+  leaf-number,
+  leaf-string,
+  leaf-pattern,
+  operators,
+  isOperator,
+  Form,
+  Derives,
+  chain-leaf,
+  chain-empty,
+  chain-object,
+  chain-parens,
+  chain-function,
+  chain-call,
+  chain-member,
+  binary-chain,
+  binary-operator,
+  assign-binary,
+  assign-to,
+  function-all,
+  statement-block,
+  statement-expression,
+  statement-if,
+  statement-bare-return,
+  statement-full-return,
+  statement-label,
+  no-statements,
+  add-statement,
+  add-declaration,
+  Program,
+}
+use Rattle.grammar.proofs.TableLaws.{at-operator}
+
+-- the class of a closer
+abbrev pub isClosing : ℕ → Bool
+isClosing class = eqb class closeParen || eqb class closeBrace
+
+-- the tokens that are no closers: each has a tree record
+abbrev pub countTreeTokens : List Token → ℕ
+countTreeTokens [] = 0
+countTreeTokens (token class spot ∷ rest) = cond (isClosing class) 0 1 + countTreeTokens rest
+
+pub leaf-open : {class : ℕ} → Leaf class → T (not (isClosing class))
+leaf-open leaf-name = tt
+leaf-open leaf-number = tt
+leaf-open leaf-string = tt
+leaf-open leaf-pattern = tt
+
+pub operator-open : (class : ℕ) → T (isOperator class) → T (not (isClosing class))
+operator-open class op = at-operator (λ x. not (isClosing x)) operators class op tt
+
+one-more : (class : ℕ) (spot : Spot) (rest : List Token) → T (not (isClosing class)) → countTreeTokens rest + 1 ≤ countTreeTokens (token class spot ∷ rest)
+one-more class spot rest h = go (isClosing class) h
+  where
+    go : (b : Bool) → T (not b) → countTreeTokens rest + 1 ≤ cond b 0 1 + countTreeTokens rest
+    go true h = absurd h
+    go false h = omega arith
+
+-- each part's records are at most as many as the tokens from before it to behind it that are no closers
+counted : {form : Form} {before after : List Token} {value : Syntax} → Derives form before after value
+    → size value + countTreeTokens after ≤ countTreeTokens before
+counted (chain-leaf {class = class} {spot = spot} {after = after} leaf) = omega (arith, one-more class spot after (leaf-open leaf))
+counted chain-empty = omega arith
+counted (chain-object value) = omega (arith, counted value)
+counted (chain-parens value) = omega (arith, counted value)
+counted (chain-function function) = omega (arith, counted function)
+counted (chain-call callee value) = omega (arith, counted callee, counted value)
+counted (chain-member object) = omega (arith, counted object)
+counted (binary-chain chain) = counted chain
+counted (binary-operator {class = class} {sign = sign} {middle = middle} op tight left right) =
+    omega (arith, counted left, counted right, one-more class sign middle (operator-open class op))
+counted (assign-binary binary) = counted binary
+counted (assign-to target value) = omega (arith, counted target, counted value)
+counted (function-all statements) = omega (arith, counted statements)
+counted (statement-block statements) = omega (arith, counted statements)
+counted (statement-expression allowed value) = omega (arith, counted value)
+counted (statement-if condition inner) = omega (arith, counted condition, counted inner)
+counted statement-bare-return = omega arith
+counted (statement-full-return same value) = omega (arith, counted value)
+counted (statement-label inner) = omega (arith, counted inner)
+counted no-statements = omega arith
+counted (add-statement statements last) = omega (arith, counted statements, counted last)
+counted (add-declaration statements function) = omega (arith, counted statements, counted function)
+
+pub few-parts : {all : List Token} {parts : Syntax} → Program all parts → size parts ≤ countTreeTokens all
+few-parts program = omega (arith, counted program)

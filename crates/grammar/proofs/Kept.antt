@@ -1,0 +1,188 @@
+-- As long as the token machine goes on, each slash is taken as the prefix rule says, and the reader's step makes of the levels
+-- what the machine makes of its state.
+use mathlib.Core.Path.{_≡_, refl, sym, _∙_}
+use mathlib.Core.Bool.{Bool, true, false, not, cond, _||_}
+use mathlib.Core.List.{List, _∷_}
+use Prim.Native.Nat.{ℕ, _+_, _<_, _≤_}
+use native.Mathlib.Omega.{arith}
+use borrow.Author.Tests.{leb-true, ne-eqb, not-true}
+use lib.Dec.{T, eqb, leb}
+use Rattle.elements.specs.declared.Element.{Element}
+use Rattle.elements.proofs.Choices.{cond-known}
+use Rattle.prefix.specs.Trees.{count, leaf, group, parenKind, objectKind, blockKind}
+use Rattle.prefix.specs.Rule.{backwards, groupClass}
+use Rattle.prefix.specs.Levels.{Levels, kindOf, treesOf, slashOpens, braceOpens, depth, number}
+use Rattle.prefix.specs.Reading.{Limits, Step, stop, more, deep, treesFull, step, accepted, ending}
+use Rattle.prefix.specs.Summary.{slashBy, summary}
+use Rattle.prefix.proofs.StateLaws.{number-on-top}
+use Rattle.prefix.proofs.StepLaws.{step-leaf}
+use Rattle.grammar.specs.Cuts.{isCloser, marked}
+use Rattle.grammar.specs.Tokens.{Spot, token, tokenOf, classOf, pattern, divide, openParen}
+use Rattle.grammar.specs.Syntax.{Syntax}
+use Rattle.grammar.specs.Machine.{
+  Frame,
+  Control,
+  Closing,
+  Action,
+  fail,
+  goto,
+  push,
+  pop,
+  finish,
+  look,
+  row,
+  endOfText,
+  Held,
+  held,
+  State,
+  live,
+  valueOf,
+  popTo,
+  finishIn,
+  act,
+  take,
+}
+use Rattle.grammar.proofs.Classes.{isLeaf, treeClass, told, leaf-told}
+use Rattle.grammar.proofs.ClassSteps.{opensGroup, openedKind, closesGroup, closesKind, holds, opener-step, closer-step, leaf-no-closer, opener-no-closer, closer-closer, line-kept, no-end}
+use Rattle.grammar.proofs.Related.{related}
+use Rattle.grammar.proofs.Agreement.{slashRight, opensRight, allows, opens-right, goto-allowed, push-allowed, pop-allowed, finish-allowed, rule}
+use Rattle.grammar.proofs.LevelSummary.{summaryOf, summaryWith, slash-summary, brace-summary, summary-leaf, summary-group}
+use Rattle.grammar.proofs.InStep.{Stacks, whole-text, in-group, InStep, stopped, in-step, in-step-on-top, isLive}
+
+-- What a step of the reader comes to: other levels, in step, with a tree record more unless the element is a closer; or a limit
+-- is reached.
+pub data Outcome (limits : Limits) (levels : Levels) (e : Element) (after : State) : Step → Type 0 where
+  went-on : {next : Levels} → InStep after next → number next ≡ cond (isCloser e) (number levels) (number levels + 1) → Outcome limits levels e after (more next)
+  too-deep : T (opensGroup (classOf e)) → limits .groups ≤ depth levels → Outcome limits levels e after (stop deep (e .first))
+  too-many : isCloser e ≡ false → limits .room ≤ number levels → Outcome limits levels e after (stop treesFull (e .first))
+
+-- what is kept by an element after which the machine is in a state
+pub record Kept (limits : Limits) (levels : Levels) (e : Element) (after : State) : Type 0 where
+  pub pattern-opens : classOf e ≡ pattern → slashOpens levels ≡ true
+  pub divide-divides : classOf e ≡ divide → slashOpens levels ≡ false
+  pub outcome : Outcome limits levels e after (step limits levels e)
+
+-- an opener opens a group
+opened-no-text : (object : Bool) (class : ℕ) → openedKind object class ≡ 0 → ⊥
+opened-no-text object class = go (eqb class openParen) object
+  where
+    go : (a b : Bool) → cond a parenKind (cond b objectKind blockKind) ≡ 0 → ⊥
+    go true b q = omega arith
+    go false true q = omega arith
+    go false false q = omega arith
+
+module _ (limits : Limits) (levels : Levels) (e : Element) where
+  leaf-outcome : {next : Control} {f : Frame} {around : List Held} → T (isLeaf (classOf e))
+      → T (related next (kindOf levels) (summaryWith levels (treeClass (classOf e)) (e .line))) → Stacks around levels
+      → Outcome limits levels e (live next f around) (step limits levels e)
+  unfolding count
+  leaf-outcome {next} {f} {around} l r s =
+      let t = leaf-told e (told e) l in
+      let c = leaf-no-closer e (t .0) in
+      rw (step-leaf limits levels e (t .0))
+      (cond-known (Outcome limits levels e (live next f around)) (leb (limits .room) (number levels)) (λ full. too-many c (leb-true (limits .room) (number levels) full)) λ some.
+      went-on (in-step-on-top (λ before. leaf before e) levels (summaryWith levels (treeClass (classOf e)) (e .line)) (summary-leaf levels e ∙ rw (t .1)) r s)
+      (rw c (number-on-top (λ before. leaf before e) 1 (λ trees. refl) levels)))
+
+  opener-outcome : {within behind : Control} {closing : Closing} {mark : ℕ} {f inner : Frame} {around : List Held} → T (opensGroup (classOf e))
+      → T (opensRight (kindOf levels) (summaryOf levels) (e .line) (openedKind (braceOpens levels (e .line)) (classOf e)) within behind) → Stacks around levels
+      → Outcome limits levels e (live within inner (held behind closing mark f ∷ around)) (step limits levels e)
+  unfolding summaryOf summary backwards count
+  opener-outcome {within} {behind} {closing} {mark} {f} {inner} {around} o r s =
+      let t = opens-right (kindOf levels) (summaryOf levels) (e .line) (openedKind (braceOpens levels (e .line)) (classOf e)) within behind r in
+      let c = opener-no-closer e (told e) o in
+      let P : Step → Type 0 = Outcome limits levels e (live within inner (held behind closing mark f ∷ around)) in
+      rw (opener-step limits e levels (told e) o)
+      (cond-known P (leb (limits .groups) (depth levels)) (λ q. too-deep o (leb-true (limits .groups) (depth levels) q)) λ shallow.
+      cond-known P (leb (limits .room) (number levels)) (λ full. too-many c (leb-true (limits .room) (number levels) full)) λ some.
+      went-on (in-step (t .0) (in-group (opened-no-text (braceOpens levels (e .line)) (classOf e)) (t .1) s)) (rw c))
+
+-- a group is not the whole text
+no-text : (kind : ℕ) (b : Bool) → (kind ≡ 0 → ⊥) → T (eqb kind 0 || b) → T b
+no-text kind b n t = rw (ne-eqb kind 0 n) at t
+
+closer-outcome : (limits : Limits) (levels : Levels) (e : Element) (value : Syntax) {around : List Held} → Stacks around levels → T (closesGroup (classOf e))
+    → T (eqb (kindOf levels) 0 || closesKind (classOf e) (kindOf levels)) → T (isLive (popTo value around))
+    → Outcome limits levels e (popTo value around) (step limits levels e)
+unfolding count
+closer-outcome limits levels e value whole-text t c alive = absurd alive
+closer-outcome limits levels e value (in-group {around = around} {kind = kind} {first = first} {line = line} {trees = trees} n r s) t c alive =
+    rw (closer-step limits e around kind first line trees (told e) t (no-text kind (closesKind (classOf e) kind) n c))
+    (went-on
+    (in-step-on-top (λ before. group before kind first (e .end) line trees) around (summaryWith around (groupClass kind) line)
+    (summary-group around kind first (e .end) line trees) r s)
+    (rw (closer-closer e (told e) t) (number-on-top (λ before. group before kind first (e .end) line trees) (count trees + 1) (λ before. refl) around)))
+
+-- a slash is taken as the prefix rule says
+opens : (levels : Levels) (class : ℕ) → T (slashRight (summaryOf levels) class) → class ≡ pattern → slashOpens levels ≡ true
+unfolding slashRight
+opens levels class t q = sym (slash-summary levels) ∙ holds (slashBy (summaryOf levels)) (rw q at t)
+
+divides : (levels : Levels) (class : ℕ) → T (slashRight (summaryOf levels) class) → class ≡ divide → slashOpens levels ≡ false
+unfolding slashRight
+divides levels class t q = sym (slash-summary levels) ∙ not-true (slashBy (summaryOf levels)) (holds (not (slashBy (summaryOf levels))) (rw q at t))
+
+module _ (limits : Limits) (levels : Levels) (e : Element) where
+  keep : {after : State} → T (slashRight (summaryOf levels) (classOf e)) → Outcome limits levels e after (step limits levels e) → Kept limits levels e after
+  keep t o = record { pattern-opens = opens levels (classOf e) t; divide-divides = divides levels (classOf e) t; outcome = o }
+
+  acted : (mark : ℕ) (f : Frame) (around : List Held) → Stacks around levels → (action : Action)
+      → T (allows (kindOf levels) (summaryOf levels) ((marked e) .line) (classOf e) action) → T (isLive (act action mark f around))
+      → Kept limits levels e (act action mark f around)
+  acted mark f around s fail t alive = absurd alive
+  acted mark f around s (goto next effect) t alive =
+      let a = goto-allowed (kindOf levels) (summaryOf levels) ((marked e) .line) (classOf e) next effect t in
+      keep (a .0) (leaf-outcome limits levels e (a .1) (rw (line-kept e (leaf-no-closer e ((leaf-told e (told e) (a .1)) .0))) at (a .2)) s)
+  acted mark f around s (push within behind closing) t alive =
+      let a = push-allowed (kindOf levels) (summaryOf levels) ((marked e) .line) (classOf e) within behind closing t in
+      keep (a .0) (opener-outcome limits levels e (a .1) (rw (line-kept e (opener-no-closer e (told e) (a .1)), brace-summary levels (e .line)) at (a .2)) s)
+  acted mark f around s (pop value) t alive =
+      let a = pop-allowed (kindOf levels) (summaryOf levels) ((marked e) .line) (classOf e) value t in
+      keep (a .0) (closer-outcome limits levels e (valueOf value f) s (a .1) (a .2) alive)
+  acted mark f around s finish t alive = absurd (no-end (told e) (finish-allowed (kindOf levels) (summaryOf levels) ((marked e) .line) (classOf e) t))
+
+-- an element that the machine follows
+pub kept : (limits : Limits) (levels : Levels) (e : Element) (before : ℕ) {state : State} → InStep state levels → T (isLive (take state (tokenOf before (marked e))))
+    → Kept limits levels e (take state (tokenOf before (marked e)))
+unfolding classOf
+kept limits levels e before stopped alive = absurd alive
+kept limits levels e before (in-step {control = control} {f = f} {around = around} r s) alive =
+    acted limits levels e before f around s (look (classOf e) (row control ((marked e) .line)))
+    (rule control (kindOf levels) (summaryOf levels) r ((marked e) .line) (classOf e)) alive
+
+-- the step of the reader, in step with a state, where the limits leave room
+pub record Stepped (limits : Limits) (levels : Levels) (e : Element) (after : State) : Type 0 where
+  pub next : Levels
+  pub steps : step limits levels e ≡ more next
+  pub follows : InStep after next
+  pub counts : number next ≡ cond (isCloser e) (number levels) (number levels + 1)
+
+pub stepped : {limits : Limits} {levels : Levels} {e : Element} {after : State} → Kept limits levels e after → depth levels < limits .groups → number levels < limits .room
+    → Stepped limits levels e after
+stepped {limits} {levels} {e} {after} k shallow some = go (step limits levels e) refl (k .outcome)
+  where
+    go : (s : Step) → step limits levels e ≡ s → Outcome limits levels e after s → Stepped limits levels e after
+    go s q (went-on {next = next} i c) = record { next = next; steps = q; follows = i; counts = c }
+    go s q (too-deep o d) = absurd (omega arith)
+    go s q (too-many c f) = absurd (omega arith)
+
+-- where the machine takes the text's end, the reader is in no group
+at-finish : (f : Frame) {levels : Levels} {around : List Held} → Stacks around levels → T (isLive (finishIn f around)) → ending levels ≡ accepted (treesOf levels)
+at-finish f whole-text alive = refl
+at-finish f (in-group n r s) alive = absurd alive
+
+module _ (levels : Levels) (spot : Spot) (f : Frame) where
+  ended : {around : List Held} → Stacks around levels → (action : Action) → T (allows (kindOf levels) (summaryOf levels) (spot .line) endOfText action)
+      → T (isLive (act action (spot .mark) f around)) → ending levels ≡ accepted (treesOf levels)
+  unfolding isLeaf
+  ended s fail t alive = absurd alive
+  ended s (goto next effect) t alive = absurd ((goto-allowed (kindOf levels) (summaryOf levels) (spot .line) endOfText next effect t) .1)
+  ended s (push within behind closing) t alive = absurd ((push-allowed (kindOf levels) (summaryOf levels) (spot .line) endOfText within behind closing t) .1)
+  ended s (pop value) t alive = absurd ((pop-allowed (kindOf levels) (summaryOf levels) (spot .line) endOfText value t) .1)
+  ended s finish t alive = at-finish f s alive
+
+pub accepted-at-end : (levels : Levels) (spot : Spot) {state : State} → InStep state levels → T (isLive (take state (token endOfText spot)))
+    → ending levels ≡ accepted (treesOf levels)
+accepted-at-end levels spot stopped alive = absurd alive
+accepted-at-end levels spot (in-step {control = control} {f = f} r s) alive =
+    ended levels spot f s (look endOfText (row control (spot .line))) (rule control (kindOf levels) (summaryOf levels) r (spot .line) endOfText) alive

@@ -1,0 +1,196 @@
+-- Where tokens count their tree records, each part of a program has a mark of its own, and it is that of a token that is no
+-- closer.
+use mathlib.Core.Path.{_≡_, refl, subst}
+use mathlib.Core.List.{List, [], List·Memᴰ}
+use Prim.Native.Nat.{ℕ, _+_, _≤_, _<_}
+use native.Mathlib.Omega.{arith}
+use Rattle.grammar.specs.Tokens.{
+  Token,
+  token,
+  name,
+  assign,
+  colon,
+  semicolon,
+  dot,
+  openParen,
+  closeParen,
+  openBrace,
+  closeBrace,
+  returnWord,
+  functionWord,
+  ifWord,
+}
+use Rattle.grammar.specs.Syntax.{Syntax, nil, node}
+use Rattle.grammar.specs.Grammar.{
+  Form,
+  Derives,
+  chain-leaf,
+  chain-empty,
+  chain-object,
+  chain-parens,
+  chain-function,
+  chain-call,
+  chain-member,
+  binary-chain,
+  binary-operator,
+  assign-binary,
+  assign-to,
+  function-all,
+  statement-block,
+  statement-expression,
+  statement-if,
+  statement-bare-return,
+  statement-full-return,
+  statement-label,
+  no-statements,
+  add-statement,
+  add-declaration,
+  Program,
+}
+use Rattle.grammar.proofs.Counts.{leaf-open, operator-open}
+use Rattle.grammar.proofs.Ranges.{
+  Marks,
+  marks-both,
+  from-lower,
+  to-higher,
+  no-marks,
+  before-parts,
+  between-parts,
+  behind-part,
+  marksOf,
+  Within,
+  within,
+  Distinct,
+  distinct,
+}
+use Rattle.grammar.proofs.Counting.{Counting, counting-none, past-closer, at-mark, MarkOf, mark-of}
+
+-- a part's marks are those from the next mark before it to the next mark behind it
+record MarksTo (total low : ℕ) (after : List Token) (value : Syntax) : Type 0 where
+  high : ℕ
+  rest : Counting total high after
+  marks : Marks low high value
+
+leaf-marks : {low kind mark : ℕ} → mark ≡ low → Marks low (low + 1) (node kind mark nil nil)
+leaf-marks {low} own = let passed : low < low + 1 = omega arith in before-parts own passed (no-marks (low + 1)) (no-marks (low + 1))
+
+module _ {total : ℕ} where
+  marked : {low : ℕ} {form : Form} {before after : List Token} {value : Syntax} → Derives form before after value → Counting total low before
+      → MarksTo total low after value
+  marked {low} (chain-leaf {class = class} leaf) counting =
+      let m = at-mark class (leaf-open leaf) counting in
+      record { high = low + 1; rest = m .then; marks = leaf-marks (m .own) }
+  marked {low} chain-empty counting =
+      let m = at-mark openBrace tt counting in
+      record { high = low + 1; rest = past-closer closeBrace tt (m .then); marks = leaf-marks (m .own) }
+  marked {low} (chain-object value) counting =
+      let m = at-mark openBrace tt counting in
+      let n = at-mark name tt (m .then) in
+      let s = at-mark colon tt (n .then) in
+      let v = marked value (s .then) in
+      record { high = v .high; rest = past-closer closeBrace tt (v .rest); marks = before-parts (m .own) (omega arith) (v .marks) (no-marks (v .high)) }
+  marked {low} (chain-parens value) counting =
+      let m = at-mark openParen tt counting in
+      let v = marked value (m .then) in
+      record { high = v .high; rest = past-closer closeParen tt (v .rest); marks = before-parts (m .own) (omega arith) (v .marks) (no-marks (v .high)) }
+  marked {low} (chain-function function) counting =
+      let m = at-mark functionWord tt counting in
+      let v = marked function (m .then) in
+      record { high = v .high; rest = v .rest; marks = before-parts (m .own) (omega arith) (v .marks) (no-marks (v .high)) }
+  marked (chain-call callee value) counting =
+      let c = marked callee counting in
+      let m = at-mark openParen tt (c .rest) in
+      let v = marked value (m .then) in
+      record { high = v .high; rest = past-closer closeParen tt (v .rest); marks = between-parts (c .marks) (m .own) (v .marks) }
+  marked (chain-member object) counting =
+      let o = marked object counting in
+      let d = at-mark dot tt (o .rest) in
+      let m = at-mark name tt (d .then) in
+      record { high = o .high + 1 + 1; rest = m .then; marks = behind-part (o .marks) (omega arith) (omega arith) }
+  marked (binary-chain chain) counting = marked chain counting
+  marked (binary-operator {class = class} op tight left right) counting =
+      let l = marked left counting in
+      let m = at-mark class (operator-open class op) (l .rest) in
+      let r = marked right (m .then) in
+      record { high = r .high; rest = r .rest; marks = between-parts (l .marks) (m .own) (r .marks) }
+  marked (assign-binary binary) counting = marked binary counting
+  marked (assign-to target value) counting =
+      let t = marked target counting in
+      let m = at-mark assign tt (t .rest) in
+      let v = marked value (m .then) in
+      record { high = v .high; rest = v .rest; marks = between-parts (t .marks) (m .own) (v .marks) }
+  marked {low} (function-all statements) counting =
+      let n = at-mark name tt counting in
+      let o = at-mark openParen tt (n .then) in
+      let p = at-mark name tt (o .then) in
+      let b = at-mark openBrace tt (past-closer closeParen tt (p .then)) in
+      let s = marked statements (b .then) in
+      let up : low ≤ low + 1 + 1 + 1 + 1 = omega arith in
+      record { high = s .high; rest = past-closer closeBrace tt (s .rest); marks = from-lower up (s .marks) }
+  marked (statement-block statements) counting =
+      let m = at-mark openBrace tt counting in
+      let s = marked statements (m .then) in
+      record { high = s .high; rest = past-closer closeBrace tt (s .rest); marks = before-parts (m .own) (omega arith) (s .marks) (no-marks (s .high)) }
+  marked (statement-expression allowed value) counting =
+      let v = marked value counting in
+      let m = at-mark semicolon tt (v .rest) in
+      record { high = v .high + 1; rest = m .then; marks = behind-part (v .marks) (omega arith) (omega arith) }
+  marked (statement-if condition inner) counting =
+      let m = at-mark ifWord tt counting in
+      let o = at-mark openParen tt (m .then) in
+      let c = marked condition (o .then) in
+      let i = marked inner (past-closer closeParen tt (c .rest)) in
+      record { high = i .high; rest = i .rest; marks = before-parts (m .own) (omega arith) (c .marks) (i .marks) }
+  marked {low} statement-bare-return counting =
+      let m = at-mark returnWord tt counting in
+      let e = at-mark semicolon tt (m .then) in
+      record { high = low + 1 + 1; rest = e .then; marks = before-parts (m .own) (omega arith) (no-marks (low + 1 + 1)) (no-marks (low + 1 + 1)) }
+  marked {low} (statement-full-return same value) counting =
+      let m = at-mark returnWord tt counting in
+      let v = marked value (m .then) in
+      let e = at-mark semicolon tt (v .rest) in
+      record { high = v .high + 1; rest = e .then; marks = before-parts (m .own) (omega arith) (no-marks (low + 1)) (to-higher (omega arith) (v .marks)) }
+  marked {low} (statement-label inner) counting =
+      let m = at-mark name tt counting in
+      let s = at-mark colon tt (m .then) in
+      let i = marked inner (s .then) in
+      record { high = i .high; rest = i .rest; marks = before-parts (m .own) (omega arith) (no-marks (low + 1 + 1)) (i .marks) }
+  marked {low} no-statements counting = record { high = low; rest = counting; marks = no-marks low }
+  marked (add-statement statements last) counting =
+      let s = marked statements counting in
+      let l = marked last (s .rest) in
+      record { high = l .high; rest = l .rest; marks = marks-both (s .marks) (l .marks) }
+  marked (add-declaration statements function) counting =
+      let s = marked statements counting in
+      let m = at-mark functionWord tt (s .rest) in
+      let f = marked function (m .then) in
+      record {
+        high = f .high;
+        rest = f .rest;
+        marks = marks-both (s .marks) (before-parts (m .own) (omega arith) (f .marks) (no-marks (f .high)));
+      }
+
+-- the marks of a program's parts are from the first mark up to the total
+program-marks : {total first : ℕ} {all : List Token} {parts : Syntax} → Counting total first all → Program all parts → Marks first total parts
+program-marks {total} {first} {parts = parts} counting program =
+    let p = marked program counting in
+    subst (λ (high : ℕ). Marks first high parts) (ended (p .rest)) (p .marks)
+  where
+    ended : {high : ℕ} → Counting total high [] → high ≡ total
+    ended counting-none = refl
+
+-- "index of its marking tree record": no two parts have the same mark, and each is that of a token that is no closer
+pub record OwnMarks (total first : ℕ) (all : List Token) (parts : Syntax) : Type 0 where
+  pub apart : Distinct (marksOf parts)
+  pub within-all : (m : ℕ) → List·Memᴰ m (marksOf parts) → Within first total m
+  pub of-token : (m : ℕ) → List·Memᴰ m (marksOf parts) → MarkOf m all
+
+pub own-marks : {total first : ℕ} {all : List Token} {parts : Syntax} → Counting total first all → Program all parts
+    → OwnMarks total first all parts
+own-marks counting program =
+    let marks = program-marks counting program in
+    record {
+      apart = distinct marks;
+      within-all = within marks;
+      of-token = λ m member. let range = within marks m member in mark-of m counting (range .above) (range .below);
+    }

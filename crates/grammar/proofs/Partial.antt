@@ -1,0 +1,205 @@
+-- Partial derivations: where the machine stands in derivations that are not yet complete.
+use mathlib.Core.Bool.{Bool, true, false}
+use mathlib.Core.List.{List, [], _∷_}
+use Rattle.grammar.specs.Tokens.{
+  Token,
+  token,
+  Spot,
+  name,
+  semicolon,
+  dot,
+  openParen,
+  closeParen,
+  openBrace,
+  closeBrace,
+  returnWord,
+  functionWord,
+  ifWord,
+}
+use Rattle.grammar.specs.Syntax.{Syntax, nil, node, fullReturnSyntax, expressionSyntax}
+use Rattle.grammar.specs.Grammar.{
+  Scope,
+  body,
+  Chain,
+  Assign,
+  Statements,
+  chain-object,
+  chain-parens,
+  chain-function,
+  chain-call,
+  function-all,
+  statement-block,
+  statement-expression,
+  statement-full-return,
+}
+use Rattle.grammar.specs.Machine.{
+  endOfText,
+  Pending,
+  pending,
+  Frame,
+  frame,
+  empty,
+  heldWord,
+  completeStatement,
+  toObject,
+  toParameter,
+  Ending,
+  byStatement,
+  byReturn,
+  byParen,
+  byBrace,
+  Role,
+  declared,
+  operandIn,
+  Control,
+  statementDue,
+  nameFirst,
+  returnFirst,
+  ifFirst,
+  operandDue,
+  operandDone,
+  dotLast,
+  functionFirst,
+  functionNamed,
+  parameterPast,
+  objectOpened,
+  propertyNamed,
+  parameterDue,
+  parameterNamed,
+  finished,
+  Held,
+  held,
+  State,
+  dead,
+  live,
+  popTo,
+  finishIn,
+}
+use Rattle.grammar.proofs.Waiting.{Waiting}
+use Rattle.grammar.proofs.Places.{
+  statementAt,
+  expressionAt,
+  Reached,
+  in-program,
+  in-block,
+  in-declaration,
+  in-function,
+  after-if,
+  in-expression,
+  in-return,
+  in-parens,
+  in-call,
+  in-condition,
+  in-object,
+  with-statement,
+  with-declaration,
+}
+
+-- a function stands here, in its role
+pub data FunctionAt (all : List Token) : Role → Syntax → List Pending → List Pending → List Held → List Token → Type 0 where
+  declaration-at : {done : Syntax} {around : List Held} {here : List Token} → Reached all (statementAt body) done [] around here
+      → FunctionAt all declared done [] [] around here
+  operand-at : {ending : Ending} {target : Bool} {done : Syntax} {starts waiting : List Pending} {around : List Held} {first here : List Token}
+      → Reached all (expressionAt ending) done starts around first → Waiting target waiting first here
+      → FunctionAt all (operandIn ending target) done starts waiting around here
+
+-- the partial derivation of a state: its control, its frame and what is around it, and the tokens from there on
+pub data Partial (all : List Token) : Control → Frame → List Held → List Token → Type 0 where
+  at-statement : {scope : Scope} {done : Syntax} {around : List Held} {here : List Token} → Reached all (statementAt scope) done [] around here
+      → Partial all (statementDue false scope) (frame done [] [] nil) around here
+  at-inner-statement : {scope : Scope} {done : Syntax} {starts : List Pending} {around : List Held} {here : List Token}
+      → Reached all (statementAt scope) done starts around here → Partial all (statementDue true scope) (frame done starts [] nil) around here
+  behind-name : {scope : Scope} {done : Syntax} {starts : List Pending} {around : List Held} {spot : Spot} {here : List Token}
+      → Reached all (statementAt scope) done starts around (token name spot ∷ here)
+      → Partial all (nameFirst scope) (frame done starts [] (node name (spot .mark) nil nil)) around here
+  behind-return : {scope : Scope} {done : Syntax} {starts : List Pending} {around : List Held} {word : Spot} {here : List Token}
+      → Reached all (statementAt scope) done starts around (token returnWord word ∷ here)
+      → Partial all (returnFirst scope) (frame done (pending fullReturnSyntax (word .mark) nil ∷ starts) [] nil) around here
+  behind-if : {scope : Scope} {done : Syntax} {starts : List Pending} {around : List Held} {word : Spot} {here : List Token}
+      → Reached all (statementAt scope) done starts around (token ifWord word ∷ here)
+      → Partial all (ifFirst scope) (frame done starts [] (heldWord (word .mark))) around here
+  at-operand : {ending : Ending} {target : Bool} {done operand : Syntax} {starts waiting : List Pending} {around : List Held}
+      {first here : List Token} → Reached all (expressionAt ending) done starts around first → Waiting target waiting first here
+      → Partial all (operandDue ending target) (frame done starts waiting operand) around here
+  behind-operand : {ending : Ending} {target : Bool} {done operand : Syntax} {starts waiting : List Pending} {around : List Held}
+      {first before here : List Token} → Reached all (expressionAt ending) done starts around first → Waiting target waiting first before
+      → Chain before here operand → Partial all (operandDone ending target) (frame done starts waiting operand) around here
+  behind-dot : {ending : Ending} {target : Bool} {done operand : Syntax} {starts waiting : List Pending} {around : List Held} {sign : Spot}
+      {first before here : List Token} → Reached all (expressionAt ending) done starts around first → Waiting target waiting first before
+      → Chain before (token dot sign ∷ here) operand → Partial all (dotLast ending target) (frame done starts waiting operand) around here
+  behind-function : {role : Role} {done : Syntax} {starts waiting : List Pending} {around : List Held} {word : Spot} {here : List Token}
+      → FunctionAt all role done starts waiting around (token functionWord word ∷ here)
+      → Partial all (functionFirst role) (frame done starts waiting (heldWord (word .mark))) around here
+  behind-function-name : {role : Role} {done : Syntax} {starts waiting : List Pending} {around : List Held} {word called : Spot}
+      {here : List Token} → FunctionAt all role done starts waiting around (token functionWord word ∷ token name called ∷ here)
+      → Partial all (functionNamed role) (frame done starts waiting (heldWord (word .mark))) around here
+  at-parameter : {role : Role} {done : Syntax} {starts waiting : List Pending} {around : List Held} {word called opener : Spot}
+      {here : List Token}
+      → FunctionAt all role done starts waiting around (token functionWord word ∷ token name called ∷ token openParen opener ∷ here)
+      → Partial all parameterDue empty
+      (held (parameterPast role) toParameter (opener .mark) (frame done starts waiting (heldWord (word .mark))) ∷ around) here
+  behind-parameter : {role : Role} {done : Syntax} {starts waiting : List Pending} {around : List Held} {word called opener parameter : Spot}
+      {here : List Token}
+      → FunctionAt all role done starts waiting around
+      (token functionWord word ∷ token name called ∷ token openParen opener ∷ token name parameter ∷ here)
+      → Partial all parameterNamed empty
+      (held (parameterPast role) toParameter (opener .mark) (frame done starts waiting (heldWord (word .mark))) ∷ around) here
+  at-function-body : {role : Role} {done : Syntax} {starts waiting : List Pending} {around : List Held}
+      {word called opener parameter closer : Spot} {here : List Token}
+      → FunctionAt all role done starts waiting around
+      (token functionWord word ∷ token name called ∷ token openParen opener ∷ token name parameter ∷ token closeParen closer ∷ here)
+      → Partial all (parameterPast role) (frame done starts waiting (heldWord (word .mark))) around here
+  in-braces : {ending : Ending} {target : Bool} {done operand : Syntax} {starts waiting : List Pending} {around : List Held} {opener : Spot}
+      {first here : List Token} → Reached all (expressionAt ending) done starts around first
+      → Waiting target waiting first (token openBrace opener ∷ here)
+      → Partial all objectOpened empty (held (operandDone ending target) toObject (opener .mark) (frame done starts waiting operand) ∷ around) here
+  behind-property : {ending : Ending} {target : Bool} {done operand : Syntax} {starts waiting : List Pending} {around : List Held}
+      {opener property : Spot} {first here : List Token} → Reached all (expressionAt ending) done starts around first
+      → Waiting target waiting first (token openBrace opener ∷ token name property ∷ here)
+      → Partial all propertyNamed empty (held (operandDone ending target) toObject (opener .mark) (frame done starts waiting operand) ∷ around) here
+  behind-end : {done : Syntax} {end : Spot} {here : List Token} → Statements body all (token endOfText end ∷ here) done
+      → Partial all finished (frame done [] [] nil) [] here
+
+-- a state that is dead has none, and needs none
+abbrev pub PartialOf : List Token → State → List Token → Type 0
+PartialOf all dead here = Unit {0}
+PartialOf all (live control f around) here = Partial all control f around here
+
+module _ {all : List Token} where
+  -- a group closes
+  pub statements-close : {scope : Scope} {done : Syntax} {around : List Held} {closer : Spot} {here : List Token}
+      → Reached all (statementAt scope) done [] around (token closeBrace closer ∷ here) → PartialOf all (popTo done around) here
+  statements-close (in-program statements) = tt
+  statements-close (in-block outer statements) = at-statement (with-statement outer (statement-block statements))
+  statements-close (in-declaration outer statements) = at-statement (with-declaration outer (function-all statements))
+  statements-close (in-function outer waits statements) = behind-operand outer waits (chain-function (function-all statements))
+
+  pub parens-close : {done value : Syntax} {starts : List Pending} {around : List Held} {closer : Spot} {first here : List Token}
+      → Reached all (expressionAt byParen) done starts around first → Assign first (token closeParen closer ∷ here) value
+      → PartialOf all (popTo value around) here
+  parens-close (in-parens outer waits) value = behind-operand outer waits (chain-parens value)
+  parens-close (in-call outer waits callee) value = behind-operand outer waits (chain-call callee value)
+  parens-close (in-condition outer) value = at-inner-statement (after-if outer value)
+
+  pub object-closes : {done value : Syntax} {starts : List Pending} {around : List Held} {closer : Spot} {first here : List Token}
+      → Reached all (expressionAt byBrace) done starts around first → Assign first (token closeBrace closer ∷ here) value
+      → PartialOf all (popTo value around) here
+  object-closes (in-object outer waits) value = behind-operand outer waits (chain-object value)
+
+  -- an expression ends with its statement
+  pub expression-ends : {scope : Scope} {done value : Syntax} {starts : List Pending} {around : List Held} {end : Spot} {first here : List Token}
+      → Reached all (expressionAt (byStatement scope)) done starts around first → Assign first (token semicolon end ∷ here) value
+      → Partial all (statementDue false scope) (completeStatement done starts (node expressionSyntax (end .mark) value nil)) around here
+  expression-ends (in-expression allowed outer) value = at-statement (with-statement outer (statement-expression allowed value))
+
+  pub return-ends : {scope : Scope} {done value : Syntax} {starts : List Pending} {around : List Held} {end : Spot} {first here : List Token}
+      → Reached all (expressionAt (byReturn scope)) done starts around first → Assign first (token semicolon end ∷ here) value
+      → Partial all (statementDue false scope) (completeStatement done starts value) around here
+  return-ends (in-return same outer) value = at-statement (with-statement outer (statement-full-return same value))
+
+  -- the text ends
+  pub text-ends : {done : Syntax} {around : List Held} {end : Spot} {here : List Token}
+      → Reached all (statementAt body) done [] around (token endOfText end ∷ here) → PartialOf all (finishIn (frame done [] [] nil) around) here
+  text-ends (in-program statements) = behind-end statements
+  text-ends (in-declaration outer statements) = tt
+  text-ends (in-function outer waits statements) = tt

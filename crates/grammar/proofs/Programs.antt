@@ -1,0 +1,137 @@
+-- The prefix rule reads a program as its derivation cuts it.
+use mathlib.Core.Path.{_≡_, refl, sym, ap, subst, _∙_}
+use mathlib.Core.List.{List, [], _∷_, _++_, append-assoc, append-nil}
+use mathlib.Core.Bool.{Bool, true, false, cond}
+use Prim.Native.Nat.{ℕ, zero, suc, _+_, _≤_, _<_}
+use native.Mathlib.Omega.{arith}
+use lib.ListN.{length}
+use Rattle.text.specs.Runs
+use Rattle.signs.specs.Signs.{longestSign, longestOf}
+use Rattle.elements.specs.Elements.{elementAt, slashMet, patternKind, delimiterKind}
+use Rattle.elements.specs.declared.Element.{Element}
+use Rattle.elements.specs.declared.Next.{Next}
+use Rattle.elements.proofs.Bounds.{Placed, found-placed}
+use Rattle.elements.proofs.Delimiters.{delimiter-byte, delimiter-which}
+use Rattle.elements.proofs.Slashes.{Divide, Divided, slash-divides, either-slash, divide-found, pattern-found}
+use Rattle.prefix.specs.Trees.{Trees, none, count}
+use Rattle.prefix.specs.Levels.{Levels, text, treesOf, slashOpens, depth, number}
+use Rattle.prefix.specs.Reading.{Limits, more, step, Reading, accepted, ending, readOn, reading, unlimited, unlimitedReading}
+use Rattle.prefix.proofs.ReadingLaws.{read-end, read-more}
+use Rattle.prefix.proofs.StepCases.{step-taken}
+use Rattle.prefix.proofs.Sizes.{Grown, taken-grown}
+use Rattle.grammar.specs.Cuts.{marked, isCloser, Cuts, cut-end, cut-element, cut-slash}
+use Rattle.grammar.specs.Tokens.{Token, classOf, tokenOf, tokensFrom, pattern, divide}
+use Rattle.grammar.specs.Grammar.{body}
+use Rattle.grammar.specs.TreeElements.{elementsOf}
+use Rattle.grammar.specs.Machine.{State, live, Control, take, run, start, Frame, statementDue}
+use Rattle.grammar.proofs.SoFar.{elementsSoFar, step-elements}
+use Rattle.grammar.proofs.InStep.{whole-text, InStep, in-step, start-in-step, at-end, live-before}
+use Rattle.grammar.proofs.Kept.{Kept, kept, Stepped, stepped}
+
+-- where nothing is left, nothing is left under either slash answer
+end-either : (bytes : List ℕ) (place : ℕ) → elementAt bytes place false ≡ Next.End → (answer : Bool) → elementAt bytes place answer ≡ Next.End
+end-either bytes place e false = e
+end-either bytes place e true = go (slashMet bytes place) refl
+  where
+    go : (met : Bool) → slashMet bytes place ≡ met → elementAt bytes place true ≡ Next.End
+    go true m = absurd (rw e at (slash-divides bytes place m))
+    go false m = either-slash bytes place m ∙ e
+
+found-either : (bytes : List ℕ) (place : ℕ) (e : Element) → slashMet bytes place ≡ false → elementAt bytes place false ≡ Next.Found e
+    → (answer : Bool) → elementAt bytes place answer ≡ Next.Found e
+found-either bytes place e m f false = f
+found-either bytes place e m f true = either-slash bytes place m ∙ f
+
+-- a slash that a derivation takes as a regular expression, or as a sign, is one for the machine
+module _ (bytes : List ℕ) (place : ℕ) (e : Element) (met : slashMet bytes place ≡ true) where
+  opened-class : elementAt bytes place true ≡ Next.Found e → classOf e ≡ pattern
+  unfolding classOf
+  opened-class f = rw (pattern-found bytes place met e f)
+
+  divided-class : elementAt bytes place false ≡ Next.Found e → classOf e ≡ divide
+  unfolding classOf longestSign longestOf Runs.same
+  divided-class f =
+      let d : Divide e = divide-found bytes place met e f in
+      rw (d .kind, d .which)
+
+  -- so that the prefix rule answers as the derivation does
+  answered : (answer : Bool) → elementAt bytes place answer ≡ Next.Found e → {limits : Limits} {levels : Levels} {after : State}
+      → Kept limits levels e after → slashOpens levels ≡ answer
+  answered true f k = k .pattern-opens (opened-class f)
+  answered false f k = k .divide-divides (divided-class f)
+
+-- the machine has no group open: the elements so far are those of the whole text's level
+whole : {control : Control} {f : Frame} {levels : Levels} → InStep (live control f []) levels → elementsOf (treesOf levels) ≡ elementsSoFar levels
+whole (in-step r whole-text) = refl
+
+-- the trees of a reading from levels on, with the elements that follow
+record Reads (bytes : List ℕ) (fuel : ℕ) (levels : Levels) (place : ℕ) (es : List Element) : Type 0 where
+  trees : Trees
+  reads : readOn bytes (unlimited bytes) fuel levels place ≡ accepted trees
+  same : elementsOf trees ≡ elementsSoFar levels ++ es
+
+module _ (bytes : List ℕ) where
+  -- one element, which the derivation found
+  module _ (fuel place n : ℕ) (state : State) (levels : Levels) (e : Element) (es : List Element)
+      (found : elementAt bytes place (slashOpens levels) ≡ Next.Found e)
+      (k : Kept (unlimited bytes) levels e (take state (tokenOf n (marked e))))
+      (few : number levels ≤ place) (shallow : depth levels ≤ place) where
+    -- what follows it goes on from the levels that it makes
+    some : length bytes < place + fuel → place ≤ length bytes
+        → ((after : Levels) → InStep (take state (tokenOf n (marked e))) after → number after ≤ e .end → depth after ≤ e .end
+        → (less : ℕ) → length bytes < e .end + less → e .end ≤ length bytes → Reads bytes less after (e .end) es)
+        → Reads bytes fuel levels place (marked e ∷ es)
+    some enough h rest = go fuel enough
+      where
+        go : (fuel : ℕ) → length bytes < place + fuel → Reads bytes fuel levels place (marked e ∷ es)
+        go zero enough = absurd (omega arith)
+        go (suc fuel) enough =
+            let p : Placed bytes place e = found-placed bytes place (slashOpens levels) e found in
+            let g = stepped k (omega arith) (omega arith) in
+            let after = g .next in
+            let grown : Grown (unlimited bytes) levels after = taken-grown e (step-taken (unlimited bytes) e levels after (g .steps)) in
+            let r = rest after (g .follows) (omega arith) (omega arith) fuel (omega arith) (p .within) in
+            record {
+              trees = r .trees;
+              reads = read-more bytes (unlimited bytes) fuel levels place e found after (g .steps) ∙ r .reads;
+              same = r .same
+                  ∙ rw (step-elements (unlimited bytes) levels e (delimiter-byte bytes place (slashOpens levels) e found) (delimiter-which bytes place (slashOpens levels) e found) after (g .steps))
+                  (append-assoc (elementsSoFar levels) (marked e ∷ []) es);
+            }
+
+  -- nothing is left
+  last : (fuel place : ℕ) (levels : Levels) → {control : Control} {f : Frame} → InStep (live control f []) levels → elementAt bytes place false ≡ Next.End → Reads bytes fuel levels place []
+  unfolding readOn
+  last fuel place levels i none-left =
+      record { trees = treesOf levels; reads = go fuel; same = whole i ∙ sym (append-nil (elementsSoFar levels)) }
+    where
+      go : (fuel : ℕ) → readOn bytes (unlimited bytes) fuel levels place ≡ accepted (treesOf levels)
+      go zero = at-end i
+      go (suc fuel) = read-end bytes (unlimited bytes) fuel levels place (end-either bytes place none-left (slashOpens levels)) ∙ at-end i
+
+  -- the machine follows what is left, and ends where a program may
+  abbrev Followed : State → ℕ → List Element → Type 0
+  Followed state n es = (f : Frame) × (run state (tokensFrom n es) ≡ live (statementDue false body) f [])
+
+  reads-on : {place : ℕ} {choice : List Bool} {es : List Element} → Cuts bytes place choice es → (n : ℕ) (state : State) (levels : Levels)
+      → InStep state levels → Followed state n es → number levels ≤ place → depth levels ≤ place
+      → (fuel : ℕ) → length bytes < place + fuel → place ≤ length bytes → Reads bytes fuel levels place es
+  unfolding tokensFrom
+  reads-on (cut-end {place} end) n state levels i r few shallow fuel enough h =
+      last fuel place levels (subst (λ (s : State). InStep s levels) (r .1) i) end
+  reads-on (cut-element {place} {e} {es = es} met found rest) n state levels i r few shallow fuel enough h =
+      let k = kept (unlimited bytes) levels e n i (live-before (take state (tokenOf n (marked e))) (tokensFrom (cond (isCloser (marked e)) n (n + 1)) es) (rw (r .1) tt)) in
+      some fuel place n state levels e es (found-either bytes place e met found (slashOpens levels)) k few shallow enough h
+      (λ after j few shallow less enough h. reads-on rest (cond (isCloser (marked e)) n (n + 1)) (take state (tokenOf n (marked e))) after j r few shallow less enough h)
+  reads-on (cut-slash {place} {e} {answer} {es = es} met found rest) n state levels i r few shallow fuel enough h =
+      let k = kept (unlimited bytes) levels e n i (live-before (take state (tokenOf n (marked e))) (tokensFrom (cond (isCloser (marked e)) n (n + 1)) es) (rw (r .1) tt)) in
+      some fuel place n state levels e es (rw (answered bytes place e met answer found k) found) k few shallow enough h
+      (λ after j few shallow less enough h. reads-on rest (cond (isCloser (marked e)) n (n + 1)) (take state (tokenOf n (marked e))) after j r few shallow less enough h)
+
+  -- a text that is cut into the elements of a program is read into trees with these elements
+  pub program-read : {choice : List Bool} {es : List Element} → Cuts bytes 0 choice es → Followed start 0 es
+      → (trees : Trees) × (unlimitedReading bytes ≡ accepted trees) × (elementsOf trees ≡ es)
+  unfolding reading elementsOf count
+  program-read cut r =
+      let a = reads-on cut 0 start (text none) start-in-step r (omega arith) (omega arith) (suc (length bytes)) (omega arith) (omega arith) in
+      (a .trees, a .reads, a .same)

@@ -1,0 +1,189 @@
+-- Each step of the machine keeps a partial derivation.
+use mathlib.Core.Bool.{true, false}
+use mathlib.Core.List.{List, [], _∷_}
+use Prim.Native.Nat.{ℕ}
+use Rattle.grammar.specs.Tokens.{Token, token, Spot, name, dot, openParen, closeParen, openBrace, returnWord, functionWord, ifWord}
+use Rattle.grammar.specs.Syntax.{nil, node, fullReturnSyntax}
+use Rattle.grammar.specs.Grammar.{leaf-name, body, Chain, chain-leaf, chain-empty, chain-member, statement-bare-return, no-statements}
+use Rattle.grammar.specs.Machine.{
+  pending,
+  Frame,
+  frame,
+  empty,
+  heldWord,
+  toParameter,
+  toObject,
+  byStatement,
+  byReturn,
+  declared,
+  operandIn,
+  Control,
+  statementDue,
+  nameFirst,
+  returnFirst,
+  ifFirst,
+  operandDone,
+  dotLast,
+  functionFirst,
+  functionNamed,
+  parameterPast,
+  objectOpened,
+  propertyNamed,
+  parameterDue,
+  parameterNamed,
+  Entry,
+  look,
+  operand,
+  afterOperand,
+  row,
+  Held,
+  held,
+  State,
+  dead,
+  live,
+  act,
+  run,
+}
+use Rattle.grammar.proofs.TableLaws.{EachEntry, looked-up, map-entries, unless-entries}
+use Rattle.grammar.proofs.Waiting.{Waiting, none-waits}
+use Rattle.grammar.proofs.Places.{
+  statementAt,
+  Reached,
+  in-declaration,
+  in-function,
+  after-label,
+  in-expression,
+  in-return,
+  in-condition,
+  in-object,
+  with-statement,
+}
+use Rattle.grammar.proofs.Partial.{
+  FunctionAt,
+  declaration-at,
+  operand-at,
+  Partial,
+  at-statement,
+  at-inner-statement,
+  behind-name,
+  behind-return,
+  behind-if,
+  at-operand,
+  behind-operand,
+  behind-dot,
+  behind-function,
+  behind-function-name,
+  at-parameter,
+  behind-parameter,
+  at-function-body,
+  in-braces,
+  behind-property,
+  behind-end,
+  PartialOf,
+}
+use Rattle.grammar.proofs.Rows.{Keeps, KeepsOperand, operand-row, KeepsChain, chain-row, no-statement-row, statement-row}
+
+module _ (all : List Token) (class : ℕ) (spot : Spot) (rest : List Token) where
+  -- by the row of a control, of which each entry keeps what stands there
+  by-row : (entries : List Entry) (f : Frame) (around : List Held) (Stands : List Token → Type 0)
+      → EachEntry (Keeps all spot rest around f Stands) entries → Stands (token class spot ∷ rest)
+      → PartialOf all (act (look class entries) (spot .mark) f around) rest
+  by-row entries f around Stands each stands = looked-up (Keeps all spot rest around f Stands) entries each (λ k s. tt) class stands
+
+  pub step-keeps : {control : Control} {f : Frame} {around : List Held} → Partial all control f around (token class spot ∷ rest)
+      → PartialOf all (act (look class (row control (spot .line))) (spot .mark) f around) rest
+  step-keeps {around = around} (at-statement {scope = scope} {done = done} place) =
+      by-row (row (statementDue false scope) (spot .line)) (frame done [] [] nil) around (Reached all (statementAt scope) done [] around)
+      (statement-row all spot rest around false scope done [] (no-statement-row all spot rest around scope done)) place
+  step-keeps {around = around} (at-inner-statement {scope = scope} {done = done} {starts = starts} place) =
+      by-row (row (statementDue true scope) (spot .line)) (frame done starts [] nil) around (Reached all (statementAt scope) done starts around)
+      (statement-row all spot rest around true scope done starts tt) place
+  step-keeps {f = f} {around = around} (behind-name {scope = scope} {done = done} {starts = starts} {spot = before} place) =
+      let Stands : List Token → Type 0 = λ here. Reached all (statementAt scope) done starts around (token name before ∷ here) in
+      by-row (row (nameFirst scope) (spot .line)) f around Stands (
+        (λ s. at-inner-statement (after-label s)),
+        map-entries (KeepsChain all spot rest around (byStatement scope) true done starts [] (node name (before .mark) nil nil))
+            (Keeps all spot rest around f Stands) (afterOperand (byStatement scope) true)
+            (λ k action keeps s. keeps _ _ (in-expression tt s) none-waits (chain-leaf leaf-name))
+            (chain-row all spot rest around (byStatement scope) true done starts [] (node name (before .mark) nil nil)),
+      )
+      place
+  step-keeps {f = f} {around = around} (behind-return {scope = scope} {done = done} {starts = starts} {word = word} place) =
+      let Stands : List Token → Type 0 = λ here. Reached all (statementAt scope) done starts around (token returnWord word ∷ here) in
+      by-row (row (returnFirst scope) (spot .line)) f around Stands (
+        (λ s. at-statement (with-statement s statement-bare-return)),
+        unless-entries (Keeps all spot rest around f Stands) (spot .line) (operand (byReturn scope) true)
+            (λ same.
+            map-entries (KeepsOperand all spot rest around (byReturn scope) true done (pending fullReturnSyntax (word .mark) nil ∷ starts) [] nil)
+            (Keeps all spot rest around f Stands) (operand (byReturn scope) true)
+            (λ k action keeps s. keeps _ (in-return same s) none-waits)
+            (operand-row all spot rest around (byReturn scope) true done (pending fullReturnSyntax (word .mark) nil ∷ starts) [] nil)),
+      )
+      place
+  step-keeps {f = f} {around = around} (behind-if {scope = scope} {done = done} {starts = starts} {word = word} place) =
+      by-row (row (ifFirst scope) (spot .line)) f around (λ here. Reached all (statementAt scope) done starts around (token ifWord word ∷ here))
+      ((λ s. at-operand (in-condition s) none-waits), tt) place
+  step-keeps {around = around} (at-operand {ending = ending} {target = target} {done = done} {operand = last} {starts = starts}
+      {waiting = waiting} {first = first} outer waits) =
+      looked-up (KeepsOperand all spot rest around ending target done starts waiting last) (operand ending target)
+      (operand-row all spot rest around ending target done starts waiting last) (λ k first outer waits. tt) class first outer waits
+  step-keeps {around = around} (behind-operand {ending = ending} {target = target} {done = done} {operand = last} {starts = starts}
+      {waiting = waiting} {first = first} {before = before} outer waits chain) =
+      looked-up (KeepsChain all spot rest around ending target done starts waiting last) (afterOperand ending target)
+      (chain-row all spot rest around ending target done starts waiting last) (λ k first before outer waits chain. tt) class first before outer waits chain
+  step-keeps {f = f} {around = around} (behind-dot {ending = ending} {target = target} {operand = last} {sign = sign}
+      {before = before} outer waits chain) =
+      by-row (row (dotLast ending target) (spot .line)) f around (λ here. Chain before (token dot sign ∷ here) last)
+      ((λ s. behind-operand outer waits (chain-member s)), tt) chain
+  step-keeps {f = f} {around = around} (behind-function {role = role} {done = done} {starts = starts} {waiting = waiting} {word = word} place) =
+      by-row (row (functionFirst role) (spot .line)) f around
+      (λ here. FunctionAt all role done starts waiting around (token functionWord word ∷ here))
+      ((λ s. behind-function-name s), tt) place
+  step-keeps {f = f} {around = around} (behind-function-name {role = role} {done = done} {starts = starts} {waiting = waiting} {word = word}
+      {called = called} place) =
+      by-row (row (functionNamed role) (spot .line)) f around
+      (λ here. FunctionAt all role done starts waiting around (token functionWord word ∷ token name called ∷ here))
+      ((λ s. at-parameter s), tt) place
+  step-keeps (at-parameter {role = role} {done = done} {starts = starts} {waiting = waiting} {around = around} {word = word} {called = called}
+      {opener = opener} place) =
+      by-row (row parameterDue (spot .line)) empty
+      (held (parameterPast role) toParameter (opener .mark) (frame done starts waiting (heldWord (word .mark))) ∷ around)
+      (λ here. FunctionAt all role done starts waiting around (token functionWord word ∷ token name called ∷ token openParen opener ∷ here))
+      ((λ s. behind-parameter s), tt) place
+  step-keeps (behind-parameter {role = role} {done = done} {starts = starts} {waiting = waiting} {around = around} {word = word}
+      {called = called} {opener = opener} {parameter = parameter} place) =
+      by-row (row parameterNamed (spot .line)) empty
+      (held (parameterPast role) toParameter (opener .mark) (frame done starts waiting (heldWord (word .mark))) ∷ around)
+      (λ here. FunctionAt all role done starts waiting around
+      (token functionWord word ∷ token name called ∷ token openParen opener ∷ token name parameter ∷ here))
+      ((λ s. at-function-body s), tt) place
+  step-keeps {f = f} {around = around} (at-function-body {done = done} {word = word} {called = called} {opener = opener} {parameter = parameter}
+      {closer = closer} (declaration-at place)) =
+      by-row (row (parameterPast declared) (spot .line)) f around
+      (λ here. Reached all (statementAt body) done [] around
+      (token functionWord word ∷ token name called ∷ token openParen opener ∷ token name parameter ∷ token closeParen closer ∷ here))
+      ((λ s. at-statement (in-declaration s no-statements)), tt) place
+  step-keeps {f = f} {around = around} (at-function-body {waiting = waiting} {word = word} {called = called} {opener = opener}
+      {parameter = parameter} {closer = closer} (operand-at {ending = ending} {target = target} {first = first} outer waits)) =
+      by-row (row (parameterPast (operandIn ending target)) (spot .line)) f around
+      (λ here. Waiting target waiting first
+      (token functionWord word ∷ token name called ∷ token openParen opener ∷ token name parameter ∷ token closeParen closer ∷ here))
+      ((λ s. at-statement (in-function outer s no-statements)), tt) waits
+  step-keeps (in-braces {ending = ending} {target = target} {done = done} {operand = last} {starts = starts} {waiting = waiting}
+      {around = around} {opener = opener} {first = first} outer waits) =
+      by-row (row objectOpened (spot .line)) empty
+      (held (operandDone ending target) toObject (opener .mark) (frame done starts waiting last) ∷ around)
+      (λ here. Waiting target waiting first (token openBrace opener ∷ here))
+      ((λ s. behind-property outer s), ((λ s. behind-operand outer s chain-empty), tt)) waits
+  step-keeps (behind-property {ending = ending} {target = target} {done = done} {operand = last} {starts = starts} {waiting = waiting}
+      {around = around} {opener = opener} {property = property} {first = first} outer waits) =
+      by-row (row propertyNamed (spot .line)) empty
+      (held (operandDone ending target) toObject (opener .mark) (frame done starts waiting last) ∷ around)
+      (λ here. Waiting target waiting first (token openBrace opener ∷ token name property ∷ here))
+      ((λ s. at-operand (in-object outer s) none-waits), tt) waits
+  step-keeps (behind-end statements) = tt
+
+pub run-keeps : (all rest : List Token) (state : State) → PartialOf all state rest → PartialOf all (run state rest) []
+run-keeps all [] state p = p
+run-keeps all (token class spot ∷ rest) dead p = run-keeps all rest dead tt
+run-keeps all (token class spot ∷ rest) (live control f around) p = run-keeps all rest _ (step-keeps all class spot rest p)

@@ -1,0 +1,65 @@
+-- A part leads to tokens that stand behind it: the tokens after it end the tokens before it.
+use mathlib.Core.List.{List, _∷_}
+use Rattle.grammar.specs.Tokens.{Token}
+use Rattle.grammar.specs.Syntax.{Syntax}
+use Rattle.grammar.specs.Grammar.{
+  Form,
+  Derives,
+  chain-leaf,
+  chain-empty,
+  chain-object,
+  chain-parens,
+  chain-function,
+  chain-call,
+  chain-member,
+  binary-chain,
+  binary-operator,
+  assign-binary,
+  assign-to,
+  function-all,
+  statement-block,
+  statement-expression,
+  statement-if,
+  statement-bare-return,
+  statement-full-return,
+  statement-label,
+  no-statements,
+  add-statement,
+  add-declaration,
+}
+
+-- a list of tokens ends with another
+pub data EndsWith : List Token → List Token → Type 0 where
+  itself : {here : List Token} → EndsWith here here
+  behind : {t : Token} {before after : List Token} → EndsWith before after → EndsWith (t ∷ before) after
+
+past : {t : Token} {before after : List Token} → EndsWith before (t ∷ after) → EndsWith before after
+past itself = behind itself
+past (behind e) = behind (past e)
+
+then : {before middle after : List Token} → EndsWith before middle → EndsWith middle after → EndsWith before after
+then itself e = e
+then (behind d) e = behind (then d e)
+
+pub derived-end : {form : Form} {before after : List Token} {value : Syntax} → Derives form before after value → EndsWith before after
+derived-end (chain-leaf leaf) = behind itself
+derived-end chain-empty = behind (behind itself)
+derived-end (chain-object value) = behind (behind (behind (past (derived-end value))))
+derived-end (chain-parens value) = behind (past (derived-end value))
+derived-end (chain-function function) = behind (derived-end function)
+derived-end (chain-call callee value) = then (past (derived-end callee)) (past (derived-end value))
+derived-end (chain-member object) = past (past (derived-end object))
+derived-end (binary-chain chain) = derived-end chain
+derived-end (binary-operator op tight left right) = then (past (derived-end left)) (derived-end right)
+derived-end (assign-binary binary) = derived-end binary
+derived-end (assign-to target value) = then (past (derived-end target)) (derived-end value)
+derived-end (function-all statements) = behind (behind (behind (behind (behind (past (derived-end statements))))))
+derived-end (statement-block statements) = behind (past (derived-end statements))
+derived-end (statement-expression allowed value) = past (derived-end value)
+derived-end (statement-if condition inner) = behind (behind (then (past (derived-end condition)) (derived-end inner)))
+derived-end statement-bare-return = behind (behind itself)
+derived-end (statement-full-return same value) = behind (past (derived-end value))
+derived-end (statement-label inner) = behind (behind (derived-end inner))
+derived-end no-statements = itself
+derived-end (add-statement statements last) = then (derived-end statements) (derived-end last)
+derived-end (add-declaration statements function) = then (past (derived-end statements)) (derived-end function)

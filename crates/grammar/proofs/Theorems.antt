@@ -1,0 +1,83 @@
+-- The theorems of derivations.
+use mathlib.Core.Path.{_≡_, refl, sym, ap, subst, _∙_}
+use mathlib.Core.List.{List, [], _∷_, _++_}
+use mathlib.Core.Bool.{Bool, false}
+use Prim.Native.Nat.{ℕ, _+_, _≤_}
+use native.Mathlib.Omega.{arith}
+use Rattle.elements.specs.declared.Element.{Element}
+use Rattle.prefix.specs.Trees.{Trees}
+use Rattle.prefix.specs.Reading.{Limits, accepted, reading, unlimited, unlimitedReading}
+use Rattle.grammar.specs.Tokens.{Token, tokens}
+use Rattle.grammar.specs.Syntax.{Syntax, size}
+use Rattle.grammar.specs.Grammar.{body, Program}
+use Rattle.grammar.specs.Derivations.{Derivation, syntaxTree, countTrees, BeginsProgram}
+use Rattle.grammar.specs.TreeElements.{elementsOf}
+use Rattle.grammar.specs.Machine.{State, dead, live, Control, Frame, frame, Held, doneOf, statementDue, run, start}
+use Rattle.grammar.proofs.Complete.{complete, one-tree}
+use Rattle.grammar.proofs.Sound.{sound}
+use Rattle.grammar.proofs.Programs.{program-read}
+use Rattle.grammar.proofs.ReadCuts.{CutsInto, reading-cuts}
+use Rattle.grammar.proofs.SameChoice.{same-choice}
+use Rattle.grammar.proofs.Counts.{few-parts}
+use Rattle.grammar.proofs.Ranges.{marksOf, Distinct}
+use Rattle.grammar.proofs.TokenLaws.{element-marks}
+use Rattle.grammar.proofs.CountTrees.{count-tokens, program-distinct}
+use Rattle.grammar.proofs.Begins.{begins, begins-not, still-going}
+
+-- what the prefix rule makes of a text with a derivation
+pub record Read (text : List ℕ) (es : List Element) : Type 0 where
+  pub trees : Trees
+  pub reads : unlimitedReading text ≡ accepted trees
+  pub same : elementsOf trees ≡ es
+
+-- Demand 3: "the prefix rule takes each slash of a program as its derivation does". The reading of a program without limits is
+-- accepted, and the elements of its trees, closers included, are the derivation's: a regular expression stands among them at
+-- exactly the slashes that the derivation takes as one.
+pub no-program-differs : (text : List ℕ) (d : Derivation text) → Read text (d .elements)
+no-program-differs text d =
+    let r = program-read text (d .cut) (frame (d .parts) [] [] _, complete (d .steps)) in
+    record { trees = r .0; reads = r .1; same = r .2 }
+
+-- Demand 3: "any two grammar derivations take every slash alike and have one syntax tree".
+pub record Alike {text : List ℕ} (d f : Derivation text) : Type 0 where
+  pub same-elements : d .elements ≡ f .elements
+  pub same-answers : d .choice ≡ f .choice
+  pub same-syntax : syntaxTree d ≡ syntaxTree f
+
+pub any-two-derivations : (text : List ℕ) (d f : Derivation text) → Alike d f
+any-two-derivations text d f =
+    let r = no-program-differs text d in
+    let s = no-program-differs text f in
+    let trees : r .trees ≡ s .trees = cc in
+    let elements : d .elements ≡ f .elements = sym (r .same) ∙ ap elementsOf trees ∙ s .same in
+    let parts : d .parts ≡ f .parts = one-tree (subst (λ (es : List Element). Program (tokens es) (d .parts)) elements (d .steps)) (f .steps) in
+    record { same-elements = elements; same-answers = same-choice text (d .cut) (f .cut) elements; same-syntax = cc }
+
+-- A text is a program exactly if its unlimited reading is accepted, and the machine takes the elements to where a program may end.
+pub derivation-of : (text : List ℕ) (limits : Limits) (trees : Trees) (f : Frame) → reading text limits ≡ accepted trees
+    → run start (tokens (elementsOf trees)) ≡ live (statementDue false body) f [] → Derivation text
+derivation-of text limits trees f a r =
+    let c = reading-cuts text limits trees a in
+    record { choice = c .choice; elements = elementsOf trees; cut = c .cut; parts = doneOf f; steps = sound (tokens (elementsOf trees)) f r }
+
+-- Refused texts, 13: "first element with which the elements so far begin no program". It is where the machine stops: some text
+-- with a derivation begins with the elements before it, and none begins with these and the element.
+pub first-refused : (text : List ℕ) (limits : Limits) (trees : Trees) → reading text limits ≡ accepted trees
+    → (before after : List Element) (e : Element) → elementsOf trees ≡ before ++ (e ∷ after)
+    → (control : Control) (f : Frame) (around : List Held) → run start (tokens before) ≡ live control f around
+    → run start (tokens (before ++ (e ∷ []))) ≡ dead
+    → BeginsProgram text before × (BeginsProgram text (before ++ (e ∷ [])) → ⊥)
+first-refused text limits trees a before after e split control f around alive stops = (
+  begins text (elementsOf trees) before (e ∷ after) (reading-cuts text limits trees a) split control f around alive (still-going before control f around alive),
+  begins-not text (before ++ (e ∷ [])) stops,
+)
+
+-- "A syntax tree has at most one record more than the tree records, each with its own mark."
+pub record FewParts {text : List ℕ} (d : Derivation text) : Type 0 where
+  pub few : size (syntaxTree d) ≤ countTrees (d .elements) + 1
+  pub own : Distinct (marksOf (syntaxTree d))
+
+pub few-parts-each-marked : (text : List ℕ) (d : Derivation text) → FewParts d
+few-parts-each-marked text d =
+    let trees = count-tokens 0 (d .elements) in
+    record { few = omega (arith, few-parts (d .steps)); own = rw (sym trees) (program-distinct (element-marks (d .elements) (d .steps))) }

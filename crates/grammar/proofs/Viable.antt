@@ -1,0 +1,220 @@
+-- A run that lives can be completed to a program, and one that is dead cannot.
+use mathlib.Core.Path.{_≡_, refl, _∙_, ap}
+use mathlib.Core.Bool.{Bool, true, false}
+use mathlib.Core.List.{List, [], _∷_, _++_}
+use Prim.Native.Nat.{ℕ}
+use native.Mathlib.Omega.{arith}
+use Rattle.grammar.specs.Tokens.{Token, token, Spot, name, colon, semicolon, openParen, closeParen, openBrace, closeBrace, returnWord}
+use Rattle.grammar.specs.Syntax.{Syntax}
+use Rattle.grammar.specs.Grammar.{Scope, body, Program}
+use Rattle.grammar.specs.Machine.{
+  endOfText,
+  Pending,
+  Frame,
+  doneOf,
+  Role,
+  Control,
+  statementDue,
+  operandDone,
+  parameterPast,
+  finished,
+  Held,
+  State,
+  dead,
+  live,
+  run,
+  start,
+}
+use Rattle.grammar.proofs.Complete.{complete, complete-to-end, run-append}
+use Rattle.grammar.proofs.Places.{
+  Place,
+  statementAt,
+  expressionAt,
+  Reached,
+  in-program,
+  in-block,
+  in-declaration,
+  in-function,
+  after-if,
+  after-label,
+  in-expression,
+  in-return,
+  in-parens,
+  in-call,
+  in-condition,
+  in-object,
+}
+use Rattle.grammar.proofs.Partial.{
+  FunctionAt,
+  declaration-at,
+  operand-at,
+  Partial,
+  at-statement,
+  at-inner-statement,
+  behind-name,
+  behind-return,
+  behind-if,
+  at-operand,
+  behind-operand,
+  behind-dot,
+  behind-function,
+  behind-function-name,
+  at-parameter,
+  behind-parameter,
+  at-function-body,
+  in-braces,
+  behind-property,
+  behind-end,
+}
+use Rattle.grammar.proofs.Sound.{run-partial, sound}
+use Rattle.grammar.proofs.Completion.{
+  spelled-name,
+  spelled-colon,
+  spelled-semicolon,
+  spelled-open-paren,
+  spelled-close-paren,
+  spelled-open-brace,
+  spelled-close-brace,
+  spelled-return,
+  AllSpelled,
+  none-spelled,
+  more-spelled,
+  OfClasses,
+  ends-run,
+  Completion,
+  through,
+}
+
+-- a statement that must come: `return ;`
+inner-statement : {scope : Scope} {around : List Held} → Completion (statementDue false scope) around → Completion (statementDue true scope) around
+inner-statement c = record {
+  classes = returnWord ∷ semicolon ∷ c .classes;
+  spelled = more-spelled spelled-return (more-spelled spelled-semicolon (c .spelled));
+  ends = λ f word end. c .ends _;
+}
+
+-- how a place is left: where a statement may start, by the closer of what is around; an expression, by its ending
+abbrev Left : Place → List Held → Type 0
+Left (statementAt scope) around = Completion (statementDue false scope) around
+Left (expressionAt ending) around = (target : Bool) → Completion (operandDone ending target) around
+
+left : {all : List Token} {place : Place} {done : Syntax} {starts : List Pending} {around : List Held} {here : List Token}
+    → Reached all place done starts around here → Left place around
+left (in-program statements) = record { classes = []; spelled = none-spelled; ends = λ f. (f, refl) }
+left (in-block outer statements) = let c = left outer in through spelled-close-brace c λ f closer. c .ends _
+left (in-declaration outer statements) = let c = left outer in through spelled-close-brace c λ f closer. c .ends _
+left (in-function {target = behind} outer waits statements) = let c = left outer behind in through spelled-close-brace c λ f closer. c .ends _
+left (after-if outer condition) = left outer
+left (after-label outer) = left outer
+left (in-expression allowed outer) = λ target. let c = left outer in through spelled-semicolon c λ f end. c .ends _
+left (in-return same outer) = λ target. let c = left outer in through spelled-semicolon c λ f end. c .ends _
+left (in-parens {target = behind} outer waits) = λ target. let c = left outer behind in through spelled-close-paren c λ f closer. c .ends _
+left (in-call {target = behind} outer waits callee) = λ target. let c = left outer behind in through spelled-close-paren c λ f closer. c .ends _
+left (in-condition outer) = λ target. let c = inner-statement (left outer) in through spelled-close-paren c λ f closer. c .ends _
+left (in-object {target = behind} outer waits) = λ target. let c = left outer behind in through spelled-close-brace c λ f closer. c .ends _
+
+-- the body of a function: `{ }`
+function-body : {all : List Token} {role : Role} {done : Syntax} {starts waiting : List Pending} {around : List Held} {here : List Token}
+    → FunctionAt all role done starts waiting around here → Completion (parameterPast role) around
+function-body (declaration-at outer) =
+    let c = left outer in
+    record {
+      classes = openBrace ∷ closeBrace ∷ c .classes;
+      spelled = more-spelled spelled-open-brace (more-spelled spelled-close-brace (c .spelled));
+      ends = λ f opener closer. c .ends _;
+    }
+function-body (operand-at {target = target} outer waits) =
+    let c = left outer target in
+    record {
+      classes = openBrace ∷ closeBrace ∷ c .classes;
+      spelled = more-spelled spelled-open-brace (more-spelled spelled-close-brace (c .spelled));
+      ends = λ f opener closer. c .ends _;
+    }
+
+-- each partial derivation can be completed, if the text has not ended
+completion : {all : List Token} {control : Control} {f : Frame} {around : List Held} {here : List Token} → Partial all control f around here
+    → (control ≡ finished → ⊥) → Completion control around
+completion (at-statement place) more = left place
+completion (at-inner-statement place) more = inner-statement (left place)
+completion (behind-name place) more = let c = left place in through spelled-semicolon c λ f end. c .ends _
+completion (behind-return place) more = let c = left place in through spelled-semicolon c λ f end. c .ends _
+completion (behind-if place) more =
+    let c = inner-statement (left place) in
+    record {
+      classes = openParen ∷ name ∷ closeParen ∷ c .classes;
+      spelled = more-spelled spelled-open-paren (more-spelled spelled-name (more-spelled spelled-close-paren (c .spelled)));
+      ends = λ f opener called closer. c .ends _;
+    }
+completion (at-operand {target = target} outer waits) more = let c = left outer target in through spelled-name c λ f called. c .ends _
+completion (behind-operand {target = target} outer waits chain) more = left outer target
+completion (behind-dot {target = target} outer waits chain) more = let c = left outer target in through spelled-name c λ f called. c .ends _
+completion (behind-function place) more =
+    let c = function-body place in
+    record {
+      classes = name ∷ openParen ∷ name ∷ closeParen ∷ c .classes;
+      spelled = more-spelled spelled-name
+          (more-spelled spelled-open-paren (more-spelled spelled-name (more-spelled spelled-close-paren (c .spelled))));
+      ends = λ f called opener parameter closer. c .ends _;
+    }
+completion (behind-function-name place) more =
+    let c = function-body place in
+    record {
+      classes = openParen ∷ name ∷ closeParen ∷ c .classes;
+      spelled = more-spelled spelled-open-paren (more-spelled spelled-name (more-spelled spelled-close-paren (c .spelled)));
+      ends = λ f opener parameter closer. c .ends _;
+    }
+completion (at-parameter place) more =
+    let c = function-body place in
+    record {
+      classes = name ∷ closeParen ∷ c .classes;
+      spelled = more-spelled spelled-name (more-spelled spelled-close-paren (c .spelled));
+      ends = λ f parameter closer. c .ends _;
+    }
+completion (behind-parameter place) more = let c = function-body place in through spelled-close-paren c λ f closer. c .ends _
+completion (at-function-body place) more = function-body place
+completion (in-braces {target = target} outer waits) more = let c = left outer target in through spelled-close-brace c λ f closer. c .ends _
+completion (behind-property {target = target} outer waits) more =
+    let c = left outer target in
+    record {
+      classes = colon ∷ name ∷ closeBrace ∷ c .classes;
+      spelled = more-spelled spelled-colon (more-spelled spelled-name (more-spelled spelled-close-brace (c .spelled)));
+      ends = λ f sign called closer. c .ends _;
+    }
+completion (behind-end statements) more = absurd (more refl)
+
+-- tokens begin a program: those of some classes complete it, wherever they stand
+pub record Viable (all : List Token) : Type 0 where
+  pub classes : List ℕ
+  pub spelled : AllSpelled classes
+  pub completes : (more : List Token) → OfClasses classes more → (parts : Syntax) × Program (all ++ more) parts
+
+pub viable : (all : List Token) (control : Control) (f : Frame) (around : List Held) → run start all ≡ live control f around
+    → (control ≡ finished → ⊥) → Viable all
+viable all control f around e going =
+    let c = completion (run-partial all control f around e) going in
+    record {
+      classes = c .classes;
+      spelled = c .spelled;
+      completes = λ more tokens.
+          let r = ends-run (live control f around) tokens (c .ends f) in
+          (doneOf (r .0), sound (all ++ more) (r .0) (run-append all more start ∙ ap (λ (state : State). run state more) e ∙ r .1));
+    }
+
+stays-dead : (more : List Token) → run dead more ≡ dead
+stays-dead [] = refl
+stays-dead (t ∷ more) = stays-dead more
+
+pub refused : (all : List Token) → run start all ≡ dead → (more : List Token) (parts : Syntax) → Program (all ++ more) parts → ⊥
+refused all e more parts program =
+    let dies : run start (all ++ more) ≡ dead = run-append all more start ∙ ap (λ (state : State). run state more) e ∙ stays-dead more in
+    let lives = complete program in
+    let z : _≡_ {A = ℕ} 0 1 = cc in
+    omega arith
+
+-- at the end of the text too
+pub refused-at-end : (all : List Token) (spot : Spot) → run start (all ++ (token endOfText spot ∷ [])) ≡ dead → (parts : Syntax)
+    → Program all parts → ⊥
+refused-at-end all spot dies parts program =
+    let lives = complete-to-end spot program in
+    let z : _≡_ {A = ℕ} 0 1 = cc in
+    omega arith

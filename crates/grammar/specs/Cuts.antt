@@ -1,0 +1,30 @@
+-- Document 01, Grammar: "A slash is met where an element would start with it and no comment starts there. It is taken as a
+-- regular expression or as the longest sign at that place. A choice is one such answer for each slash met, left to right;
+-- which slashes are met later depends on the earlier answers."
+use Prim.Native.Nat.{ℕ, _+_}
+use mathlib.Core.Path.{_≡_}
+use mathlib.Core.Bool.{Bool, true, false, cond, _&&_, _||_}
+use mathlib.Core.List.{List, [], _∷_}
+use lib.Dec.{eqb}
+use Rattle.elements.specs.Elements.{elementAt, slashMet, delimiterKind}
+use Rattle.elements.specs.declared.Element.{Element}
+use Rattle.elements.specs.declared.Next.{Next}
+use Rattle.prefix.specs.Rule.{isSign}
+
+-- a closer: `)` or `}`
+abbrev pub isCloser : Element → Bool
+isCloser e = eqb (e .kind) delimiterKind && (isSign ")" (e .which) || isSign "}" (e .which))
+
+-- an element with its line mark; a closer has no tree record, and so no line mark
+abbrev pub marked : Element → Element
+marked e = record { kind = e .kind; which = e .which; first = e .first; end = e .end; line = cond (isCloser e) false (e .line) }
+
+-- "With that choice the rules under Elements cut the whole text into elements and blanks, with no illegal byte and no element or
+-- comment that has a fault of its own": the elements of a text from a place on, by a choice. True takes a slash as a regular
+-- expression. Where no slash is met there is no answer to give, and elements are the same under either.
+pub data Cuts (text : List ℕ) : ℕ → List Bool → List Element → Type 0 where
+  cut-end : {place : ℕ} → elementAt text place false ≡ Next.End → Cuts text place [] []
+  cut-element : {place : ℕ} {e : Element} {choice : List Bool} {es : List Element} → slashMet text place ≡ false
+      → elementAt text place false ≡ Next.Found e → Cuts text (e .end) choice es → Cuts text place choice (marked e ∷ es)
+  cut-slash : {place : ℕ} {e : Element} {answer : Bool} {choice : List Bool} {es : List Element} → slashMet text place ≡ true
+      → elementAt text place answer ≡ Next.Found e → Cuts text (e .end) choice es → Cuts text place (answer ∷ choice) (marked e ∷ es)

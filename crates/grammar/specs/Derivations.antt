@@ -1,0 +1,70 @@
+-- Document 01, Grammar: "A derivation of a text is a choice together with grammar steps. With that choice the rules under
+-- Elements cut the whole text into elements and blanks .. The steps lead from Program to exactly these elements, closers
+-- included. A derivation settles no slash by the prefix rule. A text with a derivation is a program."
+use Prim.Native.Nat.{ℕ, _+_, _-_, _≤_, max}
+use mathlib.Core.Path.{_≡_}
+use mathlib.Core.Bool.{Bool, true, false, cond, _&&_, _||_}
+use mathlib.Core.List.{List, [], _∷_, _++_}
+use lib.Dec.{eqb}
+use lib.ListN.{length, take, drop}
+use Rattle.elements.specs.Elements.{delimiterKind}
+use Rattle.elements.specs.declared.Element.{Element}
+use Rattle.prefix.specs.Rule.{isSign}
+use Rattle.reader.specs.Records.{mostTrees}
+use Rattle.reader.specs.Read.{mostBytes, mostGroups}
+use Rattle.grammar.specs.Cuts.{isCloser, Cuts}
+use Rattle.grammar.specs.Tokens.{tokens}
+use Rattle.grammar.specs.Syntax.{Syntax, size, mostSyntax, programTree}
+use Rattle.grammar.specs.Grammar.{Program}
+
+pub record Derivation (text : List ℕ) : Type 0 where
+  pub choice : List Bool
+  pub elements : List Element
+  pub cut : Cuts text 0 choice elements
+  pub parts : Syntax
+  pub steps : Program (tokens elements) parts
+
+-- "its elements other than closers": the number of its tree records
+abbrev pub countTrees : List Element → ℕ
+countTrees [] = 0
+countTrees (e ∷ es) = cond (isCloser e) 0 1 + countTrees es
+
+-- "The syntax tree of a derivation is the list of its syntax records, one for each part that Records names": the program's own
+-- is one of them
+abbrev pub syntaxTree : {text : List ℕ} → Derivation text → Syntax
+syntaxTree d = programTree (countTrees (d .elements)) (d .parts)
+
+-- groups that are open behind an element, where so many are open before it
+abbrev pub openAfter : ℕ → Element → ℕ
+openAfter depth e =
+    cond (eqb (e .kind) delimiterKind && (isSign "(" (e .which) || isSign "{" (e .which))) (depth + 1)
+    (cond (isCloser e) (depth - 1) depth)
+
+-- the most groups that are open at once
+abbrev pub deepestFrom : ℕ → List Element → ℕ
+deepestFrom depth [] = depth
+deepestFrom depth (e ∷ es) = max depth (deepestFrom (openAfter depth e) es)
+
+-- "A derivation is within the limits if its text has at most 262,144 bytes, at most 16,384 of its elements are not closers, its
+-- syntax tree has at most 16,385 records, and no opener stands inside 100 open groups."
+pub record WithinLimits {text : List ℕ} (d : Derivation text) : Type 0 where
+  pub few-bytes : length text ≤ mostBytes
+  pub few-trees : countTrees (d .elements) ≤ mostTrees
+  pub few-parts : size (syntaxTree d) ≤ mostSyntax
+  pub shallow : deepestFrom 0 (d .elements) ≤ mostGroups
+
+-- elements of two texts with the same kinds, line marks and bytes
+pub data SameElements (text other : List ℕ) : List Element → List Element → Type 0 where
+  no-elements : SameElements text other [] []
+  same-element : {e f : Element} {es fs : List Element} → e .kind ≡ f .kind → e .which ≡ f .which → e .line ≡ f .line
+      → take (e .end - e .first) (drop (e .first) text) ≡ take (f .end - f .first) (drop (f .first) other)
+      → SameElements text other es fs → SameElements text other (e ∷ es) (f ∷ fs)
+
+-- elements of a text "begin a program (limits aside)": some text has a derivation whose elements start with these
+pub record BeginsProgram (text : List ℕ) (es : List Element) : Type 0 where
+  pub other : List ℕ
+  pub derivation : Derivation other
+  pub firsts : List Element
+  pub more : List Element
+  pub starts : derivation .elements ≡ firsts ++ more
+  pub same : SameElements text other es firsts

@@ -1,0 +1,7 @@
+pub mod Cuts
+pub mod Tokens
+pub mod Syntax
+pub mod Grammar
+pub mod Derivations
+pub mod TreeElements
+pub mod Machine

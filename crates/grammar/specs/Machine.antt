@@ -1,0 +1,297 @@
+-- The token machine: it takes tokens one at a time, and builds the syntax tree as it goes. Machinery: it is shown to accept what
+-- has a derivation, and nothing else.
+use Prim.Native.Nat.{ℕ, _+_}
+use mathlib.Core.Bool.{Bool, true, false, cond}
+use mathlib.Core.List.{List, [], _∷_}
+use lib.Dec.{eqb, leb}
+use Rattle.grammar.specs.Tokens.{
+  Token,
+  token,
+  Spot,
+  name,
+  number,
+  string,
+  pattern,
+  assign,
+  colon,
+  semicolon,
+  dot,
+  openParen,
+  closeParen,
+  openBrace,
+  closeBrace,
+  returnWord,
+  functionWord,
+  ifWord,
+}
+use Rattle.grammar.specs.Syntax.{
+  Syntax,
+  nil,
+  node,
+  snoc,
+  objectSyntax,
+  parenthesisedSyntax,
+  functionSyntax,
+  memberSyntax,
+  callSyntax,
+  expressionSyntax,
+  bareReturnSyntax,
+  fullReturnSyntax,
+  blockSyntax,
+  labelSyntax,
+  ifSyntax,
+  declarationSyntax,
+}
+use Rattle.grammar.specs.Grammar.{Scope, body, block, Operator, operator, operators, precedence}
+
+-- behind the last token of a text stands its end
+abbrev pub endOfText : ℕ
+endOfText = 31
+
+-- what waits for a part on its right: an operator with its left part, or the beginning of a statement; kind, mark, part
+pub data Pending : Type 0 where
+  pending : ℕ → ℕ → Syntax → Pending
+
+-- what a level has so far: statements done, beginnings of statements, operators, and the operand
+pub data Frame : Type 0 where
+  frame : Syntax → List Pending → List Pending → Syntax → Frame
+
+abbrev pub empty : Frame
+empty = frame nil [] [] nil
+
+-- operators that bind at least as tight are closed
+abbrev pub reduce : ℕ → Syntax → List Pending → List Pending → Syntax → Frame
+reduce least done starts [] operand = frame done starts [] operand
+reduce least done starts (pending class mark left ∷ waiting) operand =
+    cond (leb least (precedence class)) (reduce least done starts waiting (node class mark left operand))
+    (frame done starts (pending class mark left ∷ waiting) operand)
+
+-- a statement is complete, and so are those that it ends
+abbrev pub wrap : List Pending → Syntax → Syntax
+wrap [] last = last
+wrap (pending kind mark left ∷ starts) last = wrap starts (node kind mark left last)
+
+abbrev pub completeStatement : Syntax → List Pending → Syntax → Frame
+completeStatement done starts last = frame (snoc done (wrap starts last)) [] [] nil
+
+abbrev pub operandOf : Frame → Syntax
+operandOf (frame done starts waiting operand) = operand
+
+abbrev pub doneOf : Frame → Syntax
+doneOf (frame done starts waiting operand) = done
+
+abbrev pub markOf : Syntax → ℕ
+markOf nil = 0
+markOf (node kind mark left right) = mark
+markOf (snoc before last) = 0
+
+-- the word of a function or of an `if`, held in place of the operand for its mark
+abbrev pub heldWord : ℕ → Syntax
+heldWord mark = node 0 mark nil nil
+
+-- what a token does to the frame
+pub data Effect : Type 0 where
+  keep takeMember endExpression endReturn endBareReturn takeLabel holdWord startReturn : Effect
+  takeLeaf takeOperator : ℕ → Effect
+
+abbrev pub await : ℕ → ℕ → Frame → Frame
+await class mark (frame done starts waiting operand) = frame done starts (pending class mark operand ∷ waiting) nil
+
+abbrev pub completeExpression : ℕ → Frame → Frame
+completeExpression mark (frame done starts waiting operand) = completeStatement done starts (node expressionSyntax mark operand nil)
+
+abbrev pub completeReturn : Frame → Frame
+completeReturn (frame done starts waiting operand) = completeStatement done starts operand
+
+abbrev pub completeBareReturn : Syntax → List Pending → Frame
+completeBareReturn done [] = completeStatement done [] nil
+completeBareReturn done (pending kind mark left ∷ starts) = completeStatement done starts (node bareReturnSyntax mark nil nil)
+
+-- how tight a pending operator must bind to be closed by one of a class: as tight, since they group to the left; `=` closes
+-- all of them, and no other `=`
+abbrev pub threshold : ℕ → ℕ
+threshold class = cond (eqb class assign) 1 (precedence class)
+
+abbrev pub affect : Effect → ℕ → Frame → Frame
+affect keep mark f = f
+affect takeMember mark (frame done starts waiting operand) = frame done starts waiting (node memberSyntax mark operand nil)
+affect endExpression mark (frame done starts waiting operand) = completeExpression mark (reduce 0 done starts waiting operand)
+affect endReturn mark (frame done starts waiting operand) = completeReturn (reduce 0 done starts waiting operand)
+affect endBareReturn mark (frame done starts waiting operand) = completeBareReturn done starts
+affect takeLabel mark (frame done starts waiting operand) = frame done (pending labelSyntax (markOf operand) nil ∷ starts) waiting nil
+affect holdWord mark (frame done starts waiting operand) = frame done starts waiting (heldWord mark)
+affect startReturn mark (frame done starts waiting operand) = frame done (pending fullReturnSyntax mark nil ∷ starts) waiting nil
+affect (takeLeaf class) mark (frame done starts waiting operand) = frame done starts waiting (node class mark nil nil)
+affect (takeOperator class) mark (frame done starts waiting operand) = await class mark (reduce (threshold class) done starts waiting operand)
+
+-- what a group that closes does to the frame around it, with its mark and its value
+pub data Closing : Type 0 where
+  toParens toCall toObject toBlock toCondition toParameter toDeclaration toFunction : Closing
+
+abbrev pub close : Closing → ℕ → Syntax → Frame → Frame
+close toParens mark value (frame done starts waiting operand) = frame done starts waiting (node parenthesisedSyntax mark value nil)
+close toCall mark value (frame done starts waiting operand) = frame done starts waiting (node callSyntax mark operand value)
+close toObject mark value (frame done starts waiting operand) = frame done starts waiting (node objectSyntax mark value nil)
+close toBlock mark value (frame done starts waiting operand) = completeStatement done starts (node blockSyntax mark value nil)
+close toCondition mark value (frame done starts waiting operand) = frame done (pending ifSyntax (markOf operand) value ∷ starts) waiting nil
+close toParameter mark value f = f
+close toDeclaration mark value (frame done starts waiting operand) = completeStatement done starts (node declarationSyntax (markOf operand) value nil)
+close toFunction mark value (frame done starts waiting operand) = frame done starts waiting (node functionSyntax (markOf operand) value nil)
+
+-- the value of a group that closes
+pub data Value : Type 0 where
+  noValue expressionValue statementsValue : Value
+
+abbrev pub valueOf : Value → Frame → Syntax
+valueOf noValue f = nil
+valueOf expressionValue (frame done starts waiting operand) = operandOf (reduce 0 done starts waiting operand)
+valueOf statementsValue f = doneOf f
+
+-- what ends an expression: the `;` of an expression statement or of a return, in a scope; `)`; the `}` of an object
+pub data Ending : Type 0 where
+  byStatement byReturn : Scope → Ending
+  byParen byBrace : Ending
+
+-- what a function is: a declaration, or an operand of an expression that may yet be assigned to or not
+pub data Role : Type 0 where
+  declared : Role
+  operandIn : Ending → Bool → Role
+
+-- Where the machine stands. A Boolean of an expression says whether its chain may be assigned to; that of a statement whether
+-- one must come.
+pub data Control : Type 0 where
+  statementDue : Bool → Scope → Control
+  nameFirst returnFirst ifFirst : Scope → Control
+  operandDue operandDone dotLast : Ending → Bool → Control
+  functionFirst functionNamed parameterPast : Role → Control
+  objectOpened propertyNamed parameterDue parameterNamed finished : Control
+
+-- what to do: nothing more; go on; open a group, with the control for its inside and the one behind it; close it; or end
+pub data Action : Type 0 where
+  fail : Action
+  goto : Control → Effect → Action
+  push : Control → Control → Closing → Action
+  pop : Value → Action
+  finish : Action
+
+-- a row of the machine's table: actions by the class of the token
+pub data Entry : Type 0 where
+  on : ℕ → Action → Entry
+
+abbrev pub look : ℕ → List Entry → Action
+look class [] = fail
+look class (on x action ∷ rest) = cond (eqb class x) action (look class rest)
+
+abbrev pub leaves : Ending → Bool → List Entry → List Entry
+leaves ending target rest =
+    on number (goto (operandDone ending target) (takeLeaf number))
+    ∷ on string (goto (operandDone ending target) (takeLeaf string))
+    ∷ on pattern (goto (operandDone ending target) (takeLeaf pattern))
+    ∷ on openParen (push (operandDue byParen true) (operandDone ending target) toParens)
+    ∷ rest
+
+abbrev pub operand : Ending → Bool → List Entry
+operand ending target =
+    on name (goto (operandDone ending target) (takeLeaf name))
+    ∷ on openBrace (push objectOpened (operandDone ending target) toObject)
+    ∷ on functionWord (goto (functionFirst (operandIn ending target)) holdWord)
+    ∷ leaves ending target []
+
+-- what a place that needs no statement takes besides
+abbrev pub noStatement : Bool → Scope → List Entry
+noStatement true scope = []
+noStatement false body = on functionWord (goto (functionFirst declared) holdWord) ∷ on closeBrace (pop statementsValue) ∷ on endOfText finish ∷ []
+noStatement false block = on closeBrace (pop statementsValue) ∷ []
+
+abbrev pub operatorRow : Ending → List Operator → List Entry → List Entry
+operatorRow ending [] rest = rest
+operatorRow ending (operator class precedence ∷ more) rest =
+    on class (goto (operandDue ending false) (takeOperator class)) ∷ operatorRow ending more rest
+
+abbrev pub endingEntry : Ending → Entry
+endingEntry (byStatement scope) = on semicolon (goto (statementDue false scope) endExpression)
+endingEntry (byReturn scope) = on semicolon (goto (statementDue false scope) endReturn)
+endingEntry byParen = on closeParen (pop expressionValue)
+endingEntry byBrace = on closeBrace (pop expressionValue)
+
+abbrev pub assignAction : Ending → Bool → Action
+assignAction ending true = goto (operandDue ending true) (takeOperator assign)
+assignAction ending false = fail
+
+-- what may follow an operand: operators, and besides them these
+abbrev pub besidesOperators : Ending → Bool → List Entry
+besidesOperators ending target =
+    on dot (goto (dotLast ending target) keep)
+    ∷ on openParen (push (operandDue byParen true) (operandDone ending target) toCall)
+    ∷ on assign (assignAction ending target)
+    ∷ endingEntry ending
+    ∷ []
+
+abbrev pub afterOperand : Ending → Bool → List Entry
+afterOperand ending target = operatorRow ending operators (besidesOperators ending target)
+
+abbrev pub afterParameter : Role → Entry
+afterParameter declared = on openBrace (push (statementDue false body) (statementDue false body) toDeclaration)
+afterParameter (operandIn ending target) = on openBrace (push (statementDue false body) (operandDone ending target) toFunction)
+
+abbrev pub unlessLine : Bool → List Entry → List Entry
+unlessLine true row = []
+unlessLine false row = row
+
+-- the table: the row of a control, by whether a line end lies before the token
+abbrev pub row : Control → Bool → List Entry
+row (statementDue must scope) line =
+    on openBrace (push (statementDue false block) (statementDue false scope) toBlock)
+    ∷ on ifWord (goto (ifFirst scope) holdWord)
+    ∷ on returnWord (goto (returnFirst scope) startReturn)
+    ∷ on name (goto (nameFirst scope) (takeLeaf name))
+    ∷ leaves (byStatement scope) true (noStatement must scope)
+row (nameFirst scope) line = on colon (goto (statementDue true scope) takeLabel) ∷ afterOperand (byStatement scope) true
+row (returnFirst scope) line = on semicolon (goto (statementDue false scope) endBareReturn) ∷ unlessLine line (operand (byReturn scope) true)
+row (ifFirst scope) line = on openParen (push (operandDue byParen true) (statementDue true scope) toCondition) ∷ []
+row (operandDue ending target) line = operand ending target
+row (operandDone ending target) line = afterOperand ending target
+row (dotLast ending target) line = on name (goto (operandDone ending target) takeMember) ∷ []
+row (functionFirst role) line = on name (goto (functionNamed role) keep) ∷ []
+row (functionNamed role) line = on openParen (push parameterDue (parameterPast role) toParameter) ∷ []
+row (parameterPast role) line = afterParameter role ∷ []
+row objectOpened line = on name (goto propertyNamed keep) ∷ on closeBrace (pop noValue) ∷ []
+row propertyNamed line = on colon (goto (operandDue byBrace true) keep) ∷ []
+row parameterDue line = on name (goto parameterNamed keep) ∷ []
+row parameterNamed line = on closeParen (pop noValue) ∷ []
+row finished line = []
+
+-- a group that is open: the control behind it, what it does when it closes, its mark, and the frame around it
+pub data Held : Type 0 where
+  held : Control → Closing → ℕ → Frame → Held
+
+-- the machine's state: dead, or a control with the innermost level's frame and the groups that are open
+pub data State : Type 0 where
+  dead : State
+  live : Control → Frame → List Held → State
+
+abbrev pub popTo : Syntax → List Held → State
+popTo value [] = dead
+popTo value (held behind closing mark f ∷ around) = live behind (close closing mark value f) around
+
+abbrev pub finishIn : Frame → List Held → State
+finishIn f [] = live finished f []
+finishIn f (h ∷ around) = dead
+
+abbrev pub act : Action → ℕ → Frame → List Held → State
+act fail mark f around = dead
+act (goto control effect) mark f around = live control (affect effect mark f) around
+act (push inside behind closing) mark f around = live inside empty (held behind closing mark f ∷ around)
+act (pop value) mark f around = popTo (valueOf value f) around
+act finish mark f around = finishIn f around
+
+abbrev pub take : State → Token → State
+take dead t = dead
+take (live control f around) (token class spot) = act (look class (row control (spot .line))) (spot .mark) f around
+
+abbrev pub run : State → List Token → State
+run state [] = state
+run state (t ∷ ts) = run (take state t) ts
+
+abbrev pub start : State
+start = live (statementDue false body) empty []

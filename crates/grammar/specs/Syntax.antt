@@ -1,0 +1,74 @@
+-- Document 01, Records: "Syntax record, three numbers, at most 16,385, parts before the whole and in text order: kind; index
+-- of its marking tree record; syntax records in it with itself."
+use Prim.Native.Nat.{ℕ, _+_}
+use mathlib.Core.List.{List, [], _∷_, _++_}
+
+-- "Kinds with marks": 1 to 4 and 10 to 12 are the classes of the tokens that mark them
+abbrev pub objectSyntax : ℕ
+objectSyntax = 5
+
+abbrev pub parenthesisedSyntax : ℕ
+parenthesisedSyntax = 6
+
+abbrev pub functionSyntax : ℕ
+functionSyntax = 7
+
+abbrev pub memberSyntax : ℕ
+memberSyntax = 8
+
+abbrev pub callSyntax : ℕ
+callSyntax = 9
+
+abbrev pub expressionSyntax : ℕ
+expressionSyntax = 13
+
+abbrev pub bareReturnSyntax : ℕ
+bareReturnSyntax = 14
+
+abbrev pub fullReturnSyntax : ℕ
+fullReturnSyntax = 15
+
+abbrev pub blockSyntax : ℕ
+blockSyntax = 16
+
+abbrev pub labelSyntax : ℕ
+labelSyntax = 17
+
+abbrev pub ifSyntax : ℕ
+ifSyntax = 18
+
+abbrev pub declarationSyntax : ℕ
+declarationSyntax = 19
+
+abbrev pub programSyntax : ℕ
+programSyntax = 20
+
+-- "The syntax tree": nothing; a part with its kind, its mark and at most two parts of its own; or one after the other
+pub data Syntax : Type 0 where
+  nil : Syntax
+  node : ℕ → ℕ → Syntax → Syntax → Syntax
+  snoc : Syntax → Syntax → Syntax
+
+-- the number of its records
+abbrev pub size : Syntax → ℕ
+size nil = 0
+size (node kind mark left right) = size left + size right + 1
+size (snoc before last) = size before + size last
+
+-- the width of a syntax record, and the largest count of them
+abbrev pub syntaxWidth : ℕ
+syntaxWidth = 3
+
+abbrev pub mostSyntax : ℕ
+mostSyntax = 16385
+
+-- its records, "parts before the whole and in text order"
+unfoldable pub syntaxRecords : Syntax → List ℕ
+syntaxRecords nil = []
+syntaxRecords (node kind mark left right) =
+    syntaxRecords left ++ (syntaxRecords right ++ (kind ∷ mark ∷ (size left + size right + 1) ∷ []))
+syntaxRecords (snoc before last) = syntaxRecords before ++ syntaxRecords last
+
+-- "20 program (number of tree records)"
+abbrev pub programTree : ℕ → Syntax → Syntax
+programTree trees parts = node programSyntax trees parts nil

@@ -1,0 +1,2 @@
+// The grammar: derivations, the token machine, and what they have in common with the prefix rule. It is theory alone, and
+// the parser's contracts cite it.
