@@ -14,3 +14,4 @@ pub mod Copies
 pub mod OwnBytes
 pub mod FoundKinds
 pub mod Delimiters
+pub mod PartLaws

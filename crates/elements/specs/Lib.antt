@@ -6,3 +6,4 @@ pub mod Strings
 pub mod Patterns
 pub mod Elements
 pub mod Comments
+pub mod Walks

@@ -16,6 +16,7 @@ pub mod literals;
 mod numbers;
 mod patterns;
 mod strings;
+pub mod walk;
 
 use faults::BAD_NUMBER;
 use faults::BARRED_SIGN;

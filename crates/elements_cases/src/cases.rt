@@ -1,6 +1,7 @@
 // The cases, one to a line: a letter, a blank, and the text up to the line end. The letter says how each slash met is
 // answered: `d` it divides, `p` it opens a regular expression; `D` and `P` the same of every prefix of the text, from
-// the empty one on. In the text `~` with two hexadecimal digits is that byte.
+// the empty one on; `e` and `r` are `d` and `p` with each element shown as its part of the text. In the text `~` with two
+// hexadecimal digits is that byte.
 ghost use Prim.Native.Nat.{_≤_, _<_};
 ghost use lib.ListN.{length};
 
@@ -11,6 +12,7 @@ pub const MOST: usize = 256;
 pub enum Case {
     One(usize, bool),
     Prefixes(usize, bool),
+    Parts(usize, bool),
     Bad,
 }
 
@@ -62,6 +64,8 @@ fn case_by(letter: u8, size: usize) -> Case {
         b'p' => Case::One(size, true),
         b'D' => Case::Prefixes(size, false),
         b'P' => Case::Prefixes(size, true),
+        b'e' => Case::Parts(size, false),
+        b'r' => Case::Parts(size, true),
         _ => Case::Bad,
     }
 }

@@ -1,5 +1,4 @@
-// Prints how `elements::element_at` cuts the texts that standard input gives, one case to a line, for comparison with
-// the stored answers. `cases.rt` says what a line holds, `print.rt` what is printed.
+// Prints how a walk cuts the texts that standard input gives, one case to a line, for comparison with the stored answers. `cases.rt` says what a line holds, `print.rt` what is printed.
 mod cases;
 mod print;
 mod walk;
@@ -34,8 +33,9 @@ fn answer(line: &[u8]) {
     let mut text = cases::no_text();
     let case = cases::case_of(line, &mut text);
     match case {
-        Case::One(size, pattern) => walk::one(&text, size, pattern),
+        Case::One(size, pattern) => walk::one(&text, size, pattern, false),
         Case::Prefixes(size, pattern) => walk::prefixes(&text, size, pattern),
+        Case::Parts(size, pattern) => walk::one(&text, size, pattern, true),
         Case::Bad => print::bad_case(),
     }
 }

@@ -1,10 +1,10 @@
-// What is printed of a text is one line: its elements as `kind,which,first,end,line`, then `end` or
-// `fault,number,place`, with a blank between.
+// What is printed of a text is one line: its elements as `kind,which,first,end,line`, or their bytes between backquotes,
+// then `end` or `fault,number,place`, with a blank between.
 use elements::Element;
 use libc::STDOUT_FILENO;
 
-// A line is gathered and then written at once. An element of a text of at most 256 bytes takes at most 15 bytes, so
-// every line has room.
+// A line is gathered and then written at once. An element of a text of at most 256 bytes takes at most 15 bytes, or three
+// more than its own, so every line has room.
 pub const ROOM: usize = 4096;
 
 pub fn no_line() -> [u8; ROOM] {
@@ -49,6 +49,13 @@ pub fn element(out: &mut [u8; ROOM], at: usize, e: Element) -> usize {
     let n = put_number(out, n, e.first as u64, b',');
     let n = put_number(out, n, e.end as u64, b',');
     put_number(out, n, e.line as u64, b' ')
+}
+
+// An element's bytes.
+pub fn part(out: &mut [u8; ROOM], at: usize, bytes: &[u8]) -> usize {
+    let n = put(out, at, b'`');
+    let n = put_all(out, n, bytes);
+    put_all(out, n, b"` ")
 }
 
 // A number in decimal, and a byte after it.

@@ -4,10 +4,10 @@ use Rattle.elements_cases.proofs.walk.cut.Statement.{statement}
 use Rattle.elements_cases.proofs.walk.cut.Tie as tie
 
 abbrev Inv-loop : tie.InvT-loop
-Inv-loop text pattern out₀ n₀ place₀ turns₀ out n place turns = Unit {0}
+Inv-loop text pattern parts out₀ n₀ place₀ turns₀ out n place turns = Unit {0}
 
 abbrev μ-loop : tie.MeasureT-loop
-μ-loop text pattern out₀ n₀ place₀ turns₀ out n place turns = turns
+μ-loop text pattern parts out₀ n₀ place₀ turns₀ out n place turns = turns
 
 add-turns : tie.Need-add-turns Inv-loop μ-loop
 add-turns c = search needs
@@ -15,8 +15,8 @@ add-turns c = search needs
 loop-holds : tie.Need-loop-holds Inv-loop μ-loop
 loop-holds c = search needs
 
-element-at-requires : tie.Need-element-at-requires Inv-loop μ-loop
-element-at-requires c κs = search needs
+turn-at-requires : tie.Need-turn-at-requires Inv-loop μ-loop
+turn-at-requires c κs = search needs
 
 enum-told : tie.Need-enum-told Inv-loop μ-loop
 enum-told c = search needs
@@ -39,8 +39,8 @@ returns-2 c = search needs
 enum-known-next-2 : tie.Need-enum-known-next-2 Inv-loop μ-loop
 enum-known-next-2 c = search needs
 
-element-requires : tie.Need-element-requires Inv-loop μ-loop
-element-requires c κs = search needs
+show-requires : tie.Need-show-requires Inv-loop μ-loop
+show-requires c κs = search needs
 
 sub-turns : tie.Need-sub-turns Inv-loop μ-loop
 sub-turns c = search needs
@@ -65,7 +65,7 @@ cut-spec =
     μ-loop
     add-turns
     loop-holds
-    element-at-requires
+    turn-at-requires
     enum-told
     end-requires
     returns
@@ -73,7 +73,7 @@ cut-spec =
     fault-requires
     returns-2
     enum-known-next-2
-    element-requires
+    show-requires
     sub-turns
     loop-less
     loop-again

@@ -1,0 +1,38 @@
+-- Document 01, Elements: "A walk over one text keeps that text and gives the next element at each call; each element can be
+-- shown as the part of the text it is."
+use Prim.Native.Nat.{ℕ, _-_}
+use mathlib.Core.List.{List}
+use mathlib.Core.Bool.{Bool}
+use lib.ListN.{take, drop}
+use denote.Ref.{RefT, now}
+use Rattle.elements.specs.Elements.{elementAt}
+use Rattle.elements.specs.declared.Element.{Element}
+use Rattle.elements.specs.declared.Next.{Next}
+use Rattle.elements.specs.declared.walk.Turn.{Turn}
+use Rattle.elements.specs.declared.walk.Walk.{Walk}
+
+-- "the part of the text it is": the bytes from an element's first to before its end
+abbrev pub partOf : List ℕ → Element → List ℕ
+partOf text e = take (e .end - e .first) (drop (e .first) text)
+
+-- a walk over a text, at its start
+abbrev pub begun : RefT (List ℕ) → Walk
+begun text = record { text = text; at = 0 }
+
+-- "gives the next element": what a walk meets under a stated slash answer
+abbrev pub met : Walk → Bool → Next
+met walk pattern = elementAt (now (walk .text)) (walk .at) pattern
+
+-- the place of a walk that stood at `at`, once it has met what is next: behind an element, else where it was
+abbrev pub placeAfter : ℕ → Next → ℕ
+placeAfter at Next.End = at
+placeAfter at (Next.Found e) = e .end
+placeAfter at (Next.Fault number place) = at
+
+-- "keeps that text": the walk once it has met what is next
+abbrev pub moved : Walk → Next → Walk
+moved walk next = record { text = walk .text; at = placeAfter (walk .at) next }
+
+-- what a walk over a text that stands at `at` meets, and its place then
+abbrev pub turnAt : List ℕ → ℕ → Bool → Turn
+turnAt text at pattern = record { next = elementAt text at pattern; at = placeAfter at (elementAt text at pattern) }
