@@ -122,7 +122,7 @@ expression-is-taken must scope done starts around by-parens allowed = refl
 expression-is-taken must scope done starts around by-object allowed = absurd allowed
 expression-is-taken must scope done starts around by-function allowed = absurd allowed
 
-begins-no-semicolon : {class : ℕ} {spot : Spot} {rest : List Token} → Begins (token class spot ∷ rest) → T (not (eqb class semicolon))
+pub begins-no-semicolon : {class : ℕ} {spot : Spot} {rest : List Token} → Begins (token class spot ∷ rest) → T (not (eqb class semicolon))
 begins-no-semicolon (by-name next) = tt
 begins-no-semicolon by-number = tt
 begins-no-semicolon by-string = tt

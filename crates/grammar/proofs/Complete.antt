@@ -91,7 +91,7 @@ use Rattle.grammar.proofs.Passing.{
 }
 
 -- behind a function: the control, and the frame
-abbrev behindFunction : Role → Control
+abbrev pub behindFunction : Role → Control
 behindFunction declared = statementDue false body
 behindFunction (operandIn ending target) = operandDone ending target
 

@@ -35,4 +35,5 @@ pub mod Counting
 pub mod OwnMarks
 pub mod TokenLaws
 pub mod CountTrees
+pub mod TreeSizes
 pub mod Theorems

@@ -4,7 +4,8 @@ use mathlib.Core.List.{List}
 use Prim.Native.Nat.{ℕ, _≤_}
 use lib.ListN.{length}
 use Rattle.prefix.specs.Trees.{Trees, count}
-use Rattle.prefix.specs.Reading.{Limits, Reading, accepted, reading}
+use Rattle.prefix.specs.Reading.{Limits, Reading, accepted, reading, unlimited, unlimitedReading}
+use Rattle.prefix.proofs.LimitLaws.{accepted-unlimited}
 use Rattle.reader.specs.Read.{mostBytes, readingFor}
 use Rattle.respacer.specs.Respaced.{respaced}
 use Rattle.respacer.specs.Respace.{wholeReading, written, respacingFor}
@@ -16,6 +17,12 @@ use Rattle.respacer.proofs.CallsAgain.{kept-by-read, kept-by-respace, w
 -- A respaced text, of any length, is read under the limits of its text's reading, with the same trees but for positions.
 pub round-trip : (text : List ℕ) (limits : Limits) (trees : Trees) → reading text limits ≡ accepted trees → Kept text trees (reading (respaced text trees) limits)
 round-trip = read-again
+
+-- So it is without limits.
+pub unlimited-round-trip : (text : List ℕ) (trees : Trees) → unlimitedReading text ≡ accepted trees → Kept text trees (unlimitedReading (respaced text trees))
+unlimited-round-trip text trees e =
+    let k = round-trip text (unlimited text) trees e in
+    record { kept = k .kept; reads = accepted-unlimited (respaced text trees) (unlimited text) (k .kept) (k .reads); alike = k .alike }
 
 -- So it is by `read`, with a table of the same length, if it has at most 262,144 bytes.
 pub read-round-trip : (text : List ℕ) (trees : Trees) → length (respaced text trees) ≤ mostBytes → (cells : ℕ) → readingFor text cells ≡ accepted trees

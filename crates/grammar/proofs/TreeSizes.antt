@@ -1,0 +1,111 @@
+-- The records and the depth of trees, counted over their elements.
+use mathlib.Core.Path.{_≡_, refl, sym, ap, _∙_}
+use mathlib.Core.List.{List, [], _∷_, _++_, append-assoc, append-nil}
+use mathlib.Core.Bool.{Bool, true, false, cond, _&&_, _||_}
+use Prim.Native.Nat.{ℕ, _+_, _-_, _≤_, max}
+use native.Mathlib.Omega.{arith}
+use borrow.Author.Tests.{ne-eqb}
+use lib.Dec.{eqb}
+use Rattle.text.specs.Runs
+use Rattle.signs.specs.Signs.{longestSign, longestOf}
+use Rattle.elements.specs.Elements.{delimiterKind}
+use Rattle.elements.specs.declared.Element.{Element}
+use Rattle.prefix.specs.Trees.{Trees, none, leaf, group, count, deepest, parenKind}
+use Rattle.prefix.specs.Rule.{isSign}
+use Rattle.reader.proofs.Formed.{Formed}
+use Rattle.grammar.specs.Cuts.{isCloser}
+use Rattle.grammar.specs.Derivations.{countTrees, openAfter, deepestFrom}
+use Rattle.grammar.specs.TreeElements.{openerOf, closerOf, elementsOf}
+
+count-append : (es fs : List Element) → countTrees (es ++ fs) ≡ countTrees es + countTrees fs
+count-append [] fs = omega arith
+count-append (e ∷ es) fs = rw (count-append es fs) (omega arith)
+
+-- an opener is no closer, and a closer is one
+opener-counts : (kind first : ℕ) (line : Bool) → isCloser (openerOf kind first line) ≡ false
+unfolding longestSign longestOf Runs.same
+opener-counts kind first line = go (eqb kind parenKind)
+  where
+    go : (b : Bool) → (isSign ")" (cond b 3 1) || isSign "}" (cond b 3 1)) ≡ false
+    go true = refl
+    go false = refl
+
+closer-closes : (kind end : ℕ) → isCloser (closerOf kind end) ≡ true
+unfolding longestSign longestOf Runs.same
+closer-closes kind end = go (eqb kind parenKind)
+  where
+    go : (b : Bool) → (isSign ")" (cond b 4 2) || isSign "}" (cond b 4 2)) ≡ true
+    go true = refl
+    go false = refl
+
+-- an element that is no delimiter is no closer
+leaf-counts : (e : Element) → (e .kind ≡ 0 → ⊥) → isCloser e ≡ false
+leaf-counts e n = rw (ne-eqb (e .kind) 0 n)
+
+pub count-elements : (trees : Trees) → Formed trees → countTrees (elementsOf trees) ≡ count trees
+unfolding elementsOf count
+count-elements none f = refl
+count-elements (leaf before e) f =
+    count-append (elementsOf before) (e ∷ [])
+    ∙ rw (leaf-counts e (λ k. absurd (omega (arith, f .1)))) (omega (arith, count-elements before (f .0)))
+count-elements (group before kind first end line within) f =
+    count-append (elementsOf before) (openerOf kind first line ∷ (elementsOf within ++ (closerOf kind end ∷ [])))
+    ∙ rw (opener-counts kind first line, count-append (elementsOf within) (closerOf kind end ∷ []), closer-closes kind end)
+    (omega (arith, count-elements before (f .0), count-elements within (f .3)))
+
+-- groups that are open behind an opener, a closer, and an element that is neither
+opener-opens : (depth kind first : ℕ) (line : Bool) → openAfter depth (openerOf kind first line) ≡ depth + 1
+unfolding longestSign longestOf Runs.same
+opener-opens depth kind first line = go (eqb kind parenKind)
+  where
+    go : (b : Bool) → openAfter depth (record { kind = 0; which = cond b 3 1; first = first; end = first + 1; line = line }) ≡ depth + 1
+    go true = refl
+    go false = refl
+
+closer-shuts : (depth kind end : ℕ) → openAfter depth (closerOf kind end) ≡ depth - 1
+unfolding longestSign longestOf Runs.same
+closer-shuts depth kind end = go (eqb kind parenKind)
+  where
+    go : (b : Bool) → openAfter depth (record { kind = 0; which = cond b 4 2; first = end - 1; end = end; line = false }) ≡ depth - 1
+    go true = refl
+    go false = refl
+
+leaf-stays : (depth : ℕ) (e : Element) → (e .kind ≡ 0 → ⊥) → openAfter depth e ≡ depth
+leaf-stays depth e n = rw (ne-eqb (e .kind) 0 n)
+
+at-least : (depth : ℕ) (es : List Element) → depth ≤ deepestFrom depth es
+at-least depth [] = omega arith
+at-least depth (e ∷ es) = omega arith
+
+inner-largest : (depth within rest : ℕ) → depth ≤ rest → max depth (max (depth + 1 + within) (max (depth + 1) rest)) ≡ max (depth + 1 + within) rest
+inner-largest depth within rest h = omega arith
+
+largest : (depth before within rest : ℕ) → depth ≤ rest
+    → max (depth + before) (max depth (max (depth + 1 + within) (max (depth + 1) rest))) ≡ max (depth + max before (within + 1)) rest
+largest depth before within rest h = ap (max (depth + before)) (inner-largest depth within rest h) ∙ omega arith
+
+-- the elements of trees lead back to where they began
+deepest-append : (trees : Trees) → Formed trees → (depth : ℕ) (rest : List Element)
+    → deepestFrom depth (elementsOf trees ++ rest) ≡ max (depth + deepest trees) (deepestFrom depth rest)
+unfolding elementsOf deepest
+deepest-append none f depth rest = omega (arith, at-least depth rest)
+deepest-append (leaf before e) f depth rest =
+    ap (deepestFrom depth) (append-assoc (elementsOf before) (e ∷ []) rest)
+    ∙ deepest-append before (f .0) depth (e ∷ rest)
+    ∙ rw (leaf-stays depth e (λ k. absurd (omega (arith, f .1)))) (omega (arith, at-least depth rest))
+deepest-append (group before kind first end line within) f depth rest =
+    let inner = elementsOf within ++ (closerOf kind end ∷ []) in
+    ap (deepestFrom depth) (append-assoc (elementsOf before) (openerOf kind first line ∷ inner) rest)
+    ∙ deepest-append before (f .0) depth (openerOf kind first line ∷ (inner ++ rest))
+    ∙ rw (
+      opener-opens depth kind first line,
+      append-assoc (elementsOf within) (closerOf kind end ∷ []) rest,
+      deepest-append within (f .3) (depth + 1) (closerOf kind end ∷ rest),
+      closer-shuts (depth + 1) kind end,
+    )
+    (let back : depth + 1 - 1 ≡ depth = omega arith in
+    rw back (largest depth (deepest before) (deepest within) (deepestFrom depth rest) (at-least depth rest)))
+
+pub deepest-elements : (trees : Trees) → Formed trees → deepestFrom 0 (elementsOf trees) ≡ deepest trees
+deepest-elements trees f =
+    ap (deepestFrom 0) (sym (append-nil (elementsOf trees))) ∙ deepest-append trees f 0 [] ∙ omega arith
