@@ -1,7 +1,7 @@
 -- Laws of the element at a place: one for each kind of first byte.
-use mathlib.Core.Path.{_≡_, refl, sym, ap, _∙_}
-use mathlib.Core.List.{List, [], _∷_}
-use mathlib.Core.Bool.{Bool, true, false, cond, _&&_, and-false}
+use mathlib.Core.Path.{_≡_, ap, _∙_}
+use mathlib.Core.List.{List}
+use mathlib.Core.Bool.{Bool, true, false, _&&_}
 use Prim.Native.Nat.{ℕ, _+_, _-_, _<_, _≤_}
 use native.Mathlib.Nat.{add-zero}
 use native.Mathlib.Omega.{arith}
@@ -98,24 +98,18 @@ module _ (pattern line : Bool) (s : List ℕ) (i : ℕ) where
 
         module _ (q : quote (getD s i 0) ≡ false) where
           -- a slash that opens a regular expression
-          pub from-pattern : pattern ≡ true → getD s i 0 ≡ byte "/"
+          pub from-pattern : (pattern && eqb (getD s i 0) (byte "/")) ≡ true
               → elementFrom pattern line i (drop i s) ≡ literal patternKind line i (patternRest i false false (i + 1) (drop (i + 1) s))
           unfolding elementFrom
-          from-pattern p e = rw (drop-at s i h) (rw (l, d, q, p, eq-eqb _ _ e, elementFrom))
+          from-pattern p = rw (drop-at s i h) (rw (l, d, q, p, elementFrom))
 
-          -- a slash that does not
-          pub from-divide : pattern ≡ false → getD s i 0 ≡ byte "/"
-              → elementFrom pattern line i (drop i s) ≡ signOrStray line i (longestSign (drop i s))
-          unfolding elementFrom
-          from-divide p e = rw (drop-at s i h) (rw (l, d, q, p, elementFrom) (rw e))
-
-          module _ (n : getD s i 0 ≡ byte "/" → ⊥) where
+          module _ (p : (pattern && eqb (getD s i 0) (byte "/")) ≡ false) where
             pub from-dot : (eqb (getD s i 0) (byte ".") && digit (getD s (i + 1) 0)) ≡ true
                 → elementFrom pattern line i (drop i s) ≡ Next.Fault badNumber i
             unfolding elementFrom
-            from-dot f = rw (drop-at s i h) (rw (l, d, q, ne-eqb _ _ n, and-false pattern, second, f, elementFrom))
+            from-dot f = rw (drop-at s i h) (rw (l, d, q, p, second, f, elementFrom))
 
             pub from-sign : (eqb (getD s i 0) (byte ".") && digit (getD s (i + 1) 0)) ≡ false
                 → elementFrom pattern line i (drop i s) ≡ signOrStray line i (longestSign (drop i s))
             unfolding elementFrom
-            from-sign f = rw (drop-at s i h) (rw (l, d, q, ne-eqb _ _ n, and-false pattern, second, f, elementFrom))
+            from-sign f = rw (drop-at s i h) (rw (l, d, q, p, second, f, elementFrom))

@@ -196,6 +196,16 @@ fn is_dot_before_digit(text: &[u8], b: u8, at: usize) -> bool
     text::is_digit(byte_after(text, at))
 }
 
+// Whether the byte `b` is a slash that opens a regular expression.
+fn is_pattern_slash(b: u8, pattern: bool) -> bool
+    ensures { λ r. ⌜ r ≡ (pattern && eqb b 47) ⌝ }
+{
+    if pattern {
+        return b == b'/';
+    }
+    false
+}
+
 // The element at `first`, where no blank, line end or comment starts.
 fn element_from(text: &[u8], first: usize, line: bool, pattern: bool) -> Next
     ensures { λ r. ⌜ r ≡ elementFrom pattern line first (drop first (now (text .entry))) ⌝ }
@@ -218,16 +228,13 @@ fn element_from(text: &[u8], first: usize, line: bool, pattern: bool) -> Next
             strings::string_rest(text, b, first, first + 1),
         );
     }
-    if b == b'/' {
-        if pattern {
-            return literal_element(
-                PATTERN,
-                first,
-                line,
-                patterns::pattern_rest(text, first, first + 1),
-            );
-        }
-        return sign_element(text, first, line);
+    if is_pattern_slash(b, pattern) {
+        return literal_element(
+            PATTERN,
+            first,
+            line,
+            patterns::pattern_rest(text, first, first + 1),
+        );
     }
     if is_dot_before_digit(text, b, first) {
         return Next::Fault(BAD_NUMBER, first);

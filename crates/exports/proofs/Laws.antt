@@ -7,10 +7,15 @@ use Rattle.elements.specs.Answers.{valueOf}
 use Rattle.prefix.specs.Reading.{Reading, accepted, refused}
 use Rattle.reader.specs.Read.{readingFor, answerOf}
 use Rattle.reader.proofs.Theorems.{refused-place, accepted-count}
+use Rattle.respacer.specs.Respace.{respacingFor}
+use Rattle.respacer.proofs.Theorems.{value-bounded}
 
-pub value-small : (text : List ℕ) (cells : ℕ) → valueOf (answerOf (readingFor text cells)) < 2 ^ 32
-value-small text cells = go (readingFor text cells) refl
+pub count-small : (text : List ℕ) (cells : ℕ) → valueOf (answerOf (readingFor text cells)) < 2 ^ 32
+count-small text cells = go (readingFor text cells) refl
   where
     go : (r : Reading) → readingFor text cells ≡ r → valueOf (answerOf r) < 2 ^ 32
     go (accepted trees) e = omega (arith, accepted-count text cells trees e)
     go (refused number place) e = omega (arith, refused-place text cells number place e)
+
+pub bytes-small : (text : List ℕ) (room : ℕ) → valueOf (Rattle.respacer.specs.Respace.answerOf (respacingFor text room)) < 2 ^ 32
+bytes-small text room = omega (arith, value-bounded text room)

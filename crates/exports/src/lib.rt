@@ -4,6 +4,7 @@ ghost use Prim.Native.Nat.{_<_, _^_};
 ghost use lib.ListN.{length};
 ghost use Rattle.elements.specs.Answers.{valueOf};
 ghost use Rattle.reader.specs.Read.{readingFor, answerOf, tableAfter};
+ghost use Rattle.respacer.specs.Respace.{respacingFor, outputAfter};
 ghost use Rattle.exports.specs.Packed.{packed};
 use elements::Answer;
 
@@ -24,4 +25,12 @@ pub extern "C" fn buldrekso_read(text: &[u8], trees: &mut [u32]) -> u64
     ensures { λ r. ⌜ (r ≡ packed (answerOf (readingFor (now (text .entry)) (length (now (trees .entry)))))) × (now (trees .exit) ≡ tableAfter (readingFor (now (text .entry)) (length (now (trees .entry)))) (now (trees .entry))) ⌝ }
 {
     pack(reader::read(text, trees))
+}
+
+// respacer::respace.
+#[no_mangle]
+pub extern "C" fn buldrekso_respace(text: &[u8], output: &mut [u8]) -> u64
+    ensures { λ r. ⌜ (r ≡ packed (Rattle.respacer.specs.Respace.answerOf (respacingFor (now (text .entry)) (length (now (output .entry)))))) × (now (output .exit) ≡ outputAfter (respacingFor (now (text .entry)) (length (now (output .entry)))) (now (output .entry))) ⌝ }
+{
+    pack(respacer::respace(text, output))
 }

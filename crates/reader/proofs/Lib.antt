@@ -4,3 +4,4 @@ pub mod ReadLaws
 pub mod Formed
 pub mod LengthFirst
 pub mod Theorems
+pub mod TurnLaws

@@ -1,6 +1,6 @@
 -- The loop of a reading: the levels that are held read the rest of the text as the whole is read.
-use mathlib.Core.Path.{_≡_, refl, sym, ap, _∙_}
-use mathlib.Core.List.{List, [], _∷_, _++_}
+use mathlib.Core.Path.{_≡_, refl, ap, _∙_}
+use mathlib.Core.List.{List}
 use mathlib.Core.Bool.{Bool}
 use Prim.Native.Nat.{ℕ, zero, suc, _+_, _-_, _*_, _<_, _≤_}
 use native.Mathlib.Omega.{arith}
@@ -13,14 +13,15 @@ use Rattle.elements.specs.declared.Next.{Next}
 use Rattle.elements.proofs.Bounds.{Placed, found-placed}
 use Rattle.prefix.specs.Trees.{Trees, none, count}
 use Rattle.prefix.specs.Levels.{Levels, text, inside, slashOpens, depth, number}
-use Rattle.prefix.specs.Reading.{Limits, Step, stop, more, step, Reading, accepted, refused, ending, readOn, reading, unclosed}
-use Rattle.prefix.specs.Held.{Held}
+use Rattle.prefix.specs.Reading.{Limits, Step, step, Reading, accepted, refused, ending, readOn, reading, unclosed}
+use Rattle.prefix.specs.declared.Advanced.{Advanced}
 use Rattle.prefix.specs.declared.State.{State}
 use Rattle.prefix.proofs.ReadingLaws.{read-end, read-fault, read-stop, read-more}
-use Rattle.reader.specs.Records.{treeRecord, records}
-use Rattle.reader.specs.Read.{mostBytes, mostGroups, longText, roomFor, readLimits, readingFor, answerOf, tableAfter}
-use Rattle.reader.specs.Table.{cells, recordIndex, Holds, Some, Turned, goes-on, ends, Filled}
+use Rattle.reader.specs.Records.{records}
+use Rattle.reader.specs.Read.{mostBytes, mostGroups, longText, readingFor, answerOf, tableAfter}
+use Rattle.reader.specs.Table.{cells, Holds, Some, Turned, goes-on, ends, Starts, Runs, ran, halted, Filled}
 use Rattle.reader.specs.declared.Stored.{Stored}
+use Rattle.reader.specs.declared.Turn.{Turn}
 use Rattle.reader.proofs.CellLaws.{cells-length, first-cell}
 
 -- the record of the innermost group, and the answer at the text's end
@@ -60,26 +61,19 @@ pub record At (bytes before now stack : List ℕ) (room : ℕ) (state : State) (
   pub enough : length bytes ≤ place + fuel
   pub holds : Holds before now stack room state levels
 
--- the answer and the table of a reading that is known
-abbrev pub Answered : List ℕ → List ℕ → List ℕ → Answer → Type 0
-Answered bytes before now answer = (answer ≡ answerOf (readingFor bytes (length before))) × Filled (readingFor bytes (length before)) before now
-
 module _ (bytes before : List ℕ) where
-  answered : (now : List ℕ) (r : Reading) → readingFor bytes (length before) ≡ r → Filled r before now → Answered bytes before now (answerOf r)
-  answered now r e f = rw e (refl, f)
-
-  pub start-at : (stack : List ℕ) (room : ℕ) (state : State) → length bytes ≤ mostBytes → room ≡ roomFor (length before) → length stack ≡ 200
-      → Held recordIndex stack state (text none) → At bytes before before stack room state 0
+  pub start-at : (stack : List ℕ) (room : ℕ) (state : State) (place : ℕ) → length bytes ≤ mostBytes → Starts before stack room state place
+      → At bytes before before stack room state place
   unfolding readingFor reading records count
-  start-at stack room state short r s held =
+  start-at stack room state place short s =
       record {
         levels = text none;
         fuel = length bytes;
-        meets = rw (le-leb (length bytes) mostBytes short, r);
-        enough = omega arith;
+        meets = rw (le-leb (length bytes) mostBytes short, s .room-is, s .first);
+        enough = omega (arith, s .first);
         holds =
             record
-            { held = held; cells-are = refl; some = omega arith; room-fits = omega (arith, r); room-small = omega (arith, r); length-is = refl; stack-is = s };
+            { held = s .held; cells-are = refl; some = omega arith; room-fits = omega (arith, s .room-is); room-small = omega (arith, s .room-is); length-is = refl; stack-is = s .stack-is };
       }
 
   module _ (now stack : List ℕ) (room : ℕ) (state : State) (place : ℕ) (at : At bytes before now stack room state place) (pattern : Bool) (p : pattern ≡ slashOpens (at .levels)) where
@@ -90,26 +84,26 @@ module _ (bytes before : List ℕ) where
     here : (next : Next) → elementAt bytes place pattern ≡ next → elementAt bytes place (slashOpens (at .levels)) ≡ next
     here next e = rw p at e
 
-    pub at-end : elementAt bytes place pattern ≡ Next.End → (answer : Answer) → answer ≡ answerOf (ending (at .levels)) → Answered bytes before now answer
+    pub at-end : elementAt bytes place pattern ≡ Next.End → Runs bytes before now stack room (Turn.End state)
     unfolding limits
-    at-end e answer a =
-        rw a (answered now (ending (at .levels)) (at .meets ∙ read-end bytes limits (at .fuel) (at .levels) place (here Next.End e)) (ends-filled before now stack room state (at .levels) (at .holds)))
+    at-end e = ran (at .holds) (at .meets ∙ read-end bytes limits (at .fuel) (at .levels) place (here Next.End e))
 
-    pub at-fault : (after : List ℕ) (n q : ℕ) → elementAt bytes place pattern ≡ Next.Fault n q → Answered bytes before after (Answer.Refused n q)
+    pub at-fault : (n q : ℕ) → elementAt bytes place pattern ≡ Next.Fault n q → Runs bytes before now stack room (Turn.Stop n q)
     unfolding limits
-    at-fault after n q e = answered after (refused n q) (at .meets ∙ read-fault bytes limits (at .fuel) (at .levels) place n q (here (Next.Fault n q) e)) tt
+    at-fault n q e = halted (at .meets ∙ read-fault bytes limits (at .fuel) (at .levels) place n q (here (Next.Fault n q) e))
 
     module _ (e : Element) (found : elementAt bytes place pattern ≡ Next.Found e) where
-      pub at-placed : Placed bytes place e
-      at-placed = found-placed bytes place pattern e found
+      placed : Placed bytes place e
+      placed = found-placed bytes place pattern e found
 
-      stopped-by : (after st : List ℕ) {n q : ℕ} {y : Step} → step limits (at .levels) e ≡ y → Turned before after st room (Stored.Stop n q) y → Answered bytes before after (Answer.Refused n q)
+      stopped-by : (after st : List ℕ) {n q : ℕ} {y : Step} → step limits (at .levels) e ≡ y → Turned before after st room (Stored.Stop n q) y
+          → Runs bytes before after st room (Turn.Stop n q)
       unfolding limits
       stopped-by after st {n} {q} s ends =
-          answered after (refused n q) (at .meets ∙ read-stop bytes limits (at .fuel) (at .levels) place e (here (Next.Found e) found) n q s) tt
+          halted (at .meets ∙ read-stop bytes limits (at .fuel) (at .levels) place e (here (Next.Found e) found) n q s)
 
       pub at-stop : (after st : List ℕ) (n q : ℕ) → Turned before after st room (Stored.Stop n q) (step (record { groups = mostGroups; room = room }) (at .levels) e)
-          → Answered bytes before after (Answer.Refused n q)
+          → Runs bytes before after st room (Turn.Stop n q)
       unfolding limits
       at-stop after st n q t = stopped-by after st refl t
 
@@ -121,7 +115,7 @@ module _ (bytes before : List ℕ) where
             levels = next;
             fuel = k;
             meets = at .meets ∙ read-more bytes limits (at .fuel) (at .levels) place e (here (Next.Found e) found) next s ∙ ap (λ (n : ℕ). readOn bytes limits n next (e .end)) f;
-            enough = omega (arith, at .enough, at-placed .from, at-placed .some);
+            enough = omega (arith, at .enough, placed .from, placed .some);
             holds = h;
           }
 
@@ -131,8 +125,39 @@ module _ (bytes before : List ℕ) where
       at-more after st s t = go (at .fuel) refl
         where
           go : (f : ℕ) → at .fuel ≡ f → At bytes before after st room s (e .end)
-          go zero z = absurd (omega (arith, at .enough, at-placed .from, at-placed .some, at-placed .within))
+          go zero z = absurd (omega (arith, at .enough, placed .from, placed .some, placed .within))
           go (suc k) z = gone-on after st k z refl t
+
+-- what reading to the end comes to is the answer, and the table where nothing is cleared
+module _ (bytes before now stack : List ℕ) (room : ℕ) where
+  abbrev pub Answered : Answer → Type 0
+  Answered answer = (answer ≡ answerOf (readingFor bytes (length before))) × Filled (readingFor bytes (length before)) before now
+
+  answered : (r : Reading) → readingFor bytes (length before) ≡ r → Filled r before now → Answered (answerOf r)
+  answered r e f = rw e (refl, f)
+
+  pub ran-some : {s : State} → Runs bytes before now stack room (Turn.End s) → Some now stack room s
+  ran-some (ran {levels = levels} h e) = record { before = before; levels = levels; holds = h }
+
+  pub ran-answered : {s : State} → Runs bytes before now stack room (Turn.End s) → (answer : Answer)
+      → ((before : List ℕ) (room : ℕ) (levels : Levels) → Holds before now stack room s levels → answer ≡ answerOf (ending levels)) → Answered answer
+  ran-answered (ran {state = s} {levels = levels} h e) answer a =
+      rw (a before room levels h) (answered (ending levels) e (ends-filled before now stack room s levels h))
+
+  pub halted-answered : {n q : ℕ} → Runs bytes before now stack room (Turn.Stop n q) → Answered (Answer.Refused n q)
+  halted-answered (halted {number = n} {place = q} e) = answered (refused n q) e tt
+
+  abbrev elements : Turn → ℕ
+  elements (Turn.End s) = 0
+  elements (Turn.Stop n q) = 0
+  elements (Turn.Taken e advanced) = 1
+
+  no-elements : {t : Turn} → Runs bytes before now stack room t → elements t ≡ 0
+  no-elements (ran h e) = refl
+  no-elements (halted e) = refl
+
+  pub none-taken : {e : Element} {advanced : Advanced} → Runs bytes before now stack room (Turn.Taken e advanced) → ⊥
+  none-taken t = omega (arith, no-elements t)
 
 -- the call: what was written is cleared where the reading is refused
 pub read-accepted : (r : Reading) (before now : List ℕ) (n : ℕ) → Answer.Accepted n ≡ answerOf r → Filled r before now → (Answer.Accepted n ≡ answerOf r) × (now ≡ tableAfter r before)

@@ -1,13 +1,15 @@
 // Reading: a text to tree records.
 ghost use mathlib.Core.Path.{_≡_};
 ghost use mathlib.Core.List.{List, _++_};
-ghost use Prim.Native.Nat.{ℕ, _+_, _*_, _≤_};
+ghost use Prim.Native.Nat.{ℕ, _+_, _*_, _<_, _≤_};
 ghost use lib.ListN.{length, take, drop, set};
+ghost use mathlib.Core.Bool.{true, false};
 ghost use Rattle.prefix.specs.Levels.{Levels};
-ghost use Rattle.prefix.specs.Reading.{step};
-ghost use Rattle.reader.specs.Records.{treeWidth, treeRecord};
-ghost use Rattle.reader.specs.Read.{mostBytes, mostGroups, readingFor, answerOf, tableAfter};
-ghost use Rattle.reader.specs.Table.{Holds, Some, Turned, Filled};
+ghost use Rattle.prefix.specs.Reading.{Step};
+ghost use Rattle.prefix.specs.Held.{Held, Follows};
+ghost use Rattle.reader.specs.Records.{treeWidth, mostTrees, treeRecord};
+ghost use Rattle.reader.specs.Read.{longText, mostBytes, readingFor, answerOf, tableAfter};
+ghost use Rattle.reader.specs.Table.{recordIndex, openerPlace, Holds, Some, Stepped, Turned, Starts, Takes, Runs, Filled};
 
 pub mod records;
 
@@ -52,16 +54,15 @@ enum Stored {
     Stop(u32, usize),
 }
 
-// Advances the state by an element, and writes what that makes of the records.
-fn store(trees: &mut [u32], stack: &mut [u32], room: usize, state: State, e: Element) -> Stored
-    requires { ⌜ (e .end ≤ mostBytes) × (e .first ≤ e .end) × Some (now trees) (now stack) room state ⌝ }
-    ensures { λ r. ⌜ ((before : List ℕ) (levels : Levels) → Holds before (now (trees .entry)) (now (stack .entry)) room state levels → Turned before (now (trees .exit)) (now (stack .exit)) room r (step (record { groups = mostGroups; room = room }) levels e)) ⌝ }
+// Writes what an element made of the records, by what it made of the state.
+fn store(trees: &mut [u32], state: State, e: Element, advanced: Advanced) -> Stored
+    requires { ⌜ (e .end ≤ mostBytes) × (e .first ≤ e .end) × Stepped (now trees) state e advanced ⌝ }
+    ensures { λ r. ⌜ ((before stack after : List ℕ) (room : ℕ) (levels : Levels) (to : Step) → Holds before (now (trees .entry)) stack room state levels → length after ≡ length stack → Follows room recordIndex after e levels advanced to → Turned before (now (trees .exit)) after room r to) ⌝ }
 {
     let index = state.number;
     let first = e.first as u32;
     let end = e.end as u32;
     let line = e.line;
-    let advanced = prefix::advance(stack, state, room, index as u32, e);
     match advanced {
         Advanced::Leaf(next) => {
             let record = TreeRecord::new(e.kind, first, end, 1, line);
@@ -80,6 +81,77 @@ fn store(trees: &mut [u32], stack: &mut [u32], room: usize, state: State, e: Ele
         }
         Advanced::Stopped(number, place) => Stored::Stop(number, place),
     }
+}
+
+// What reading on comes to: no element is left; a refusal; or an element, with what it made of the state.
+pub enum Turn {
+    End(State),
+    Stop(u32, usize),
+    Taken(Element, Advanced),
+}
+
+// Reads on from a state and a place: to the text's end or a refusal, with the records in the table; or, `once`, one element, of
+// which nothing is stored. Reading and respacing share this loop: the element call and the step are compiled into it, since
+// nothing else calls them.
+fn read_on(
+    text: &[u8],
+    trees: &mut [u32],
+    stack: &mut [u32],
+    room: usize,
+    from: State,
+    at: usize,
+    once: bool,
+) -> Turn
+    requires { ⌜ (length (now text) ≤ mostBytes) × (once ≡ false → Starts (now trees) (now stack) room from at) ⌝ }
+    ensures { λ r. ⌜ (once ≡ true → (levels : Levels) → Held openerPlace (now (stack .entry)) from levels → Takes (now (text .entry)) (now (stack .entry)) (now (stack .exit)) room from at levels r) × (once ≡ false → Runs (now (text .entry)) (now (trees .entry)) (now (trees .exit)) (now (stack .exit)) room r) ⌝ }
+{
+    let mut state = from;
+    let mut place = at;
+    loop {
+        let pattern = prefix::slash_opens(state);
+        let next = elements::element_at(text, place, pattern);
+        match next {
+            Next::End => {
+                return Turn::End(state);
+            }
+            Next::Fault(number, fault) => {
+                return Turn::Stop(number, fault);
+            }
+            Next::Found(e) => {
+                let mark = if once {
+                    e.first as u32
+                } else {
+                    state.number as u32
+                };
+                let advanced = prefix::advance(stack, state, room, mark, e);
+                if once {
+                    return Turn::Taken(e, advanced);
+                }
+                let stored = store(trees, state, e, advanced);
+                match stored {
+                    Stored::More(after) => {
+                        state = after;
+                        place = e.end;
+                    }
+                    Stored::Stop(number, fault) => {
+                        return Turn::Stop(number, fault);
+                    }
+                }
+            }
+        }
+    }
+}
+
+// The next turn of a reading that keeps no records: there is room for as many as a table may hold, and the mark of an open group
+// is its opener's place.
+pub fn take_turn(text: &[u8], stack: &mut [u32], state: State, place: usize) -> Turn
+    ensures { λ r. ⌜ (length (now (text .entry)) ≤ mostBytes → (levels : Levels) → Held openerPlace (now (stack .entry)) state levels → Takes (now (text .entry)) (now (stack .entry)) (now (stack .exit)) mostTrees state place levels r) × (mostBytes < length (now (text .entry)) → r ≡ Turn.Stop longText mostBytes) ⌝ }
+{
+    if MOST_BYTES < text.len() {
+        return Turn::Stop(LONG, MOST_BYTES);
+    }
+    let mut none = [0u32; 0];
+    read_on(text, &mut none, stack, TreeRecord::MOST, state, place, true)
 }
 
 // The answer where no element is left: the innermost opener's record has its place.
@@ -102,31 +174,12 @@ fn fill(text: &[u8], trees: &mut [u32], stack: &mut [u32]) -> Answer
     ensures { λ r. ⌜ (r ≡ answerOf (readingFor (now (text .entry)) (length (now (trees .entry))))) × Filled (readingFor (now (text .entry)) (length (now (trees .entry)))) (now (trees .entry)) (now (trees .exit)) ⌝ }
 {
     let room = records::room_for(trees.len());
-    let mut state = prefix::start();
-    let mut place = 0usize;
-    loop {
-        let pattern = prefix::slash_opens(state);
-        let next = elements::element_at(text, place, pattern);
-        match next {
-            Next::End => {
-                return ending(trees, stack, state);
-            }
-            Next::Fault(number, at) => {
-                return Answer::Refused(number, at);
-            }
-            Next::Found(e) => {
-                let stored = store(trees, stack, room, state, e);
-                match stored {
-                    Stored::More(after) => {
-                        state = after;
-                        place = e.end;
-                    }
-                    Stored::Stop(number, at) => {
-                        return Answer::Refused(number, at);
-                    }
-                }
-            }
-        }
+    let turn = read_on(text, trees, stack, room, prefix::start(), 0, false);
+    match turn {
+        Turn::End(state) => ending(trees, stack, state),
+        Turn::Stop(number, place) => Answer::Refused(number, place),
+        // Not met: the loop is not left after an element.
+        Turn::Taken(_, _) => Answer::Refused(0, 0),
     }
 }
 

@@ -1,26 +1,29 @@
 -- The loop over the elements: the levels that are held read the rest of the text as the whole is read.
-use mathlib.Core.Path.{_≡_, refl, sym, ap, _∙_}
-use mathlib.Core.List.{List, [], _∷_, _++_}
-use mathlib.Core.Bool.{Bool, true, false}
+use mathlib.Core.Path.{_≡_, refl, ap, _∙_}
+use mathlib.Core.List.{List}
 use Prim.Native.Nat.{ℕ, zero, suc, _+_, _<_, _≤_}
 use native.Mathlib.Omega.{arith}
 use borrow.Author.Tests.{le-leb, lt-leb}
-use lib.ListN.{length, drop, replicate}
+use lib.ListN.{length, replicate}
 use Rattle.elements.specs.Elements.{elementAt}
 use Rattle.elements.specs.declared.Answer.{Answer}
 use Rattle.elements.specs.declared.Element.{Element}
 use Rattle.elements.specs.declared.Next.{Next}
 use Rattle.elements.proofs.Bounds.{Placed, found-placed}
-use Rattle.prefix.specs.Trees.{Trees, none}
+use Rattle.prefix.specs.Trees.{none}
 use Rattle.prefix.specs.Levels.{Levels, text, slashOpens}
-use Rattle.prefix.specs.Reading.{Step, stop, more, step, Reading, accepted, refused, ending, readOn, reading}
-use Rattle.prefix.specs.Held.{Held}
+use Rattle.prefix.specs.Reading.{Step, step, Reading, accepted, refused, ending, readOn, reading}
+use Rattle.prefix.specs.Held.{Held, Follows}
+use Rattle.prefix.specs.declared.Advanced.{Advanced}
 use Rattle.prefix.specs.declared.State.{State}
 use Rattle.prefix.proofs.ReadingLaws.{read-end, read-fault, read-stop, read-more}
+use Rattle.reader.specs.Records.{mostTrees}
 use Rattle.reader.specs.Read.{mostBytes, longText}
+use Rattle.reader.specs.Table.{openerPlace, Takes, at-end, at-fault, at-element}
+use Rattle.reader.specs.declared.Turn.{Turn}
 use Rattle.respacer.specs.Respaced.{addTrees, respaced}
-use Rattle.respacer.specs.Respace.{respaceLimits, wholeReading, outputFull, Respacing, written, denied, fitted, respacingFor, answerOf, outputAfter}
-use Rattle.respacer.specs.Written.{over, openerPlace, Writes, Turned, goes-on, ends, Told}
+use Rattle.respacer.specs.Respace.{respaceLimits, wholeReading, outputFull, Respacing, fitted, respacingFor, answerOf, outputAfter}
+use Rattle.respacer.specs.Written.{over, Writes, Turned, goes-on, ends, Told}
 use Rattle.respacer.specs.declared.Wrote.{Wrote}
 use Rattle.respacer.proofs.OverLaws.{over-nothing, over-fits}
 
@@ -49,30 +52,45 @@ module _ (bytes old : List ℕ) where
         writes = record { held = held; output-is = over-nothing old; at-is = refl; few = omega arith; length-is = refl; stack-is = s };
       }
 
-  module _ (output stack : List ℕ) (state : State) (at place : ℕ) (here : At bytes old output stack state at place) (pattern : Bool) (p : pattern ≡ slashOpens (here .levels)) where
-    looked : (next : Next) → elementAt bytes place pattern ≡ next → elementAt bytes place (slashOpens (here .levels)) ≡ next
-    looked next e = rw p at e
+  module _ (output stack : List ℕ) (state : State) (at place : ℕ) (here : At bytes old output stack state at place) (after : List ℕ) where
+    -- at the text's end nothing has changed
+    pub end-writes : {s : State} → Takes bytes stack after mostTrees state place (here .levels) (Turn.End s) → Writes bytes old output after state at place (here .levels)
+    end-writes (at-end same e) = rw same (here .writes)
 
-    pub at-end : elementAt bytes place pattern ≡ Next.End → (next : List ℕ) (answer : Answer) → Told bytes old next (ending (here .levels)) answer
-        → Told bytes old next (wholeReading bytes) answer
-    at-end e next answer t = told next answer (ending (here .levels)) (here .meets ∙ read-end bytes respaceLimits (here .fuel) (here .levels) place (looked Next.End e)) t
+    pub end-told : {s : State} → Takes bytes stack after mostTrees state place (here .levels) (Turn.End s) → (next : List ℕ) (answer : Answer)
+        → Told bytes old next (ending (here .levels)) answer → Told bytes old next (wholeReading bytes) answer
+    end-told (at-end same e) next answer t =
+        told next answer (ending (here .levels)) (here .meets ∙ read-end bytes respaceLimits (here .fuel) (here .levels) place e) t
 
-    pub at-fault : (next : List ℕ) (n q : ℕ) → elementAt bytes place pattern ≡ Next.Fault n q → Told bytes old next (wholeReading bytes) (Answer.Refused n q)
-    at-fault next n q e =
-        told next (Answer.Refused n q) (refused n q) (here .meets ∙ read-fault bytes respaceLimits (here .fuel) (here .levels) place n q (looked (Next.Fault n q) e)) refl
+    pub fault-told : {n q : ℕ} → Takes bytes stack after mostTrees state place (here .levels) (Turn.Stop n q) → (next : List ℕ)
+        → Told bytes old next (wholeReading bytes) (Answer.Refused n q)
+    fault-told (at-fault {number = n} {fault = q} e) next =
+        told next (Answer.Refused n q) (refused n q) (here .meets ∙ read-fault bytes respaceLimits (here .fuel) (here .levels) place n q e) refl
 
-    module _ (e : Element) (found : elementAt bytes place pattern ≡ Next.Found e) where
-      pub at-placed : Placed bytes place e
-      at-placed = found-placed bytes place pattern e found
+    -- an element, and the step that was taken at it
+    found-by : {e : Element} {advanced : Advanced} → Takes bytes stack after mostTrees state place (here .levels) (Turn.Taken e advanced)
+        → elementAt bytes place (slashOpens (here .levels)) ≡ Next.Found e
+    found-by (at-element f s) = f
+
+    pub follows : {e : Element} {advanced : Advanced} → Takes bytes stack after mostTrees state place (here .levels) (Turn.Taken e advanced)
+        → Follows mostTrees openerPlace after e (here .levels) advanced (step respaceLimits (here .levels) e)
+    follows (at-element f s) = rw (here .writes .stack-is) at s
+
+    module _ (e : Element) (advanced : Advanced) (taken : Takes bytes stack after mostTrees state place (here .levels) (Turn.Taken e advanced)) where
+      found : elementAt bytes place (slashOpens (here .levels)) ≡ Next.Found e
+      found = found-by taken
+
+      pub placed : Placed bytes place e
+      placed = found-placed bytes place (slashOpens (here .levels)) e found
 
       stopped-by : (next st : List ℕ) {n q : ℕ} {y : Step} → step respaceLimits (here .levels) e ≡ y → Turned bytes old next st (e .end) (Wrote.Stop n q) y
           → Told bytes old next (wholeReading bytes) (Answer.Refused n q)
       stopped-by next st {n} {q} s ends =
-          told next (Answer.Refused n q) (refused n q) (here .meets ∙ read-stop bytes respaceLimits (here .fuel) (here .levels) place e (looked (Next.Found e) found) n q s) refl
+          told next (Answer.Refused n q) (refused n q) (here .meets ∙ read-stop bytes respaceLimits (here .fuel) (here .levels) place e found n q s) refl
 
-      pub at-stop : (next st : List ℕ) (n q : ℕ) → Turned bytes old next st (e .end) (Wrote.Stop n q) (step respaceLimits (here .levels) e)
+      pub stop-told : (next st : List ℕ) (n q : ℕ) → Turned bytes old next st (e .end) (Wrote.Stop n q) (step respaceLimits (here .levels) e)
           → Told bytes old next (wholeReading bytes) (Answer.Refused n q)
-      at-stop next st n q t = stopped-by next st refl t
+      stop-told next st n q t = stopped-by next st refl t
 
       gone-on : (next st : List ℕ) {s : State} {to : ℕ} {y : Step} (k : ℕ) → here .fuel ≡ suc k → step respaceLimits (here .levels) e ≡ y
           → Turned bytes old next st (e .end) (Wrote.More s to) y → At bytes old next st s to (e .end)
@@ -80,17 +98,17 @@ module _ (bytes old : List ℕ) where
           record {
             levels = l;
             fuel = k;
-            meets = here .meets ∙ read-more bytes respaceLimits (here .fuel) (here .levels) place e (looked (Next.Found e) found) l s ∙ ap (λ (n : ℕ). readOn bytes respaceLimits n l (e .end)) f;
-            enough = omega (arith, here .enough, at-placed .from, at-placed .some);
-            inside = at-placed .within;
+            meets = here .meets ∙ read-more bytes respaceLimits (here .fuel) (here .levels) place e found l s ∙ ap (λ (n : ℕ). readOn bytes respaceLimits n l (e .end)) f;
+            enough = omega (arith, here .enough, placed .from, placed .some);
+            inside = placed .within;
             writes = w;
           }
 
-      pub at-more : (next st : List ℕ) (s : State) (to : ℕ) → Turned bytes old next st (e .end) (Wrote.More s to) (step respaceLimits (here .levels) e) → At bytes old next st s to (e .end)
-      at-more next st s to t = go (here .fuel) refl
+      pub more : (next st : List ℕ) (s : State) (to : ℕ) → Turned bytes old next st (e .end) (Wrote.More s to) (step respaceLimits (here .levels) e) → At bytes old next st s to (e .end)
+      more next st s to t = go (here .fuel) refl
         where
           go : (f : ℕ) → here .fuel ≡ f → At bytes old next st s to (e .end)
-          go zero z = absurd (omega (arith, here .enough, at-placed .from, at-placed .some, at-placed .within))
+          go zero z = absurd (omega (arith, here .enough, placed .from, placed .some, placed .within))
           go (suc k) z = gone-on next st k z refl t
 
 -- the call

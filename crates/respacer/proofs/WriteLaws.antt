@@ -1,30 +1,25 @@
 -- What each answer of `advance` makes of the output, and the loop over the elements.
-use mathlib.Core.Path.{_≡_, refl, sym, ap, _∙_}
+use mathlib.Core.Path.{_≡_, refl, ap, _∙_}
 use mathlib.Core.List.{List, [], _∷_, _++_}
-use mathlib.Core.Bool.{Bool, true, false}
-use Prim.Native.Nat.{ℕ, zero, suc, _+_, _-_, _*_, _<_, _≤_}
+use mathlib.Core.Bool.{Bool}
+use Prim.Native.Nat.{ℕ, _+_, _-_, _*_, _<_, _≤_}
 use native.Mathlib.Omega.{arith}
-use borrow.Author.Tests.{le-leb, lt-leb}
-use lib.ListN.{length, getD, drop, replicate}
-use Rattle.elements.specs.Elements.{elementAt}
+use lib.ListN.{length, getD}
 use Rattle.elements.specs.declared.Answer.{Answer}
 use Rattle.elements.specs.declared.Element.{Element}
-use Rattle.elements.specs.declared.Next.{Next}
-use Rattle.elements.proofs.Bounds.{Placed, found-placed}
 use Rattle.prefix.specs.Trees.{Trees, none, leaf, group}
-use Rattle.prefix.specs.Levels.{Levels, text, inside, slashOpens, depth, onTop}
-use Rattle.prefix.specs.Reading.{Limits, Step, stop, more, step, Reading, accepted, refused, ending, readOn, reading, unclosed}
+use Rattle.prefix.specs.Levels.{Levels, text, inside, depth, onTop}
+use Rattle.prefix.specs.Reading.{Step, more, ending, unclosed}
 use Rattle.prefix.specs.Held.{Held, Closes, closed, Follows, leaf-added, group-opened, group-closed, stopped}
 use Rattle.prefix.specs.declared.State.{State}
 use Rattle.prefix.specs.declared.Advanced.{Advanced}
-use Rattle.prefix.proofs.ReadingLaws.{read-end, read-fault, read-stop, read-more}
 use Rattle.reader.specs.Records.{mostTrees}
-use Rattle.reader.specs.Read.{mostBytes, longText}
-use Rattle.respacer.specs.Respaced.{lineFeed, addElement, addCloser, addTrees, respaced}
-use Rattle.respacer.specs.Respace.{respaceLimits, wholeReading, outputFull, Respacing, written, denied, fitted, respacingFor, answerOf, outputAfter}
-use Rattle.respacer.specs.Written.{over, writtenOf, openerPlace, Writes, Turned, goes-on, ends, Told}
+use Rattle.reader.specs.Table.{openerPlace}
+use Rattle.respacer.specs.Respaced.{lineFeed, addElement, addCloser, addTrees}
+use Rattle.respacer.specs.Respace.{written}
+use Rattle.respacer.specs.Written.{over, writtenOf, Writes, Turned, goes-on, ends, Told}
 use Rattle.respacer.specs.declared.Wrote.{Wrote}
-use Rattle.respacer.proofs.OverLaws.{over-nothing, over-fits, byte-length}
+use Rattle.respacer.proofs.OverLaws.{byte-length}
 
 -- a leaf more, and a group ended
 pub written-leaf : (bytes : List ℕ) (e : Element) (levels : Levels)

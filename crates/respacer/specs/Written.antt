@@ -8,6 +8,7 @@ use Rattle.prefix.specs.Levels.{Levels, text, inside}
 use Rattle.prefix.specs.Reading.{Step, stop, more, Reading, accepted, refused}
 use Rattle.prefix.specs.Held.{Held}
 use Rattle.prefix.specs.declared.State.{State}
+use Rattle.reader.specs.Table.{openerPlace}
 use Rattle.respacer.specs.Respaced.{addElement, addTrees, respaced}
 use Rattle.respacer.specs.declared.Wrote.{Wrote}
 
@@ -19,10 +20,6 @@ over written old = take (length old) written ++ drop (length written) old
 abbrev pub writtenOf : List ℕ → Levels → List ℕ
 writtenOf bytes (text trees) = addTrees bytes [] trees
 writtenOf bytes (inside around kind first line trees) = addTrees bytes (addElement bytes (writtenOf bytes around) first (first + 1) line) trees
-
--- a group's mark on the stack is the place of its opener
-abbrev pub openerPlace : Levels → ℕ → ℕ
-openerPlace around first = first
 
 -- the state, the stack and the output hold the levels; `place` is behind the last element
 pub record Writes (bytes old output stack : List ℕ) (state : State) (at place : ℕ) (levels : Levels) : Type 0 where

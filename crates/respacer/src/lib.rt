@@ -3,19 +3,21 @@ ghost use mathlib.Core.Path.{_≡_};
 ghost use mathlib.Core.List.{List, [], _∷_, _++_};
 ghost use Prim.Native.Nat.{ℕ, _+_, _*_, _<_, _≤_, _^_};
 ghost use lib.ListN.{length, replicate};
-ghost use Rattle.respacer.specs.Respaced.{lineFeed, space, bytesOf, addElement, addCloser};
-ghost use Rattle.respacer.specs.Respace.{respacingFor, answerOf, outputAfter};
+ghost use Rattle.respacer.specs.Respaced.{bytesOf, addElement, addCloser};
+ghost use Rattle.respacer.specs.Respace.{wholeReading, respacingFor, answerOf, outputAfter};
 ghost use Rattle.prefix.specs.Levels.{Levels};
-ghost use Rattle.prefix.specs.Reading.{step};
+ghost use Rattle.prefix.specs.Reading.{Step};
+ghost use Rattle.prefix.specs.Held.{Follows};
+ghost use Rattle.prefix.specs.declared.State.{State};
+ghost use Rattle.reader.specs.Records.{mostTrees};
 ghost use Rattle.reader.specs.Read.{mostBytes};
-ghost use Rattle.respacer.specs.Respace.{respaceLimits, wholeReading};
+ghost use Rattle.reader.specs.Table.{openerPlace};
 ghost use Rattle.respacer.specs.Written.{over, Writes, Turned, Told};
 use elements::Answer;
 use elements::Element;
-use elements::Next;
 use prefix::Advanced;
 use prefix::State;
-use reader::records::TreeRecord;
+use reader::Turn;
 
 // The number of the table's row for an output that is too short.
 pub const OUTPUT_FULL: u32 = 15;
@@ -84,22 +86,14 @@ enum Wrote {
     Stop(u32, usize),
 }
 
-// Advances the state by an element, and writes it.
-fn write_element(
-    text: &[u8],
-    output: &mut [u8],
-    stack: &mut [u32],
-    state: State,
-    at: usize,
-    e: Element,
-) -> Wrote
-    requires { ⌜ (at ≤ 2 * mostBytes) × (e .first < e .end) × (e .end ≤ length (now text)) × (e .end ≤ mostBytes) × (length (now stack) ≡ 200) ⌝ }
-    ensures { λ r. ⌜ ((old : List ℕ) (place : ℕ) (levels : Levels) → place ≤ e .first → Writes (now (text .entry)) old (now (output .entry)) (now (stack .entry)) state at place levels → Turned (now (text .entry)) old (now (output .exit)) (now (stack .exit)) (e .end) r (step respaceLimits levels e)) ⌝ }
+// Writes an element, by what it made of the state.
+fn write_element(text: &[u8], output: &mut [u8], at: usize, e: Element, advanced: Advanced) -> Wrote
+    requires { ⌜ (at ≤ 2 * mostBytes) × (e .first < e .end) × (e .end ≤ length (now text)) × (e .end ≤ mostBytes) ⌝ }
+    ensures { λ r. ⌜ ((old stack after : List ℕ) (state : State) (place : ℕ) (levels : Levels) (to : Step) → place ≤ e .first → length after ≡ length stack → Writes (now (text .entry)) old (now (output .entry)) stack state at place levels → Follows mostTrees openerPlace after e levels advanced to → Turned (now (text .entry)) old (now (output .exit)) after (e .end) r to) ⌝ }
 {
     let first = e.first;
     let end = e.end;
     let line = e.line;
-    let advanced = prefix::advance(stack, state, TreeRecord::MOST, first as u32, e);
     match advanced {
         Advanced::Leaf(next) => {
             let to = put_element(text, output, at, first, end, line);
@@ -139,17 +133,16 @@ fn write_text(text: &[u8], output: &mut [u8], stack: &mut [u32]) -> Answer
     let mut place = 0usize;
     let mut at = 0usize;
     loop {
-        let pattern = prefix::slash_opens(state);
-        let next = elements::element_at(text, place, pattern);
-        match next {
-            Next::End => {
+        let turn = reader::take_turn(text, stack, state, place);
+        match turn {
+            Turn::End(_) => {
                 return write_end(output, stack, state, at);
             }
-            Next::Fault(number, fault) => {
+            Turn::Stop(number, fault) => {
                 return Answer::Refused(number, fault);
             }
-            Next::Found(e) => {
-                let wrote = write_element(text, output, stack, state, at, e);
+            Turn::Taken(e, advanced) => {
+                let wrote = write_element(text, output, at, e, advanced);
                 match wrote {
                     Wrote::More(after, to) => {
                         state = after;

@@ -3,7 +3,7 @@ use borrow.Author.Needs.{needs}
 use native.Mathlib.Omega.{arith}
 use mathlib.Core.Path.{_≡_, sym, ap, _∙_}
 use Rattle.elements.specs.Elements.{literal}
-use Rattle.elements.proofs.ElementLaws.{from-past, from-letter, from-digit, from-quote, from-pattern, from-divide, from-dot, from-sign}
+use Rattle.elements.proofs.ElementLaws.{from-past, from-letter, from-digit, from-quote, from-pattern, from-dot, from-sign}
 use borrow.Author.Needs.{needs}
 use Rattle.elements.proofs.element_from.Statement.{statement}
 use Rattle.elements.proofs.element_from.Tie as tie
@@ -58,6 +58,9 @@ returns-4 c =
     c .literal-element2 .ensures ∙ ap (literal _ _ _) (c .before .string-rest .ensures)
     ∙ sym (from-quote _ _ _ _ (omega arith) l d (sym (c .before .before .before .is-quote .ensures) ∙ c .before .before .if4 .taken))
 
+is-pattern-slash-requires : tie.Need-is-pattern-slash-requires
+is-pattern-slash-requires c κs = search needs
+
 add-pattern-rest : tie.Need-add-pattern-rest
 add-pattern-rest c = search needs
 
@@ -73,38 +76,30 @@ returns-5 c =
     let d = sym (c .before .before .before .before .before .before .before .is-digit .ensures) ∙ c .before .before .before .before .before .before .if3 .left in
     let q = sym (c .before .before .before .before .before .is-quote .ensures) ∙ c .before .before .before .before .if4 .left in
     c .literal-element3 .ensures ∙ ap (literal _ _ _) (c .before .pattern-rest .ensures)
-    ∙ sym (from-pattern _ _ _ _ (omega arith) l d q (c .before .before .if6 .taken) (omega arith))
-
-sign-element-requires : tie.Need-sign-element-requires
-sign-element-requires c κs = search needs
-
-returns-6 : tie.Need-returns-6
-returns-6 c =
-    let l = sym (c .before .before .before .before .before .before .before .before .is-letter .ensures) ∙ c .before .before .before .before .before .before .before .if2 .left in
-    let d = sym (c .before .before .before .before .before .before .is-digit .ensures) ∙ c .before .before .before .before .before .if3 .left in
-    let q = sym (c .before .before .before .before .is-quote .ensures) ∙ c .before .before .before .if4 .left in
-    c .sign-element .ensures ∙ sym (from-divide _ _ _ _ (omega arith) l d q (c .before .if6 .left) (omega arith))
+    ∙ sym (from-pattern _ _ _ _ (omega arith) l d q (sym (c .before .before .before .is-pattern-slash .ensures) ∙ c .before .before .if5 .taken))
 
 is-dot-before-digit-requires : tie.Need-is-dot-before-digit-requires
 is-dot-before-digit-requires c κs = search needs
 
-returns-7 : tie.Need-returns-7
-returns-7 c =
-    let l = sym (c .before .before .before .before .before .before .before .before .is-letter .ensures) ∙ c .before .before .before .before .before .before .before .if2 .left in
-    let d = sym (c .before .before .before .before .before .before .is-digit .ensures) ∙ c .before .before .before .before .before .if3 .left in
-    let q = sym (c .before .before .before .before .is-quote .ensures) ∙ c .before .before .before .if4 .left in
-    sym (from-dot _ _ _ _ (omega arith) l d q (omega arith) (sym (c .before .is-dot-before-digit .ensures) ∙ c .if7 .taken))
-
-sign-element-requires-2 : tie.Need-sign-element-requires-2
-sign-element-requires-2 c κs = search needs
-
-returns-8 : tie.Need-returns-8
-returns-8 c =
+returns-6 : tie.Need-returns-6
+returns-6 c =
     let l = sym (c .before .before .before .before .before .before .before .before .before .is-letter .ensures) ∙ c .before .before .before .before .before .before .before .before .if2 .left in
     let d = sym (c .before .before .before .before .before .before .before .is-digit .ensures) ∙ c .before .before .before .before .before .before .if3 .left in
     let q = sym (c .before .before .before .before .before .is-quote .ensures) ∙ c .before .before .before .before .if4 .left in
-    c .sign-element2 .ensures
-    ∙ sym (from-sign _ _ _ _ (omega arith) l d q (omega arith) (sym (c .before .before .is-dot-before-digit .ensures) ∙ c .before .if7 .left))
+    let p = sym (c .before .before .before .is-pattern-slash .ensures) ∙ c .before .before .if5 .left in
+    sym (from-dot _ _ _ _ (omega arith) l d q p (sym (c .before .is-dot-before-digit .ensures) ∙ c .if6 .taken))
+
+sign-element-requires : tie.Need-sign-element-requires
+sign-element-requires c κs = search needs
+
+returns-7 : tie.Need-returns-7
+returns-7 c =
+    let l = sym (c .before .before .before .before .before .before .before .before .before .before .is-letter .ensures) ∙ c .before .before .before .before .before .before .before .before .before .if2 .left in
+    let d = sym (c .before .before .before .before .before .before .before .before .is-digit .ensures) ∙ c .before .before .before .before .before .before .before .if3 .left in
+    let q = sym (c .before .before .before .before .before .before .is-quote .ensures) ∙ c .before .before .before .before .before .if4 .left in
+    let p = sym (c .before .before .before .before .is-pattern-slash .ensures) ∙ c .before .before .before .if5 .left in
+    c .sign-element .ensures
+    ∙ sym (from-sign _ _ _ _ (omega arith) l d q p (sym (c .before .before .is-dot-before-digit .ensures) ∙ c .before .if6 .left))
 
 pub element-from-spec : {M : Type 1} → statement M
 element-from-spec =
@@ -124,13 +119,12 @@ element-from-spec =
     string-rest-requires
     literal-element-requires-2
     returns-4
+    is-pattern-slash-requires
     add-pattern-rest
     pattern-rest-requires
     literal-element-requires-3
     returns-5
-    sign-element-requires
-    returns-6
     is-dot-before-digit-requires
-    returns-7
-    sign-element-requires-2
-    returns-8)
+    returns-6
+    sign-element-requires
+    returns-7)

@@ -4,7 +4,7 @@ use mathlib.Core.Path.{_≡_, ap, _∙_}
 use lib.ListN.{length}
 use Rattle.elements.specs.Answers.{valueOf}
 use Rattle.exports.specs.Packed.{packed}
-use Rattle.exports.proofs.Laws.{value-small}
+use Rattle.exports.proofs.Laws.{count-small}
 use borrow.Author.Needs.{needs}
 use Rattle.exports.proofs.buldrekso_read.Statement.{statement}
 use Rattle.exports.proofs.buldrekso_read.Tie as tie
@@ -15,7 +15,7 @@ read-requires c κs = search needs
 pack-requires : tie.Need-pack-requires
 pack-requires c κs =
     let a = c .before .before .before .before .before .before .args in
-    rw (c .before .before .read .ensures .0) (value-small (a .text .now) (length (a .trees .now)))
+    rw (c .before .before .read .ensures .0) (count-small (a .text .now) (length (a .trees .now)))
 
 same-length : tie.Need-same-length
 same-length c = search needs

@@ -1,11 +1,11 @@
 -- The loop: the levels that are held read the rest of the text as the whole is read.
 use borrow.Author.Needs.{needs}
 use native.Mathlib.Omega.{arith}
-use mathlib.Core.Path.{_≡_, sym, _∙_}
+use mathlib.Core.Path.{sym, _∙_}
 use Prim.Native.Nat.{_-_}
 use lib.ListN.{length}
-use Rattle.respacer.specs.Written.{openerPlace}
-use Rattle.respacer.proofs.LoopLaws.{At, start-at, at-end, at-fault, at-placed, at-stop, at-more}
+use Rattle.reader.specs.Table.{openerPlace}
+use Rattle.respacer.proofs.LoopLaws.{At, start-at, end-writes, end-told, fault-told, follows, placed, stop-told, more}
 use Rattle.respacer.proofs.write_text.Statement.{statement}
 use Rattle.respacer.proofs.write_text.Tie as tie
 
@@ -21,61 +21,55 @@ start-requires c κs = search needs
 loop-holds : tie.Need-loop-holds Inv-loop μ-loop
 loop-holds c = start-at _ _ _ _ (c .before .before .before .before .pre .0) (c .before .before .before .before .pre .1) (c .start .ensures openerPlace _)
 
-slash-opens-requires : tie.Need-slash-opens-requires Inv-loop μ-loop
-slash-opens-requires c κs = search needs
-
-element-at-requires : tie.Need-element-at-requires Inv-loop μ-loop
-element-at-requires c κs = search needs
+take-turn-requires : tie.Need-take-turn-requires Inv-loop μ-loop
+take-turn-requires c κs = search needs
 
 enum-told : tie.Need-enum-told Inv-loop μ-loop
 enum-told c = search needs
 
 write-end-requires : tie.Need-write-end-requires Inv-loop μ-loop
 write-end-requires c κs =
-    let here = c .before .before .before .before .before .before .loop .inv in
-    (omega (arith, here .writes .few, here .inside, c .before .before .before .before .before .before .before .before .before .before .before .pre .0), here .writes .held .fits)
+    let here = c .before .before .before .before .before .before .before .before .loop .inv in
+    (omega (arith, here .writes .few, here .inside, c .before .before .before .before .before .before .before .before .before .before .before .before .before .pre .0), omega (arith, here .writes .held .fits, c .before .before .before .before .before .stack .given))
 
 same-length : tie.Need-same-length Inv-loop μ-loop
-same-length c = c .before .output .given ∙ c .before .before .before .before .before .before .before .before .before .loop .inv .writes .length-is
+same-length c = c .before .output .given ∙ c .before .before .before .before .before .before .before .before .before .before .before .loop .inv .writes .length-is
 
 same-length-2 : tie.Need-same-length-2 Inv-loop μ-loop
-same-length-2 c = c .before .before .before .before .before .before .before .before .before .loop .inv .writes .stack-is ∙ sym (c .before .before .before .before .before .before .before .before .before .before .before .before .before .before .pre .1)
+same-length-2 c = c .before .before .before .before .before .before .before .before .stack .given ∙ c .before .before .before .before .before .before .before .before .before .before .before .loop .inv .writes .stack-is ∙ sym (c .before .before .before .before .before .before .before .before .before .before .before .before .before .before .before .before .pre .1)
 
 returns : tie.Need-returns Inv-loop μ-loop
 returns c =
-    let here = c .before .before .before .before .before .before .before .before .before .loop .inv in
-    let p = c .before .before .before .before .before .before .before .before .slash-opens .ensures openerPlace _ (here .levels) (here .writes .held) in
-    at-end _ _ _ _ _ _ _ here _ p (sym (c .before .before .before .before .before .before .before .element-at .ensures) ∙ c .before .before .before .before .before .enum-told .given .1) _ _
-    (c .before .before .write-end .ensures _ _ _ (here .levels) (here .writes))
+    let here = c .before .before .before .before .before .before .before .before .before .before .before .loop .inv in
+    let turn = rw (c .before .before .before .before .before .enum-told .given .1) at (c .before .before .before .before .before .before .before .before .before .take-turn .ensures .0 (c .before .before .before .before .before .before .before .before .before .before .before .before .before .before .before .before .pre .0) (here .levels) (here .writes .held)) in
+    end-told _ _ _ _ _ _ _ here _ turn _ _ (c .before .before .write-end .ensures _ _ _ (here .levels) (end-writes _ _ _ _ _ _ _ here _ turn))
 
-enum-known-next : tie.Need-enum-known-next Inv-loop μ-loop
-enum-known-next c = search needs
+enum-known-turn : tie.Need-enum-known-turn Inv-loop μ-loop
+enum-known-turn c = search needs
 
 same-length-3 : tie.Need-same-length-3 Inv-loop μ-loop
-same-length-3 c = c .before .before .before .before .before .loop .inv .writes .length-is
+same-length-3 c = c .before .before .before .before .before .before .before .loop .inv .writes .length-is
 
 same-length-4 : tie.Need-same-length-4 Inv-loop μ-loop
-same-length-4 c = c .before .before .before .before .before .loop .inv .writes .stack-is ∙ sym (c .before .before .before .before .before .before .before .before .before .before .pre .1)
+same-length-4 c = c .before .before .before .before .stack .given ∙ c .before .before .before .before .before .before .before .loop .inv .writes .stack-is ∙ sym (c .before .before .before .before .before .before .before .before .before .before .before .before .pre .1)
 
 returns-2 : tie.Need-returns-2 Inv-loop μ-loop
 returns-2 c =
-    let here = c .before .before .before .before .before .loop .inv in
-    let p = c .before .before .before .before .slash-opens .ensures openerPlace _ (here .levels) (here .writes .held) in
-    at-fault _ _ _ _ _ _ _ here _ p _ _ _ (sym (c .before .before .before .element-at .ensures) ∙ c .before .next .given .1)
+    let here = c .before .before .before .before .before .before .before .loop .inv in
+    fault-told _ _ _ _ _ _ _ here _ (rw (c .before .turn .given .1) at (c .before .before .before .before .before .take-turn .ensures .0 (c .before .before .before .before .before .before .before .before .before .before .before .before .pre .0) (here .levels) (here .writes .held))) _
 
-enum-known-next-2 : tie.Need-enum-known-next-2 Inv-loop μ-loop
-enum-known-next-2 c = search needs
+enum-known-turn-2 : tie.Need-enum-known-turn-2 Inv-loop μ-loop
+enum-known-turn-2 c = search needs
 
 write-element-requires : tie.Need-write-element-requires Inv-loop μ-loop
 write-element-requires c κs =
-    let here = c .before .before .before .before .before .before .before .loop .inv in
-    let p = c .before .before .before .before .before .before .slash-opens .ensures openerPlace _ (here .levels) (here .writes .held) in
-    let placed = at-placed _ _ _ _ _ _ _ here _ p _ (sym (c .before .before .before .before .before .element-at .ensures) ∙ c .before .before .before .next2 .given .1) in (
-      omega (arith, here .writes .few, here .inside, c .before .before .before .before .before .before .before .before .before .before .before .before .pre .0),
-      placed .some,
-      placed .within,
-      omega (arith, placed .within, c .before .before .before .before .before .before .before .before .before .before .before .before .pre .0),
-      here .writes .stack-is,
+    let here = c .before .before .before .before .before .before .before .before .loop .inv in
+    let turn = rw (c .before .before .turn2 .given .1) at (c .before .before .before .before .before .before .take-turn .ensures .0 (c .before .before .before .before .before .before .before .before .before .before .before .before .before .pre .0) (here .levels) (here .writes .held)) in
+    let there = placed _ _ _ _ _ _ _ here _ _ _ turn in (
+      omega (arith, here .writes .few, here .inside, c .before .before .before .before .before .before .before .before .before .before .before .before .before .pre .0),
+      there .some,
+      there .within,
+      omega (arith, there .within, c .before .before .before .before .before .before .before .before .before .before .before .before .before .pre .0),
     )
 
 enum-known-wrote : tie.Need-enum-known-wrote Inv-loop μ-loop
@@ -83,37 +77,35 @@ enum-known-wrote c = search needs
 
 loop-less : tie.Need-loop-less Inv-loop μ-loop
 loop-less c =
-    let here = c .before .before .before .before .before .before .before .before .before .before .before .before .before .before .before .loop .inv in
-    let p = c .before .before .before .before .before .before .before .before .before .before .before .before .before .before .slash-opens .ensures openerPlace _ (here .levels) (here .writes .held) in
-    let placed = at-placed _ _ _ _ _ _ _ here _ p _ (sym (c .before .before .before .before .before .before .before .before .before .before .before .before .before .element-at .ensures) ∙ c .before .before .before .before .before .before .before .before .before .before .before .next2 .given .1) in
-    omega (arith, placed .from, placed .some, placed .within)
+    let here = c .before .before .before .before .before .before .before .before .before .before .before .before .before .before .loop .inv in
+    let turn = rw (c .before .before .before .before .before .before .before .before .turn2 .given .1) at (c .before .before .before .before .before .before .before .before .before .before .before .before .take-turn .ensures .0 (c .before .before .before .before .before .before .before .before .before .before .before .before .before .before .before .before .before .before .before .pre .0) (here .levels) (here .writes .held)) in
+    let there = placed _ _ _ _ _ _ _ here _ _ _ turn in
+    omega (arith, there .from, there .some, there .within)
 
 loop-again : tie.Need-loop-again Inv-loop μ-loop
 loop-again c =
-    let here = c .before .before .before .before .before .before .before .before .before .before .before .before .before .before .before .loop .inv in
-    let p = c .before .before .before .before .before .before .before .before .before .before .before .before .before .before .slash-opens .ensures openerPlace _ (here .levels) (here .writes .held) in
-    let found = sym (c .before .before .before .before .before .before .before .before .before .before .before .before .before .element-at .ensures) ∙ c .before .before .before .before .before .before .before .before .before .before .before .next2 .given .1 in
-    let placed = at-placed _ _ _ _ _ _ _ here _ p _ found in
-    at-more _ _ _ _ _ _ _ here _ p _ found _ _ _ _
-    (rw (c .before .wrote .given .1) at (c .before .before .before .before .before .before .before .write-element .ensures _ _ (here .levels) (placed .from) (here .writes)))
+    let here = c .before .before .before .before .before .before .before .before .before .before .before .before .before .before .loop .inv in
+    let turn = rw (c .before .before .before .before .before .before .before .before .turn2 .given .1) at (c .before .before .before .before .before .before .before .before .before .before .before .before .take-turn .ensures .0 (c .before .before .before .before .before .before .before .before .before .before .before .before .before .before .before .before .before .before .before .pre .0) (here .levels) (here .writes .held)) in
+    let there = placed _ _ _ _ _ _ _ here _ _ _ turn in
+    more _ _ _ _ _ _ _ here _ _ _ turn _ _ _ _
+    (rw (c .before .wrote .given .1) at (c .before .before .before .before .before .write-element .ensures _ _ _ _ _ (here .levels) _ (there .from) (c .before .before .before .before .before .before .before .before .before .before .before .stack .given) (here .writes) (follows _ _ _ _ _ _ _ here _ turn)))
 
 enum-known-wrote-2 : tie.Need-enum-known-wrote-2 Inv-loop μ-loop
 enum-known-wrote-2 c = search needs
 
 same-length-5 : tie.Need-same-length-5 Inv-loop μ-loop
-same-length-5 c = c .before .before .before .before .before .before .output2 .given ∙ c .before .before .before .before .before .before .before .before .before .before .before .before .before .before .before .loop .inv .writes .length-is
+same-length-5 c = c .before .before .before .before .output2 .given ∙ c .before .before .before .before .before .before .before .before .before .before .before .before .before .before .loop .inv .writes .length-is
 
 same-length-6 : tie.Need-same-length-6 Inv-loop μ-loop
-same-length-6 c = c .before .before .before .before .stack .given ∙ c .before .before .before .before .before .before .before .before .before .before .before .before .before .before .before .loop .inv .writes .stack-is ∙ sym (c .before .before .before .before .before .before .before .before .before .before .before .before .before .before .before .before .before .before .before .before .pre .1)
+same-length-6 c = c .before .before .before .before .before .before .before .before .before .before .before .stack .given ∙ c .before .before .before .before .before .before .before .before .before .before .before .before .before .before .loop .inv .writes .stack-is ∙ sym (c .before .before .before .before .before .before .before .before .before .before .before .before .before .before .before .before .before .before .before .pre .1)
 
 returns-3 : tie.Need-returns-3 Inv-loop μ-loop
 returns-3 c =
-    let here = c .before .before .before .before .before .before .before .before .before .before .before .before .before .before .before .loop .inv in
-    let p = c .before .before .before .before .before .before .before .before .before .before .before .before .before .before .slash-opens .ensures openerPlace _ (here .levels) (here .writes .held) in
-    let found = sym (c .before .before .before .before .before .before .before .before .before .before .before .before .before .element-at .ensures) ∙ c .before .before .before .before .before .before .before .before .before .before .before .next2 .given .1 in
-    let placed = at-placed _ _ _ _ _ _ _ here _ p _ found in
-    at-stop _ _ _ _ _ _ _ here _ p _ found _ _ _ _
-    (rw (c .before .wrote2 .given .1) at (c .before .before .before .before .before .before .before .write-element .ensures _ _ (here .levels) (placed .from) (here .writes)))
+    let here = c .before .before .before .before .before .before .before .before .before .before .before .before .before .before .loop .inv in
+    let turn = rw (c .before .before .before .before .before .before .before .before .turn2 .given .1) at (c .before .before .before .before .before .before .before .before .before .before .before .before .take-turn .ensures .0 (c .before .before .before .before .before .before .before .before .before .before .before .before .before .before .before .before .before .before .before .pre .0) (here .levels) (here .writes .held)) in
+    let there = placed _ _ _ _ _ _ _ here _ _ _ turn in
+    stop-told _ _ _ _ _ _ _ here _ _ _ turn _ _ _ _
+    (rw (c .before .wrote2 .given .1) at (c .before .before .before .before .before .write-element .ensures _ _ _ _ _ (here .levels) _ (there .from) (c .before .before .before .before .before .before .before .before .before .before .before .stack .given) (here .writes) (follows _ _ _ _ _ _ _ here _ turn)))
 
 pub write-text-spec : {M : Type 1} → statement M
 write-text-spec =
@@ -123,18 +115,17 @@ write-text-spec =
     μ-loop
     start-requires
     loop-holds
-    slash-opens-requires
-    element-at-requires
+    take-turn-requires
     enum-told
     write-end-requires
     same-length
     same-length-2
     returns
-    enum-known-next
+    enum-known-turn
     same-length-3
     same-length-4
     returns-2
-    enum-known-next-2
+    enum-known-turn-2
     write-element-requires
     enum-known-wrote
     loop-less
