@@ -7,6 +7,8 @@ use Rattle.elements.specs.Answers.{valueOf}
 use Rattle.prefix.specs.Reading.{Reading, accepted, refused}
 use Rattle.reader.specs.Read.{readingFor, answerOf}
 use Rattle.reader.proofs.Theorems.{refused-place, accepted-count}
+use Rattle.parser.specs.Parse.{parsingFor}
+use Rattle.parser.proofs.Bounds.{value-small}
 use Rattle.respacer.specs.Respace.{respacingFor}
 use Rattle.respacer.proofs.Theorems.{value-bounded}
 
@@ -19,3 +21,6 @@ count-small text cells = go (readingFor text cells) refl
 
 pub bytes-small : (text : List ℕ) (room : ℕ) → valueOf (Rattle.respacer.specs.Respace.answerOf (respacingFor text room)) < 2 ^ 32
 bytes-small text room = omega (arith, value-bounded text room)
+
+pub parts-small : (text : List ℕ) (treeCells syntaxCells : ℕ) → valueOf (Rattle.parser.specs.Parse.answerOf (parsingFor text treeCells syntaxCells)) < 2 ^ 32
+parts-small text treeCells syntaxCells = omega (arith, value-small text treeCells syntaxCells)

@@ -5,6 +5,7 @@ ghost use lib.ListN.{length};
 ghost use Rattle.elements.specs.Answers.{valueOf};
 ghost use Rattle.reader.specs.Read.{readingFor, answerOf, tableAfter};
 ghost use Rattle.respacer.specs.Respace.{respacingFor, outputAfter};
+ghost use Rattle.parser.specs.Parse.{parsingFor, treesAfter, syntaxAfter};
 ghost use Rattle.exports.specs.Packed.{packed};
 use elements::Answer;
 
@@ -33,4 +34,12 @@ pub extern "C" fn buldrekso_respace(text: &[u8], output: &mut [u8]) -> u64
     ensures { λ r. ⌜ (r ≡ packed (Rattle.respacer.specs.Respace.answerOf (respacingFor (now (text .entry)) (length (now (output .entry)))))) × (now (output .exit) ≡ outputAfter (respacingFor (now (text .entry)) (length (now (output .entry)))) (now (output .entry))) ⌝ }
 {
     pack(respacer::respace(text, output))
+}
+
+// parser::parse.
+#[no_mangle]
+pub extern "C" fn buldrekso_parse(text: &[u8], trees: &mut [u32], syntax: &mut [u32]) -> u64
+    ensures { λ r. ⌜ (r ≡ packed (Rattle.parser.specs.Parse.answerOf (parsingFor (now (text .entry)) (length (now (trees .entry))) (length (now (syntax .entry)))))) × (now (trees .exit) ≡ treesAfter (parsingFor (now (text .entry)) (length (now (trees .entry))) (length (now (syntax .entry)))) (now (trees .entry))) × (now (syntax .exit) ≡ syntaxAfter (parsingFor (now (text .entry)) (length (now (trees .entry))) (length (now (syntax .entry)))) (now (syntax .entry))) ⌝ }
+{
+    pack(parser::parse(text, trees, syntax))
 }

@@ -98,3 +98,16 @@ begins-not s es r b =
 -- no element is the end of the text
 pub still-going : (es : List Element) (control : Control) (f : Frame) (around : List Held) → run start (tokens es) ≡ live control f around → control ≡ finished → ⊥
 still-going es control f around r = unfinished (tokens-before-end 0 es) control f around r
+
+-- the first of two lists of elements, by the same in another text
+pub record Front (text other : List ℕ) (es whole : List Element) : Type 0 where
+  pub front : List Element
+  pub back : List Element
+  pub all : whole ≡ front ++ back
+  pub same : SameElements text other es front
+
+pub same-split : {text other : List ℕ} (es fs : List Element) {whole : List Element} → SameElements text other (es ++ fs) whole → Front text other es whole
+same-split [] fs {whole} s = record { front = []; back = whole; all = refl; same = no-elements }
+same-split (e ∷ es) fs (same-element {f = f} k w l b rest) =
+    let r = same-split es fs rest in
+    record { front = f ∷ r .front; back = r .back; all = ap (_∷_ f) (r .all); same = same-element k w l b (r .same) }

@@ -36,4 +36,5 @@ pub mod OwnMarks
 pub mod TokenLaws
 pub mod CountTrees
 pub mod TreeSizes
+pub mod Answers
 pub mod Theorems

@@ -1,8 +1,8 @@
 -- The theorems of derivations.
 use mathlib.Core.Path.{_≡_, refl, sym, ap, subst, _∙_}
-use mathlib.Core.List.{List, [], _∷_, _++_}
+use mathlib.Core.List.{List, [], _∷_, _++_, append-assoc, List·Memᴰ}
 use mathlib.Core.Bool.{Bool, false}
-use Prim.Native.Nat.{ℕ, _+_, _≤_}
+use Prim.Native.Nat.{ℕ, _+_, _≤_, _<_}
 use native.Mathlib.Omega.{arith}
 use Rattle.elements.specs.declared.Element.{Element}
 use Rattle.prefix.specs.Trees.{Trees}
@@ -22,10 +22,11 @@ use Rattle.grammar.proofs.Counts.{few-parts}
 use Rattle.grammar.proofs.Ranges.{marksOf, Distinct}
 use Rattle.grammar.proofs.TokenLaws.{element-marks}
 use Rattle.grammar.proofs.CountTrees.{count-tokens, program-distinct}
-use Rattle.grammar.proofs.Begins.{begins, begins-not, still-going}
+use Rattle.grammar.proofs.Answers.{answersOf, choice-answers}
+use Rattle.grammar.proofs.Begins.{begins, begins-not, still-going, same-split}
 
 -- what the prefix rule makes of a text with a derivation
-pub record Read (text : List ℕ) (es : List Element) : Type 0 where
+pub record ReadAs (text : List ℕ) (es : List Element) : Type 0 where
   pub trees : Trees
   pub reads : unlimitedReading text ≡ accepted trees
   pub same : elementsOf trees ≡ es
@@ -33,18 +34,18 @@ pub record Read (text : List ℕ) (es : List Element) : Type 0 where
 -- Demand 3: "the prefix rule takes each slash of a program as its derivation does". The reading of a program without limits is
 -- accepted, and the elements of its trees, closers included, are the derivation's: a regular expression stands among them at
 -- exactly the slashes that the derivation takes as one.
-pub no-program-differs : (text : List ℕ) (d : Derivation text) → Read text (d .elements)
+pub no-program-differs : (text : List ℕ) (d : Derivation text) → ReadAs text (d .elements)
 no-program-differs text d =
     let r = program-read text (d .cut) (frame (d .parts) [] [] _, complete (d .steps)) in
     record { trees = r .0; reads = r .1; same = r .2 }
 
 -- Demand 3: "any two grammar derivations take every slash alike and have one syntax tree".
-pub record Alike {text : List ℕ} (d f : Derivation text) : Type 0 where
+pub record OneDerivation {text : List ℕ} (d f : Derivation text) : Type 0 where
   pub same-elements : d .elements ≡ f .elements
   pub same-answers : d .choice ≡ f .choice
   pub same-syntax : syntaxTree d ≡ syntaxTree f
 
-pub any-two-derivations : (text : List ℕ) (d f : Derivation text) → Alike d f
+pub any-two-derivations : (text : List ℕ) (d f : Derivation text) → OneDerivation d f
 any-two-derivations text d f =
     let r = no-program-differs text d in
     let s = no-program-differs text f in
@@ -53,12 +54,29 @@ any-two-derivations text d f =
     let parts : d .parts ≡ f .parts = one-tree (subst (λ (es : List Element). Program (tokens es) (d .parts)) elements (d .steps)) (f .steps) in
     record { same-elements = elements; same-answers = same-choice text (d .cut) (f .cut) elements; same-syntax = cc }
 
--- A text is a program exactly if its unlimited reading is accepted, and the machine takes the elements to where a program may end.
+-- The slashes that a derivation takes as regular expressions are those whose elements have kind 5.
+pub slashes-by-kind : (text : List ℕ) (d : Derivation text) → d .choice ≡ answersOf text (d .elements)
+slashes-by-kind text d = choice-answers text (d .cut)
+
+-- A text that is read, and whose elements the machine takes to where a program may end, is a program.
 pub derivation-of : (text : List ℕ) (limits : Limits) (trees : Trees) (f : Frame) → reading text limits ≡ accepted trees
     → run start (tokens (elementsOf trees)) ≡ live (statementDue false body) f [] → Derivation text
 derivation-of text limits trees f a r =
     let c = reading-cuts text limits trees a in
     record { choice = c .choice; elements = elementsOf trees; cut = c .cut; parts = doneOf f; steps = sound (tokens (elementsOf trees)) f r }
+
+-- Elements that begin a program with others behind them begin one: what begins none stays so.
+pub begins-shorter : (text : List ℕ) (es fs : List Element) → BeginsProgram text (es ++ fs) → BeginsProgram text es
+begins-shorter text es fs b =
+    let s = same-split es fs (b .same) in
+    record {
+      other = b .other;
+      derivation = b .derivation;
+      firsts = s .front;
+      more = s .back ++ b .more;
+      starts = b .starts ∙ ap (λ (xs : List Element). xs ++ b .more) (s .all) ∙ append-assoc (s .front) (s .back) (b .more);
+      same = s .same;
+    }
 
 -- Refused texts, 13: "first element with which the elements so far begin no program". It is where the machine stops: some text
 -- with a derivation begins with the elements before it, and none begins with these and the element.
@@ -72,12 +90,19 @@ first-refused text limits trees a before after e split control f around alive st
   begins-not text (before ++ (e ∷ [])) stops,
 )
 
--- "A syntax tree has at most one record more than the tree records, each with its own mark."
+-- A syntax tree has at most one record more than the tree records, each with a mark of its own: that of a tree record, or, the
+-- program's, the number of them.
 pub record FewParts {text : List ℕ} (d : Derivation text) : Type 0 where
   pub few : size (syntaxTree d) ≤ countTrees (d .elements) + 1
   pub own : Distinct (marksOf (syntaxTree d))
+  pub marked-by : (m : ℕ) → List·Memᴰ m (marksOf (d .parts)) → m < countTrees (d .elements)
 
 pub few-parts-each-marked : (text : List ℕ) (d : Derivation text) → FewParts d
 few-parts-each-marked text d =
     let trees = count-tokens 0 (d .elements) in
-    record { few = omega (arith, few-parts (d .steps)); own = rw (sym trees) (program-distinct (element-marks (d .elements) (d .steps))) }
+    let marks = element-marks (d .elements) (d .steps) in
+    record {
+      few = omega (arith, few-parts (d .steps));
+      own = rw (sym trees) (program-distinct marks);
+      marked-by = λ m member. omega (arith, marks .within-all m member);
+    }

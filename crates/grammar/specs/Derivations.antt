@@ -1,20 +1,21 @@
 -- Document 01, Grammar: "A derivation of a text is a choice together with grammar steps. With that choice the rules under
 -- Elements cut the whole text into elements and blanks .. The steps lead from Program to exactly these elements, closers
 -- included. A derivation settles no slash by the prefix rule. A text with a derivation is a program."
-use Prim.Native.Nat.{ℕ, _+_, _-_, _≤_, max}
+use Prim.Native.Nat.{ℕ, _+_, _-_, _/_, _≤_, max}
 use mathlib.Core.Path.{_≡_}
 use mathlib.Core.Bool.{Bool, true, false, cond, _&&_, _||_}
 use mathlib.Core.List.{List, [], _∷_, _++_}
 use lib.Dec.{eqb}
-use lib.ListN.{length, take, drop}
+use lib.ListN.{length}
 use Rattle.elements.specs.Elements.{delimiterKind}
+use Rattle.elements.specs.Walks.{partOf}
 use Rattle.elements.specs.declared.Element.{Element}
 use Rattle.prefix.specs.Rule.{isSign}
-use Rattle.reader.specs.Records.{mostTrees}
+use Rattle.reader.specs.Records.{treeWidth, mostTrees}
 use Rattle.reader.specs.Read.{mostBytes, mostGroups}
 use Rattle.grammar.specs.Cuts.{isCloser, Cuts}
 use Rattle.grammar.specs.Tokens.{tokens}
-use Rattle.grammar.specs.Syntax.{Syntax, size, mostSyntax, programTree}
+use Rattle.grammar.specs.Syntax.{Syntax, size, syntaxWidth, mostSyntax, programTree}
 use Rattle.grammar.specs.Grammar.{Program}
 
 pub record Derivation (text : List ℕ) : Type 0 where
@@ -29,8 +30,8 @@ abbrev pub countTrees : List Element → ℕ
 countTrees [] = 0
 countTrees (e ∷ es) = cond (isCloser e) 0 1 + countTrees es
 
--- "The syntax tree of a derivation is the list of its syntax records, one for each part that Records names": the program's own
--- is one of them
+-- "The syntax tree of a derivation is the list of its syntax records, one for each part that Records names": a tree here, whose list
+-- is `syntaxRecords`. The program's own record is one of them
 abbrev pub syntaxTree : {text : List ℕ} → Derivation text → Syntax
 syntaxTree d = programTree (countTrees (d .elements)) (d .parts)
 
@@ -53,14 +54,20 @@ pub record WithinLimits {text : List ℕ} (d : Derivation text) : Type 0 where
   pub few-parts : size (syntaxTree d) ≤ mostSyntax
   pub shallow : deepestFrom 0 (d .elements) ≤ mostGroups
 
+-- "Tables are long enough for it if the tree table has room for as many records as the derivation has elements other than closers,
+-- and the syntax table for as many as its syntax tree has": tables of so many numbers
+pub record LongEnough {text : List ℕ} (d : Derivation text) (treeCells syntaxCells : ℕ) : Type 0 where
+  pub trees-fit : countTrees (d .elements) ≤ treeCells / treeWidth
+  pub parts-fit : size (syntaxTree d) ≤ syntaxCells / syntaxWidth
+
 -- elements of two texts with the same kinds, line marks and bytes
 pub data SameElements (text other : List ℕ) : List Element → List Element → Type 0 where
   no-elements : SameElements text other [] []
   same-element : {e f : Element} {es fs : List Element} → e .kind ≡ f .kind → e .which ≡ f .which → e .line ≡ f .line
-      → take (e .end - e .first) (drop (e .first) text) ≡ take (f .end - f .first) (drop (f .first) other)
+      → partOf text e ≡ partOf other f
       → SameElements text other es fs → SameElements text other (e ∷ es) (f ∷ fs)
 
--- elements of a text "begin a program (limits aside)": some text has a derivation whose elements start with these
+-- elements of a text begin a program, "limits aside": some text has a derivation whose elements start with these
 pub record BeginsProgram (text : List ℕ) (es : List Element) : Type 0 where
   pub other : List ℕ
   pub derivation : Derivation other

@@ -149,7 +149,7 @@ pub data Derives : Form → List Token → List Token → Syntax → Type 0 wher
   statement-if : {word opener closer : Spot} {inside middle after : List Token} {condition inner : Syntax}
       → Derives assignForm inside (token closeParen closer ∷ middle) condition → Derives statementForm middle after inner
       → Derives statementForm (token ifWord word ∷ token openParen opener ∷ inside) after (node ifSyntax (word .mark) condition inner)
-  -- "`return ;`"
+  -- "`return ;`". "Return may stand anywhere": no form asks what stands around it
   statement-bare-return : {word end : Spot} {after : List Token}
       → Derives statementForm (token returnWord word ∷ token semicolon end ∷ after) after (node bareReturnSyntax (word .mark) nil nil)
   -- "`return Assign ;` with no line end after `return`"
@@ -159,7 +159,7 @@ pub data Derives : Form → List Token → List Token → Syntax → Type 0 wher
   -- "name `:` statement"
   statement-label : {label sign : Spot} {middle after : List Token} {inner : Syntax} → Derives statementForm middle after inner
       → Derives statementForm (token name label ∷ token colon sign ∷ middle) after (node labelSyntax (label .mark) nil inner)
-  -- "Program and function body: statements and declarations, possibly none."
+  -- "Program and function body: statements and declarations, possibly none", and the statements of a block
   no-statements : {scope : Scope} {here : List Token} → Derives (statementsForm scope) here here nil
   add-statement : {scope : Scope} {before middle after : List Token} {statements last : Syntax}
       → Derives (statementsForm scope) before middle statements → Derives statementForm middle after last

@@ -8,7 +8,8 @@ use Rattle.elements.specs.declared.Element.{Element}
 use Rattle.prefix.specs.Rule.{isWord, isSign}
 use Rattle.grammar.specs.Cuts.{isCloser}
 
--- Classes of tokens. One that marks one kind of syntax record alone has the number of that kind.
+-- Classes of tokens. A name, number, string, regular expression, `/`, `+` or `=` has the number of the part that it makes by
+-- itself; the others have numbers past the kinds of parts.
 abbrev pub name : ℕ
 name = 1
 

@@ -1,0 +1,28 @@
+-- The readings that document 01 marks (M) hold of the definitions.
+use mathlib.Core.Bool.{Bool}
+use lib.Dec.{T}
+use Rattle.text.specs.Bytes.{blank, lineEnd, illegal, letter, digit, nameByte}
+use Rattle.text.specs.Runs
+use Rattle.words.specs.Words.{placeIn, wordNumber, taken}
+use Rattle.signs.specs.Signs.{longestSign, longestOf}
+use Rattle.elements.specs.Gaps.{gap}
+use Rattle.elements.specs.Numbers.{numberFrom}
+use Rattle.elements.specs.Strings.{quote, stringRest}
+use Rattle.elements.specs.Patterns.{patternRest}
+use Rattle.elements.specs.Elements.{elementAt, elementFrom, named, delimiter}
+use Rattle.prefix.specs.Trees.{count}
+use Rattle.prefix.specs.Rule.{elementClass, groupClass, backwards, opensObject, opensPattern}
+use Rattle.prefix.specs.Reading.{step, turn, readOn, reading}
+use Rattle.reader.specs.Records.{records}
+use Rattle.reader.specs.Read.{readingFor}
+use Rattle.grammar.specs.Tokens.{classOf, tokensFrom}
+use Rattle.grammar.specs.Syntax.{syntaxRecords}
+use Rattle.grammar.specs.TreeElements.{elementsOf}
+use Rattle.parser.specs.Parse.{fateOf, parsingFor}
+use Rattle.respacer.specs.Respaced.{addElement, addCloser, addTrees}
+use Rattle.respacer.specs.Respace.{wholeReading}
+use Rattle.marked.specs.Marked.{allHold, readings}
+
+pub all-hold : T (allHold readings)
+unfolding blank lineEnd illegal letter digit nameByte Runs.run Runs.same placeIn wordNumber taken longestSign longestOf gap numberFrom quote stringRest patternRest elementAt elementFrom named delimiter count elementClass groupClass backwards opensObject opensPattern step turn readOn reading records readingFor classOf tokensFrom syntaxRecords elementsOf fateOf parsingFor addElement addCloser addTrees wholeReading
+all-hold = tt

@@ -1,0 +1,49 @@
+-- The count of an accepted parsing, and the place of a refused one, are small.
+use mathlib.Core.Path.{_≡_, refl, sym, ap, _∙_}
+use mathlib.Core.List.{List, [], _∷_, _++_}
+use mathlib.Core.Bool.{Bool, false}
+use Prim.Native.Nat.{ℕ, _≤_}
+use native.Mathlib.Omega.{arith}
+use lib.ListN.{length}
+use Rattle.elements.specs.Answers.{valueOf}
+use Rattle.elements.specs.declared.Element.{Element}
+use Rattle.elements.proofs.Bounds.{found-placed}
+use Rattle.reader.specs.Read.{mostBytes, readLimits}
+use Rattle.reader.proofs.Theorems.{refused-place}
+use Rattle.grammar.specs.Cuts.{marked, Cuts, cut-end, cut-element, cut-slash}
+use Rattle.grammar.specs.Syntax.{size}
+use Rattle.grammar.specs.TreeElements.{elementsOf}
+use Rattle.grammar.proofs.ReadCuts.{reading-cuts}
+use Rattle.parser.specs.Parse.{Parsing, program, denied, parsingFor, answerOf}
+use Rattle.parser.proofs.AcceptedReadings.{accepted-reading}
+use Rattle.parser.proofs.Verdicts.{Refuses, at-element, at-end}
+use Rattle.parser.proofs.Theorems.{Verdict, as-read, no-program, syntax-full, accepts, verdict}
+
+-- the elements that a text is cut into stand in it
+first-within : (text : List ℕ) {place : ℕ} {choice : List Bool} {es : List Element} → Cuts text place choice es
+    → (before : List Element) (e : Element) (rest : List Element) → es ≡ before ++ (e ∷ rest) → e .first ≤ length text
+first-within text (cut-end x) [] e rest q = absurd (let z : _≡_ {A = ℕ} 0 1 = cc in omega arith)
+first-within text (cut-end x) (b ∷ before) e rest q = absurd (let z : _≡_ {A = ℕ} 0 1 = cc in omega arith)
+first-within text (cut-element {place} {e = f} m found more) [] e rest q =
+    let same : marked f ≡ e = cc in
+    omega (arith, ap Element.first same, found-placed text place false f found)
+first-within text (cut-element m found more) (b ∷ before) e rest q = first-within text more before e rest (cc)
+first-within text (cut-slash {place} {e = f} {answer} m found more) [] e rest q =
+    let same : marked f ≡ e = cc in
+    omega (arith, ap Element.first same, found-placed text place answer f found)
+first-within text (cut-slash m found more) (b ∷ before) e rest q = first-within text more before e rest (cc)
+
+pub value-small : (text : List ℕ) (treeCells syntaxCells : ℕ) → valueOf (answerOf (parsingFor text treeCells syntaxCells)) ≤ mostBytes
+value-small text treeCells syntaxCells = by (verdict text treeCells syntaxCells)
+  where
+    place-small : {es : List Element} {place : ℕ} {choice : List Bool} → length text ≤ mostBytes → Cuts text 0 choice es → Refuses text es place → place ≤ mostBytes
+    place-small short cut (at-element before e rest split begins none) = omega (arith, first-within text cut before e rest split)
+    place-small short cut (at-end begins) = short
+
+    by : {q : Parsing} → Verdict text treeCells syntaxCells q → valueOf (answerOf q) ≤ mostBytes
+    by (as-read {number = number} {place = place} r) = refused-place text treeCells number place r
+    by (no-program n) =
+        let a = accepted-reading text treeCells (n .trees) (n .reads) in
+        place-small (a .short) (reading-cuts text (readLimits treeCells) (n .trees) (a .reads) .cut) (n .first)
+    by (syntax-full f) = accepted-reading text treeCells (f .trees) (f .reads) .short
+    by (accepts a) = omega (arith, a .limits .few-parts, ap size (a .same-syntax))

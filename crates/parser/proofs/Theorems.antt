@@ -1,0 +1,176 @@
+-- Demand 3: what `parse` answers, over derivations. Its contract is an equation with `parsingFor`.
+use mathlib.Core.Path.{_≡_, refl, sym, ap, subst, _∙_}
+use mathlib.Core.List.{List, [], _++_}
+use mathlib.Core.Bool.{Bool, true, false, cond}
+use Prim.Native.Nat.{ℕ, _+_, _*_, _/_, _≤_, _<_}
+use native.Mathlib.Omega.{arith}
+use borrow.Author.Tests.{leb-true, leb-false, le-leb}
+use lib.Dec.{leb}
+use lib.ListN.{length, drop}
+use Rattle.elements.specs.declared.Element.{Element}
+use Rattle.elements.specs.declared.Answer.{Answer}
+use Rattle.prefix.specs.Trees.{Trees, count, deepest}
+use Rattle.prefix.specs.Reading.{Limits, Reading, accepted, refused, reading, unlimited, unlimitedReading}
+use Rattle.prefix.proofs.LimitLaws.{accepted-unlimited}
+use Rattle.reader.specs.Read.{readLimits, readingFor, tableAfter}
+use Rattle.reader.proofs.Theorems.{read-fits}
+use Rattle.reader.proofs.Formed.{Formed, reading-formed}
+use Rattle.grammar.specs.Syntax.{Syntax, size, syntaxWidth, syntaxRecords, programTree}
+use Rattle.grammar.specs.Derivations.{Derivation, countTrees, syntaxTree, deepestFrom, WithinLimits, LongEnough}
+use Rattle.grammar.specs.TreeElements.{elementsOf}
+use Rattle.grammar.specs.Machine.{Control}
+use Rattle.grammar.proofs.TreeSizes.{count-elements, deepest-elements}
+use Rattle.grammar.proofs.Theorems.{no-program-differs, few-parts-each-marked}
+use Rattle.parser.specs.Follow.{Fate, stands, died}
+use Rattle.parser.specs.Parse.{noProgram, syntaxFull, syntaxRoom, Parsing, program, denied, fateOf, judged, fitting, parsed, parsingFor, partsOf, answerOf, treesAfter, syntaxAfter}
+use Rattle.parser.proofs.AcceptedReadings.{AcceptedReading, accepted-reading}
+use Rattle.parser.proofs.Verdicts.{Refuses, accepted-derives, refused-derives, derives-accepted, no-derivation}
+
+-- "the parser accepts exactly the texts with a derivation within the limits and tables": the trees are the reader's, with the
+-- derivation's elements, and the syntax tree is the derivation's
+pub record Accepts (text : List ℕ) (treeCells syntaxCells : ℕ) (trees : Trees) (syntax : Syntax) : Type 0 where
+  pub derivation : Derivation text
+  pub limits : WithinLimits derivation
+  pub tables : LongEnough derivation treeCells syntaxCells
+  pub reads : readingFor text treeCells ≡ accepted trees
+  pub same-elements : elementsOf trees ≡ derivation .elements
+  pub same-syntax : syntax ≡ syntaxTree derivation
+
+-- 13, after a full reading: at the first element with which the elements so far begin no program, or at the text's length; the text
+-- has no derivation
+pub record NoProgram (text : List ℕ) (treeCells place : ℕ) : Type 0 where
+  pub trees : Trees
+  pub reads : readingFor text treeCells ≡ accepted trees
+  pub first : Refuses text (elementsOf trees) place
+  pub none : Derivation text → ⊥
+
+-- 14, after a full reading: the text has a derivation, and its syntax tree has more records than the table has room for (16,385 are
+-- never too few)
+pub record SyntaxFull (text : List ℕ) (treeCells syntaxCells : ℕ) : Type 0 where
+  pub trees : Trees
+  pub reads : readingFor text treeCells ≡ accepted trees
+  pub derivation : Derivation text
+  pub same-elements : elementsOf trees ≡ derivation .elements
+  pub more : syntaxCells / syntaxWidth < size (syntaxTree derivation)
+
+-- Demand 3, of every text and all tables: what parsing answers, by derivations alone.
+pub data Verdict (text : List ℕ) (treeCells syntaxCells : ℕ) : Parsing → Type 0 where
+  as-read : {number place : ℕ} → readingFor text treeCells ≡ refused number place → Verdict text treeCells syntaxCells (denied number place)
+  no-program : {place : ℕ} → NoProgram text treeCells place → Verdict text treeCells syntaxCells (denied noProgram place)
+  syntax-full : SyntaxFull text treeCells syntaxCells → Verdict text treeCells syntaxCells (denied syntaxFull (length text))
+  accepts : {trees : Trees} {syntax : Syntax} → Accepts text treeCells syntaxCells trees syntax → Verdict text treeCells syntaxCells (program trees syntax)
+
+module _ (text : List ℕ) (treeCells syntaxCells : ℕ) where
+  -- the machine at the end of the elements of an accepted reading
+  module _ (trees : Trees) (r : readingFor text treeCells ≡ accepted trees) (control : Control) (behinds : List Control)
+      (f : fateOf (length text) trees ≡ stands control behinds) where
+    a : AcceptedReading text treeCells trees
+    a = accepted-reading text treeCells trees r
+
+    judged-program : (b : Bool) → leb (size (programTree (count trees) (partsOf trees))) (syntaxRoom syntaxCells) ≡ b
+        → Verdict text treeCells syntaxCells (cond b (program trees (programTree (count trees) (partsOf trees))) (denied syntaxFull (length text)))
+    judged-program b q =
+        let d = accepted-derives text (readLimits treeCells) trees (a .reads) control behinds f in
+        let elements : countTrees (d .0 .elements) ≡ count trees = ap countTrees (d .1) ∙ a .counted in
+        let deep : deepestFrom 0 (d .0 .elements) ≡ deepest trees = ap (deepestFrom 0) (d .1) ∙ a .deep-as in
+        let same : programTree (count trees) (partsOf trees) ≡ syntaxTree (d .0) = cc in
+        go (d .0) (d .1) elements deep same b (subst (λ (v : Syntax). leb (size v) (syntaxRoom syntaxCells) ≡ b) same q)
+      where
+        go : (d : Derivation text) → d .elements ≡ elementsOf trees → countTrees (d .elements) ≡ count trees → deepestFrom 0 (d .elements) ≡ deepest trees
+            → programTree (count trees) (partsOf trees) ≡ syntaxTree d → (b : Bool) → leb (size (syntaxTree d)) (syntaxRoom syntaxCells) ≡ b
+            → Verdict text treeCells syntaxCells (cond b (program trees (programTree (count trees) (partsOf trees))) (denied syntaxFull (length text)))
+        go d elements counted depth same true fit =
+            let few : size (syntaxTree d) ≤ syntaxRoom syntaxCells = leb-true (size (syntaxTree d)) (syntaxRoom syntaxCells) fit in
+            accepts
+            (record {
+              derivation = d;
+              limits = record { few-bytes = a .short; few-trees = omega (arith, a .room); few-parts = omega arith; shallow = omega (arith, a .groups) };
+              tables = record { trees-fit = omega (arith, a .room); parts-fit = omega arith };
+              reads = r;
+              same-elements = sym elements;
+              same-syntax = same;
+            })
+        go d elements counted depth same false full =
+            let many : syntaxRoom syntaxCells < size (syntaxTree d) = leb-false (size (syntaxTree d)) (syntaxRoom syntaxCells) full in
+            syntax-full
+            (record {
+              trees = trees;
+              reads = r;
+              derivation = d;
+              same-elements = sym elements;
+              more = omega (arith, few-parts-each-marked text d .few, a .room);
+            })
+
+  by-fate : (trees : Trees) → readingFor text treeCells ≡ accepted trees → (fate : Fate) → fateOf (length text) trees ≡ fate
+      → Verdict text treeCells syntaxCells (fitting (length text) (syntaxRoom syntaxCells) (judged trees fate))
+  by-fate trees r (stands control behinds) f =
+      judged-program trees r control behinds f (leb (size (programTree (count trees) (partsOf trees))) (syntaxRoom syntaxCells)) refl
+  by-fate trees r (died place) f =
+      let a = accepted-reading text treeCells trees r in
+      no-program
+      (record {
+        trees = trees;
+        reads = r;
+        first = refused-derives text (readLimits treeCells) trees (a .reads) place f;
+        none = no-derivation text (readLimits treeCells) trees (a .reads) place f;
+      })
+
+  by-reading : (r : Reading) → readingFor text treeCells ≡ r → Verdict text treeCells syntaxCells (parsed (length text) (syntaxRoom syntaxCells) r)
+  by-reading (accepted trees) r = by-fate trees r (fateOf (length text) trees) refl
+  by-reading (refused number place) r = as-read r
+
+  pub verdict : Verdict text treeCells syntaxCells (parsingFor text treeCells syntaxCells)
+  unfolding parsingFor
+  verdict = by-reading (readingFor text treeCells) refl
+
+-- What has a derivation within the limits and tables is accepted.
+pub accepts-all : (text : List ℕ) (treeCells syntaxCells : ℕ) (d : Derivation text) → WithinLimits d → LongEnough d treeCells syntaxCells
+    → (trees : Trees) × (parsingFor text treeCells syntaxCells ≡ program trees (syntaxTree d)) × (elementsOf trees ≡ d .elements)
+unfolding parsingFor
+accepts-all text treeCells syntaxCells d limits tables =
+    let r = no-program-differs text d in
+    let trees = r .trees in
+    let formed : Formed trees = rw (r .reads) at (reading-formed text (unlimited text)) in
+    let counted : countTrees (d .elements) ≡ count trees = ap countTrees (sym (r .same)) ∙ count-elements trees formed in
+    let depth : deepestFrom 0 (d .elements) ≡ deepest trees = ap (deepestFrom 0) (sym (r .same)) ∙ deepest-elements trees formed in
+    let reads : readingFor text treeCells ≡ accepted trees =
+    read-fits text treeCells trees (r .reads) (limits .few-bytes) (omega (arith, tables .trees-fit, limits .few-trees)) (omega (arith, limits .shallow)) in
+    let a = accepted-reading text treeCells trees reads in
+    let s = derives-accepted text (readLimits treeCells) trees (a .reads) d in
+    let same : programTree (count trees) (partsOf trees) ≡ syntaxTree d = cc in
+    let fit : leb (size (syntaxTree d)) (syntaxRoom syntaxCells) ≡ true =
+    le-leb (size (syntaxTree d)) (syntaxRoom syntaxCells) (omega (arith, tables .parts-fit, limits .few-parts)) in (
+      trees,
+      ap (parsed (length text) (syntaxRoom syntaxCells)) reads
+          ∙ ap (λ (z : Fate). fitting (length text) (syntaxRoom syntaxCells) (judged trees z)) (s .2)
+          ∙ ap (λ (v : Syntax). fitting (length text) (syntaxRoom syntaxCells) (program trees v)) same
+          ∙ ap (λ (b : Bool). cond b (program trees (syntaxTree d)) (denied syntaxFull (length text))) fit,
+      r .same,
+    )
+
+-- What the call answers and leaves, of an accepted text: the count of the derivation's syntax records, these records and then the
+-- old cells, and the tree cells that reading leaves.
+pub record Left (text trees syntax : List ℕ) (d : Derivation text) (parsing : Parsing) : Type 0 where
+  pub counts : answerOf parsing ≡ Answer.Accepted (size (syntaxTree d))
+  pub tree-cells : treesAfter parsing trees ≡ tableAfter (readingFor text (length trees)) trees
+  pub syntax-cells : syntaxAfter parsing syntax ≡ syntaxRecords (syntaxTree d) ++ drop (syntaxWidth * size (syntaxTree d)) syntax
+
+program-reads : {text : List ℕ} {treeCells syntaxCells : ℕ} {q : Parsing} → Verdict text treeCells syntaxCells q
+    → (trees : Trees) (syntax : Syntax) → q ≡ program trees syntax → readingFor text treeCells ≡ accepted trees
+program-reads (as-read r) trees syntax e = absurd (let z : _≡_ {A = ℕ} 0 1 = cc in omega arith)
+program-reads (no-program n) trees syntax e = absurd (let z : _≡_ {A = ℕ} 0 1 = cc in omega arith)
+program-reads (syntax-full f) trees syntax e = absurd (let z : _≡_ {A = ℕ} 0 1 = cc in omega arith)
+program-reads (accepts {trees = other} a) trees syntax e =
+    let same : other ≡ trees = cc in
+    a .reads ∙ ap accepted same
+
+pub accepted-left : (text trees syntax : List ℕ) (d : Derivation text) → WithinLimits d → LongEnough d (length trees) (length syntax)
+    → Left text trees syntax d (parsingFor text (length trees) (length syntax))
+accepted-left text trees syntax d limits tables =
+    let p = accepts-all text (length trees) (length syntax) d limits tables in
+    let reads = program-reads (verdict text (length trees) (length syntax)) (p .0) (syntaxTree d) (p .1) in
+    record {
+      counts = ap answerOf (p .1);
+      tree-cells = ap (λ (q : Parsing). treesAfter q trees) (p .1) ∙ ap (λ (r : Reading). tableAfter r trees) (sym reads);
+      syntax-cells = ap (λ (q : Parsing). syntaxAfter q syntax) (p .1);
+    }

@@ -1,0 +1,126 @@
+-- What the token machine says of the elements of an accepted reading: a derivation of the text, or the first element with which
+-- those so far begin no program.
+use mathlib.Core.Path.{_≡_, refl, sym, ap, subst, _∙_}
+use mathlib.Core.List.{List, [], _∷_, _++_, append-assoc, append-nil}
+use mathlib.Core.Bool.{Bool, true, false, cond}
+use Prim.Native.Nat.{ℕ, _+_}
+use native.Mathlib.Omega.{arith}
+use lib.ListN.{length}
+use Rattle.elements.specs.declared.Element.{Element}
+use Rattle.prefix.specs.Trees.{Trees, count}
+use Rattle.prefix.specs.Reading.{Limits, accepted, reading, unlimitedReading}
+use Rattle.prefix.proofs.LimitLaws.{accepted-unlimited}
+use Rattle.grammar.specs.Cuts.{isCloser}
+use Rattle.grammar.specs.Tokens.{Token, token, Spot, classOf, tokenOf, tokensFrom, tokens}
+use Rattle.grammar.specs.Syntax.{Syntax, nil}
+use Rattle.grammar.specs.Grammar.{body, Program}
+use Rattle.grammar.specs.Derivations.{Derivation, BeginsProgram}
+use Rattle.grammar.specs.TreeElements.{elementsOf}
+use Rattle.grammar.specs.Machine.{endOfText, State, dead, live, Control, finished, Frame, frame, empty, Held, doneOf, statementDue, take, run, start}
+use Rattle.grammar.proofs.Complete.{complete, complete-to-end, run-append}
+use Rattle.grammar.proofs.Sound.{sound-to-end}
+use Rattle.grammar.proofs.Viable.{refused-at-end}
+use Rattle.grammar.proofs.ReadCuts.{reading-cuts}
+use Rattle.grammar.proofs.Begins.{begins, still-going}
+use Rattle.grammar.proofs.Theorems.{no-program-differs, first-refused}
+use Rattle.parser.specs.Follow.{Fate, stands, died, follow, behindsOf}
+use Rattle.parser.specs.Parse.{endSpot, endToken, fateOf, partsBy, partsOf}
+use Rattle.parser.proofs.FollowLaws.{run-followed, Tied, tied-live, tied-dead, StandsAt, tied-stands, tied-died, DiesAt, died-there}
+
+-- a token among those of elements and one behind them: that of an element, with the elements before it, or the last
+data Where (mark : ℕ) (es : List Element) (end : Token) (before : List Token) (class : ℕ) (spot : Spot) : Type 0 where
+  at-element : (firsts : List Element) (e : Element) (rest : List Element) → es ≡ firsts ++ (e ∷ rest) → before ≡ tokensFrom mark firsts
+      → before ++ (token class spot ∷ []) ≡ tokensFrom mark (firsts ++ (e ∷ [])) → spot .first ≡ e .first → Where mark es end before class spot
+  at-end : before ≡ tokensFrom mark es → token class spot ≡ end → Where mark es end before class spot
+
+abbrev firstOf : Token → ℕ
+firstOf (token class spot) = spot .first
+
+find : (mark : ℕ) (es : List Element) (end : Token) (before : List Token) (class : ℕ) (spot : Spot) (after : List Token)
+    → tokensFrom mark es ++ (end ∷ []) ≡ before ++ (token class spot ∷ after) → Where mark es end before class spot
+unfolding tokensFrom
+find mark [] end [] class spot after q = at-end refl (cc)
+find mark [] end (x ∷ []) class spot after q = absurd (let z : _≡_ {A = ℕ} 0 1 = cc in omega arith)
+find mark [] end (x ∷ (y ∷ before)) class spot after q = absurd (let z : _≡_ {A = ℕ} 0 1 = cc in omega arith)
+find mark (e ∷ es) end [] class spot after q =
+    let t : tokenOf mark e ≡ token class spot = cc in
+    at-element [] e es refl refl (ap (λ (x : Token). x ∷ []) (sym t)) (sym (ap firstOf t))
+find mark (e ∷ es) end (x ∷ before) class spot after q =
+    go (find (cond (isCloser e) mark (mark + 1)) es end before class spot after (cc))
+  where
+    go : Where (cond (isCloser e) mark (mark + 1)) es end before class spot → Where mark (e ∷ es) end (x ∷ before) class spot
+    go (at-element firsts f rest all are one place) =
+        let t : x ≡ tokenOf mark e = cc in
+        at-element (e ∷ firsts) f rest (ap (_∷_ e) all) (cc) (cc) place
+    go (at-end are last) =
+        let t : x ≡ tokenOf mark e = cc in
+        at-end (cc) last
+
+-- why the elements of a text are no program: one of them begins none with those before it; or all of them begin one, that goes on
+-- behind the text's end
+pub data Refuses (text : List ℕ) (es : List Element) : ℕ → Type 0 where
+  at-element : (firsts : List Element) (e : Element) (rest : List Element) → es ≡ firsts ++ (e ∷ rest)
+      → BeginsProgram text firsts → (BeginsProgram text (firsts ++ (e ∷ [])) → ⊥) → Refuses text es (e .first)
+  at-end : BeginsProgram text es → Refuses text es (length text)
+
+pub tied-finished : {fate : Fate} {f : Frame} → Tied fate (live finished f []) → fate ≡ stands finished []
+tied-finished tied-live = refl
+
+module _ (text : List ℕ) (limits : Limits) (trees : Trees) (a : reading text limits ≡ accepted trees) where
+  abbrev es : List Element
+  es = elementsOf trees
+
+  abbrev all : List Token
+  all = tokens es ++ (endToken (length text) ∷ [])
+
+  -- where the machine stands at the end, the text has a derivation, and the machine has built its parts
+  pub accepted-derives : (control : Control) (behinds : List Control) → fateOf (length text) trees ≡ stands control behinds
+      → (d : Derivation text) × (d .elements ≡ es) × (d .parts ≡ partsOf trees)
+  unfolding fateOf
+  accepted-derives control behinds e =
+      let tied : Tied (stands control behinds) (run start all) = rw e at (run-followed (statementDue false body) empty [] all) in
+      let s = tied-stands tied in
+      let ended = sound-to-end (tokens es) (endSpot (length text)) control (s .f) (s .around) (s .is) in
+      let cuts = reading-cuts text limits trees a in (
+        record { choice = cuts .choice; elements = es; cut = cuts .cut; parts = doneOf (s .f); steps = ended .program },
+        refl,
+        sym (ap partsBy (complete (ended .program))),
+      )
+
+  -- where it dies, the elements so far begin no program
+  pub refused-derives : (place : ℕ) → fateOf (length text) trees ≡ died place → Refuses text es place
+  unfolding fateOf
+  refused-derives place e = go (died-there all (statementDue false body) empty [] place e)
+    where
+      go : DiesAt start all place → Refuses text es place
+      go d = by (find 0 es (endToken (length text)) (d .before) (d .class) (d .spot) (d .after) (d .split))
+        where
+          by : Where 0 es (endToken (length text)) (d .before) (d .class) (d .spot) → Refuses text es place
+          by (at-element firsts f rest split are one here) =
+              let alive : run start (tokens firsts) ≡ live (d .control) (d .f) (d .around) = rw are at (d .alive) in
+              let stops : run start (tokens (firsts ++ (f ∷ []))) ≡ dead =
+              ap (run start) (sym one) ∙ run-append (d .before) (token (d .class) (d .spot) ∷ []) start ∙ ap (λ (z : State). take z (token (d .class) (d .spot))) (d .alive) ∙ d .dies in
+              let r = first-refused text limits trees a firsts rest f split (d .control) (d .f) (d .around) alive stops in
+              subst (λ (n : ℕ). Refuses text es n) (sym here ∙ d .here) (at-element firsts f rest split (r .0) (r .1))
+          by (at-end are last) =
+              let alive : run start (tokens es) ≡ live (d .control) (d .f) (d .around) = rw are at (d .alive) in
+              let b = begins text es es [] (reading-cuts text limits trees a) (sym (append-nil es)) (d .control) (d .f) (d .around) alive (still-going es (d .control) (d .f) (d .around) alive) in
+              subst (λ (n : ℕ). Refuses text es n) (sym (ap firstOf last) ∙ d .here) (at-end b)
+
+  -- a derivation's elements are those of the reading, and the machine takes them to the end
+  pub derives-accepted : (d : Derivation text) → (elementsOf trees ≡ d .elements) × (d .parts ≡ partsOf trees) × (fateOf (length text) trees ≡ stands finished [])
+  unfolding fateOf
+  derives-accepted d =
+      let r = no-program-differs text d in
+      let same-trees : trees ≡ r .trees = cc (accepted-unlimited text limits trees a) in
+      let same : es ≡ d .elements = ap elementsOf same-trees ∙ r .same in
+      let steps : Program (tokens es) (d .parts) = subst (λ (fs : List Element). Program (tokens fs) (d .parts)) (sym same) (d .steps) in
+      let tied : Tied (follow (statementDue false body) [] all) (live finished (frame (d .parts) [] [] nil) []) =
+      rw (complete-to-end (endSpot (length text)) steps) at (run-followed (statementDue false body) empty [] all) in
+      (same, sym (ap partsBy (complete steps)), tied-finished tied)
+
+  pub no-derivation : (place : ℕ) → fateOf (length text) trees ≡ died place → Derivation text → ⊥
+  no-derivation place e d =
+      let s = derives-accepted d .2 in
+      let z : _≡_ {A = ℕ} 0 1 = cc in
+      omega arith

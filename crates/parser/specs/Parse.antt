@@ -1,0 +1,88 @@
+-- What `parse` answers, and what it leaves in the two lent tables.
+use Prim.Native.Nat.{ℕ, _*_, _/_, min}
+use mathlib.Core.Bool.{false, cond}
+use mathlib.Core.List.{List, [], _∷_, _++_}
+use lib.Dec.{leb}
+use lib.ListN.{length, drop, replicate}
+use Rattle.elements.specs.declared.Answer.{Answer}
+use Rattle.prefix.specs.Trees.{Trees, count}
+use Rattle.prefix.specs.Reading.{Reading, accepted, refused}
+use Rattle.reader.specs.Read.{readingFor, tableAfter}
+use Rattle.grammar.specs.Tokens.{Token, token, Spot, tokens}
+use Rattle.grammar.specs.Syntax.{Syntax, nil, size, syntaxWidth, mostSyntax, syntaxRecords, programTree}
+use Rattle.grammar.specs.Grammar.{body}
+use Rattle.grammar.specs.TreeElements.{elementsOf}
+use Rattle.grammar.specs.Machine.{endOfText, State, dead, live, doneOf, statementDue, run, start}
+use Rattle.parser.specs.Follow.{Fate, stands, died, follow}
+
+-- Document 01, Refused texts, row 13, no program: "first element with which the elements so far begin no program (limits aside);
+-- text length if none"
+abbrev pub noProgram : ℕ
+noProgram = 13
+
+-- row 14, syntax full: "parsing; more records than fit"; place: text length
+abbrev pub syntaxFull : ℕ
+syntaxFull = 14
+
+-- the syntax records that a table of so many numbers has room for
+abbrev pub syntaxRoom : ℕ → ℕ
+syntaxRoom cells = min (cells / syntaxWidth) mostSyntax
+
+-- the trees and the syntax tree of a text, or a refusal's number and place
+pub data Parsing : Type 0 where
+  program : Trees → Syntax → Parsing
+  denied : ℕ → ℕ → Parsing
+
+-- the end of a text of that length, as a token
+abbrev pub endSpot : ℕ → Spot
+endSpot end = record { line = false; mark = 0; first = end }
+
+abbrev pub endToken : ℕ → Token
+endToken end = token endOfText (endSpot end)
+
+-- the parts that the token machine has built of the elements of trees
+abbrev pub partsBy : State → Syntax
+partsBy dead = nil
+partsBy (live control f around) = doneOf f
+
+abbrev pub partsOf : Trees → Syntax
+partsOf trees = partsBy (run start (tokens (elementsOf trees)))
+
+-- where the token machine is behind the elements of trees and the text's end
+unfoldable pub fateOf : ℕ → Trees → Fate
+fateOf end trees = follow (statementDue false body) [] (tokens (elementsOf trees) ++ (endToken end ∷ []))
+
+-- what the machine follows to the end is a program, with the syntax tree that it has built; else the place where it stops
+-- answers. It takes what has a derivation, and nothing else, and it stops at the first element with which those so far begin no
+-- program (proofs/Theorems.antt).
+abbrev pub judged : Trees → Fate → Parsing
+judged trees (stands control behinds) = program trees (programTree (count trees) (partsOf trees))
+judged trees (died place) = denied noProgram place
+
+-- "13 before 14"
+abbrev pub fitting : ℕ → ℕ → Parsing → Parsing
+fitting end room (program trees syntax) = cond (leb (size syntax) room) (program trees syntax) (denied syntaxFull end)
+fitting end room (denied number place) = denied number place
+
+-- "13 to 15 follow a full reading"
+abbrev pub parsed : ℕ → ℕ → Reading → Parsing
+parsed end room (accepted trees) = fitting end room (judged trees (fateOf end trees))
+parsed end room (refused number place) = denied number place
+
+-- the parsing of a text with tables of so many numbers, for trees and for syntax
+unfoldable pub parsingFor : List ℕ → ℕ → ℕ → Parsing
+parsingFor text treeCells syntaxCells = parsed (length text) (syntaxRoom syntaxCells) (readingFor text treeCells)
+
+-- "The count is of .. syntax records"
+abbrev pub answerOf : Parsing → Answer
+answerOf (program trees syntax) = Answer.Accepted (size syntax)
+answerOf (denied number place) = Answer.Refused number place
+
+-- "On acceptance, cells past the last record are unchanged." "A refusal zeroes every cell of each lent table"
+abbrev pub treesAfter : Parsing → List ℕ → List ℕ
+treesAfter (program trees syntax) table = tableAfter (accepted trees) table
+treesAfter (denied number place) table = replicate (length table) 0
+
+abbrev pub syntaxAfter : Parsing → List ℕ → List ℕ
+syntaxAfter (program trees syntax) table = syntaxRecords syntax ++ drop (syntaxWidth * size syntax) table
+syntaxAfter (denied number place) table = replicate (length table) 0

@@ -1,0 +1,144 @@
+-- What a parser's answer says: where it goes on, there is a derivation of what it has passed, whose records are written; where it
+-- does not, the token machine dies at that place, whatever stands around. Machinery.
+use Prim.Native.Nat.{ℕ, _+_, _/_, _≤_, _<_, max}
+use mathlib.Core.Path.{_≡_}
+use mathlib.Core.Bool.{Bool, true, false, _&&_, _||_}
+use mathlib.Core.List.{List, [], _∷_, _++_}
+use lib.Dec.{T, eqb}
+use lib.ListN.{length}
+use Rattle.elements.specs.declared.Answer.{Answer}
+use Rattle.grammar.specs.Tokens.{Token, token, Spot, name, assign, colon, dot, openParen, closeParen, openBrace, closeBrace, returnWord, functionWord, ifWord}
+use Rattle.grammar.specs.Syntax.{Syntax, size, syntaxWidth, programTree}
+use Rattle.grammar.specs.Grammar.{Scope, body, block, precedence, Form, chainForm, binaryForm, assignForm, functionForm, statementForm, statementsForm, Derives, Program}
+use Rattle.grammar.specs.Machine.{endOfText, Ending, byParen, Role, Control, operandDue, operandDone, functionFirst, statementDue}
+use Rattle.parser.specs.Parts.{Part, inside, countOf, sizeAt, classAt, closerSpot, tokensAt}
+use Rattle.parser.specs.Follow.{Fate, died, follow, mayAssign}
+use Rattle.parser.specs.Written.{putSyntax}
+use Rattle.parser.specs.declared.Parsed.{Parsed}
+use Rattle.parser.specs.declared.Parsed.the-variants.{Done, Bad}
+
+-- what follows a part: its closer, or the end of the text
+abbrev pub isEnd : ℕ → Bool
+isEnd class = eqb class closeParen || (eqb class closeBrace || eqb class endOfText)
+
+pub data Closes (p : Part) : List Token → Type 0 where
+  closes : {class : ℕ} {spot : Spot} {rest : List Token} → T (isEnd class) → spot .first ≡ p .close → Closes p (token class spot ∷ rest)
+
+-- from a control at a record the machine dies at a place
+abbrev pub Dies : Part → ℕ → Control → ℕ → Type 0
+Dies p i control place = (behinds : List Control) (u : List Token) → Closes p u → follow control behinds (tokensAt p i ++ u) ≡ died place
+
+-- no part of that form can start at a record: in each place where one is due the machine dies
+abbrev pub Fails : Form → Part → ℕ → ℕ → Type 0
+Fails chainForm p i place = (ending : Ending) (target : Bool) → Dies p i (operandDue ending target) place
+Fails (binaryForm least) p i place = (ending : Ending) (target : Bool) → Dies p i (operandDue ending target) place
+Fails assignForm p i place = (ending : Ending) → Dies p i (operandDue ending true) place
+Fails functionForm p i place = (role : Role) → Dies p i (functionFirst role) place
+Fails statementForm p i place = (scope : Scope) → Dies p i (statementDue true scope) place
+Fails (statementsForm scope) p i place = Dies p i (statementDue false scope) place
+
+-- what is known of the record behind a part, and of the part's syntax
+abbrev pub Anything : Part → ℕ → Syntax → Type 0
+Anything p j v = Unit {0}
+
+-- behind a Chain: no call and no member
+pub record Uncalled (p : Part) (j : ℕ) (v : Syntax) : Type 0 where
+  pub no-dot : classAt (p .text) (p .cells) j ≡ dot → ⊥
+  pub no-parens : classAt (p .text) (p .cells) j ≡ openParen → ⊥
+
+-- behind operators of at least a precedence: no other, and `=` only where the machine does not take it. Where an operand stands
+-- on the right of an operator it may not be assigned to, whatever it is.
+pub record EndedIn (target : Bool) (least : ℕ) (p : Part) (j : ℕ) (v : Syntax) : Type 0 where
+  pub uncalled : Uncalled p j v
+  pub looser : precedence (classAt (p .text) (p .cells) j) < least
+  pub unassigned : classAt (p .text) (p .cells) j ≡ assign → target && mayAssign v ≡ false
+
+abbrev pub Ended : ℕ → Part → ℕ → Syntax → Type 0
+Ended least p j v = EndedIn true least p j v
+
+-- behind statements: the part's end
+abbrev pub AtEnd : Part → ℕ → Syntax → Type 0
+AtEnd p j v = countOf (p .cells) ≤ j
+
+-- a part that was parsed from record i to record j: the records of its syntax are written from `start` on
+pub record Success (form : Form) (Past : Part → ℕ → Syntax → Type 0) (p : Part) (i start : ℕ) (table : List ℕ) (j n : ℕ) (after : List ℕ) : Type 0 where
+  pub syntax : Syntax
+  pub count-is : n ≡ start + size syntax
+  pub cells-are : after ≡ putSyntax table start syntax
+  pub derives : (u : List Token) → Derives form (tokensAt p i ++ u) (tokensAt p j ++ u) syntax
+  pub past : Past p j syntax
+  pub within : j ≤ countOf (p .cells)
+  pub few : i + size syntax ≤ j
+
+pub data Says (form : Form) (Past : Part → ℕ → Syntax → Type 0) (p : Part) (i start : ℕ) (table : List ℕ) : Parsed → List ℕ → Type 0 where
+  says-done : {j n : ℕ} {after : List ℕ} → Success form Past p i start table j n after → Says form Past p i start table (Done j n) after
+  says-bad : {place : ℕ} {after : List ℕ} → Fails form p i place → Says form Past p i start table (Bad place) after
+
+-- the same behind an operand with the syntax v, whose records are those from `start` on: calls and members, or operators, from
+-- record i on
+pub record Extended (left form : Form) (Past : Part → ℕ → Syntax → Type 0) (p : Part) (i start : ℕ) (table : List ℕ) (v : Syntax) (j n : ℕ) (after : List ℕ) : Type 0 where
+  pub syntax : Syntax
+  pub count-is : n ≡ start + size syntax
+  pub cells-are : after ≡ putSyntax table start syntax
+  pub derives : (before u : List Token) → Derives left before (tokensAt p i ++ u) v → Derives form before (tokensAt p j ++ u) syntax
+  pub past : Past p j syntax
+  pub further : i ≤ j
+  pub within : j ≤ countOf (p .cells)
+  pub few : i + size syntax ≤ j + size v
+
+pub data Extends (left form : Form) (Past : Part → ℕ → Syntax → Type 0) (p : Part) (i start : ℕ) (table : List ℕ) (v : Syntax) : Parsed → List ℕ → Type 0 where
+  extends-done : {j n : ℕ} {after : List ℕ} → Extended left form Past p i start table v j n after → Extends left form Past p i start table v (Done j n) after
+  extends-bad : {place : ℕ} {after : List ℕ} → ((ending : Ending) (target : Bool) → Dies p i (operandDone ending target) place)
+      → Extends left form Past p i start table v (Bad place) after
+
+-- an operand before operators of at least a precedence: it binds at least as tight as they and as the next one
+abbrev pub operandForm : ℕ → Part → ℕ → Form
+operandForm least p i = binaryForm (max least (precedence (classAt (p .text) (p .cells) i)))
+
+-- the inside of group i, whole: the form that it is, up to the closer of that class
+pub record Filled (form : Form) (class : ℕ) (p : Part) (i start : ℕ) (table : List ℕ) (j n : ℕ) (after : List ℕ) : Type 0 where
+  pub syntax : Syntax
+  pub count-is : n ≡ start + size syntax
+  pub cells-are : after ≡ putSyntax table start syntax
+  pub derives : (u : List Token)
+      → Derives form (tokensAt (inside p i) 0 ++ (token class (closerSpot p i) ∷ u)) (token class (closerSpot p i) ∷ u) syntax
+  pub next : j ≡ i + sizeAt (p .cells) i
+  pub few : i + 1 + size syntax ≤ j
+
+pub data Fills (form : Form) (class : ℕ) (control : Control) (p : Part) (i start : ℕ) (table : List ℕ) : Parsed → List ℕ → Type 0 where
+  fills-done : {j n : ℕ} {after : List ℕ} → Filled form class p i start table j n after → Fills form class control p i start table (Done j n) after
+  fills-bad : {place : ℕ} {after : List ℕ}
+      → ((behinds : List Control) (u : List Token) → follow control behinds (tokensAt (inside p i) 0 ++ (token class (closerSpot p i) ∷ u)) ≡ died place)
+      → Fills form class control p i start table (Bad place) after
+
+-- an expression statement may start at a record: no other statement does
+pub record StartsExpression (p : Part) (i : ℕ) : Type 0 where
+  pub no-brace : classAt (p .text) (p .cells) i ≡ openBrace → ⊥
+  pub no-if : classAt (p .text) (p .cells) i ≡ ifWord → ⊥
+  pub no-return : classAt (p .text) (p .cells) i ≡ returnWord → ⊥
+  pub no-function : classAt (p .text) (p .cells) i ≡ functionWord → ⊥
+  pub no-label : classAt (p .text) (p .cells) i ≡ name → classAt (p .text) (p .cells) (i + 1) ≡ colon → ⊥
+
+-- the scope of statements, by whether declarations are allowed
+abbrev pub scopeOf : Bool → Scope
+scopeOf true = body
+scopeOf false = block
+
+-- one statement or declaration more, behind those from the part's start to record i, whose records are those up to `count`
+pub data Adds (scope : Scope) (p : Part) (i count : ℕ) (middle : List ℕ) : Parsed → List ℕ → Type 0 where
+  adds-one : {j n : ℕ} {after : List ℕ} → i < j
+      → ((start : ℕ) (table : List ℕ) → Success (statementsForm scope) Anything p 0 start table i count middle
+      → Success (statementsForm scope) Anything p 0 start table j n after)
+      → Adds scope p i count middle (Done j n) after
+  adds-none : {place : ℕ} {after : List ℕ}
+      → ((start : ℕ) (table : List ℕ) → Success (statementsForm scope) Anything p 0 start table i count middle → Fails (statementsForm scope) p 0 place)
+      → Adds scope p i count middle (Bad place) after
+
+-- the whole table: no program, at a place; more records than the syntax table has room for; or its syntax tree, written, with the
+-- program's own record behind all others
+pub data Judged (p : Part) (table : List ℕ) : Answer → List ℕ → Type 0 where
+  judged-bad : {place : ℕ} {after : List ℕ} → Fails (statementsForm body) p 0 place → Judged p table (Answer.Refused 13 place) after
+  judged-full : {after : List ℕ} (syntax : Syntax) → Program (tokensAt p 0) syntax
+      → length table / syntaxWidth < size (programTree (countOf (p .cells)) syntax) → Judged p table (Answer.Refused 14 (p .close)) after
+  judged-program : {n : ℕ} {after : List ℕ} (syntax : Syntax) → Program (tokensAt p 0) syntax → n ≡ size (programTree (countOf (p .cells)) syntax)
+      → n ≤ length table / syntaxWidth → after ≡ putSyntax table 0 (programTree (countOf (p .cells)) syntax) → Judged p table (Answer.Accepted n) after
