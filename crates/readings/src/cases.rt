@@ -1,4 +1,5 @@
-// The cases, one to a line: the number of cells that the table has, a blank, and the text up to the line end.
+// The cases, one to a line: the number of cells that the table has, a blank, and the text up to the line end. Where the text is
+// to be respaced, `>` stands first, and the number is of the bytes that the output has.
 ghost use Prim.Native.Nat.{_≤_, _<_};
 ghost use lib.ListN.{length};
 use crate::number;
@@ -7,9 +8,10 @@ use crate::spelling;
 use crate::spelling::MOST;
 use crate::spelling::Size;
 
-// The cells of the table and the size of the text.
+// How much of the table or the output is lent, and the size of the text.
 pub enum Case {
     Read(usize, usize),
+    Respace(usize, usize),
     Bad,
 }
 
@@ -27,17 +29,31 @@ pub fn line_end(input: &[u8], at: usize) -> usize
 
 // The case of a line, its text at the start of `text`.
 pub fn case_of(line: &[u8], text: &mut [u8; MOST]) -> Case {
-    let cells = number::number_at(line, 0);
-    match cells {
-        Number::Of(lent, at) => case_with(lent, line, at, text),
+    let from = start(line);
+    let number = number::number_at(line, from);
+    match number {
+        Number::Of(lent, at) => case_with(from, lent, spelling::text_of(line, at, text)),
         Number::Bad => Case::Bad,
     }
 }
 
-fn case_with(lent: usize, line: &[u8], at: usize, text: &mut [u8; MOST]) -> Case {
-    let size = spelling::text_of(line, at, text);
+// Where the number starts: behind a `>`.
+fn start(line: &[u8]) -> usize {
+    if line.len() == 0 {
+        return 0;
+    }
+    if line[0] == b'>' { 1 } else { 0 }
+}
+
+fn case_with(from: usize, lent: usize, size: Size) -> Case {
     match size {
-        Size::Bytes(n) => Case::Read(lent, n),
+        Size::Bytes(n) => {
+            if from == 0 {
+                Case::Read(lent, n)
+            } else {
+                Case::Respace(lent, n)
+            }
+        }
         Size::Bad => Case::Bad,
     }
 }

@@ -1,7 +1,8 @@
-// Prints how `reader::read` reads the texts that standard input gives, one case to a line, for comparison with the stored
-// answers. `cases.rt` and `spelling.rt` say what a line holds, `print.rt` what is printed.
+// Prints how `reader::read` reads, and `respacer::respace` respaces, the texts that standard input gives, one case to a line,
+// for comparison with the stored answers. `cases.rt` and `spelling.rt` say what a line holds, `print.rt` what is printed.
 mod cases;
 mod number;
+mod outputs;
 mod print;
 mod spelling;
 mod table;
@@ -9,6 +10,7 @@ mod table;
 use cases::Case;
 use elements::Answer;
 use libc::STDIN_FILENO;
+use outputs::BYTES;
 use spelling::MOST;
 use table::CELLS;
 
@@ -36,36 +38,63 @@ fn answer(line: &[u8], text: &mut [u8; MOST], cells: &mut [u32]) {
     }
     if line[0] == b'#' {
         print::heading(line);
-        return;
+    } else {
+        answer_case(line, text, cells);
     }
+}
+
+fn answer_case(line: &[u8], text: &mut [u8; MOST], cells: &mut [u32]) {
     let case = cases::case_of(line, text);
     match case {
-        Case::Read(lent, size) => lend(text, size, cells, lent),
+        Case::Read(lent, size) => read(part(text, size), cells, lent),
+        Case::Respace(lent, size) => respace(part(text, size), lent),
         Case::Bad => print::bad_case(),
     }
 }
 
+fn part(text: &[u8; MOST], size: usize) -> &[u8] {
+    let all: &[u8] = text;
+    if size <= all.len() {
+        return &all[0..size];
+    }
+    all
+}
+
 // The table is the first `lent` cells.
-fn lend(text: &[u8; MOST], size: usize, cells: &mut [u32], lent: usize) {
+fn read(text: &[u8], cells: &mut [u32], lent: usize) {
     if lent <= cells.len() {
-        read(text, size, &mut cells[0..lent]);
+        read_to(text, &mut cells[0..lent]);
     } else {
         print::bad_case();
     }
 }
 
-fn read(text: &[u8; MOST], size: usize, trees: &mut [u32]) {
-    let all: &[u8] = text;
-    if size <= all.len() {
-        table::mark_all(trees);
-        let answer = reader::read(&all[0..size], trees);
-        report(answer, trees);
+fn read_to(text: &[u8], trees: &mut [u32]) {
+    table::mark_all(trees);
+    let answer = reader::read(text, trees);
+    match answer {
+        Answer::Accepted(count) => print::accepted(trees, count),
+        Answer::Refused(number, place) => print::refused(number, place, table::all_zero(trees)),
     }
 }
 
-fn report(answer: Answer, trees: &[u32]) {
+fn respace(text: &[u8], lent: usize) {
+    let mut array = [0u8; BYTES];
+    respace_to(text, &mut array, lent);
+}
+
+// The output is the first `lent` bytes of the array.
+fn respace_to(text: &[u8], array: &mut [u8], lent: usize) {
+    if lent > array.len() {
+        print::bad_case();
+        return;
+    }
+    outputs::mark_all(array);
+    let answer = respacer::respace(text, &mut array[0..lent]);
     match answer {
-        Answer::Accepted(count) => print::accepted(trees, count),
-        Answer::Refused(number, place) => print::refused(trees, number, place),
+        Answer::Accepted(count) => print::respaced(array, count),
+        Answer::Refused(number, place) => {
+            print::refused(number, place, outputs::is_right(array, lent, lent))
+        }
     }
 }

@@ -46,6 +46,10 @@ fn wide(b: u8) -> usize
     b as usize
 }
 
+pub fn digit_at(line: &[u8], at: usize) -> u8 {
+    if at < line.len() { digit(line[at]) } else { 16 }
+}
+
 // The value of a hexadecimal digit, 16 for any other byte.
 pub fn digit(b: u8) -> u8 {
     match b {

@@ -11,12 +11,11 @@ pub enum Size {
     Bad,
 }
 
-// The place in the line, the size of the text so far, and where the open piece starts, if one is open, with its number of
-// copies.
+// The place in the line, the size of the text so far, and where the open piece starts, with its number of copies; 0 where none
+// is open.
 struct Spelling {
     at: usize,
     size: usize,
-    open: bool,
     start: usize,
     times: usize,
 }
@@ -31,7 +30,6 @@ pub fn text_of(line: &[u8], from: usize, text: &mut [u8; MOST]) -> Size {
     let mut s = Spelling {
         at: from,
         size: 0,
-        open: false,
         start: 0,
         times: 0,
     };
@@ -44,10 +42,10 @@ pub fn text_of(line: &[u8], from: usize, text: &mut [u8; MOST]) -> Size {
         }
         turns -= 1;
     }
-    if s.open {
-        Size::Bad
-    } else {
+    if s.times == 0 {
         Size::Bytes(s.size)
+    } else {
+        Size::Bad
     }
 }
 
@@ -56,36 +54,40 @@ fn step(line: &[u8], text: &mut [u8; MOST], s: Spelling) -> Stepped {
     if at >= line.len() {
         return Stepped::Bad;
     }
-    if line[at] != b'~' {
-        return put(text, s, line[at], at + 1);
+    if line[at] == b'~' {
+        spelled(line, text, s, at + 1)
+    } else {
+        put(text, s, line[at], at + 1)
     }
-    if line.len() - at < 2 {
+}
+
+// What stands behind a `~`.
+fn spelled(line: &[u8], text: &mut [u8; MOST], s: Spelling, at: usize) -> Stepped {
+    if at >= line.len() {
         return Stepped::Bad;
     }
-    match line[at + 1] {
-        b'<' => open(line, s, at + 2),
-        b'>' => close(text, s, at + 2),
-        _ => put_digits(line, text, s, at + 1),
+    match line[at] {
+        b'<' => open(line, s, at + 1),
+        b'>' => close(text, s, at + 1),
+        b => put_digits(
+            text,
+            s,
+            number::digit(b),
+            number::digit_at(line, at + 1),
+            at + 2,
+        ),
     }
 }
 
 // The byte of two hexadecimal digits.
-fn put_digits(line: &[u8], text: &mut [u8; MOST], s: Spelling, at: usize) -> Stepped {
-    if line.len() < 2 {
-        return Stepped::Bad;
-    }
-    if at > line.len() - 2 {
-        return Stepped::Bad;
-    }
-    let high = number::digit(line[at]);
-    let low = number::digit(line[at + 1]);
+fn put_digits(text: &mut [u8; MOST], s: Spelling, high: u8, low: u8, next: usize) -> Stepped {
     if high > 15 {
         return Stepped::Bad;
     }
     if low > 15 {
         return Stepped::Bad;
     }
-    put(text, s, high * 16 + low, at + 2)
+    put(text, s, high * 16 + low, next)
 }
 
 fn put(text: &mut [u8; MOST], s: Spelling, byte: u8, next: usize) -> Stepped {
@@ -95,7 +97,6 @@ fn put(text: &mut [u8; MOST], s: Spelling, byte: u8, next: usize) -> Stepped {
         Stepped::On(Spelling {
             at: next,
             size: size + 1,
-            open: s.open,
             start: s.start,
             times: s.times,
         })
@@ -105,27 +106,31 @@ fn put(text: &mut [u8; MOST], s: Spelling, byte: u8, next: usize) -> Stepped {
 }
 
 fn open(line: &[u8], s: Spelling, at: usize) -> Stepped {
-    if s.open {
+    if s.times != 0 {
         return Stepped::Bad;
     }
     let times = number::number_at(line, at);
     match times {
-        Number::Of(n, next) => Stepped::On(Spelling {
-            at: next,
-            size: s.size,
-            open: true,
-            start: s.size,
-            times: n,
-        }),
+        Number::Of(n, next) => opened(s.size, n, next),
         Number::Bad => Stepped::Bad,
     }
 }
 
-// The piece stands there once. It has to be copied once at least, and there has to be room.
-fn close(text: &mut [u8; MOST], s: Spelling, next: usize) -> Stepped {
-    if !s.open {
+// A piece has to stand there once at least.
+fn opened(size: usize, times: usize, next: usize) -> Stepped {
+    if times == 0 {
         return Stepped::Bad;
     }
+    Stepped::On(Spelling {
+        at: next,
+        size,
+        start: size,
+        times,
+    })
+}
+
+// The piece stands there once, and there has to be room for its copies.
+fn close(text: &mut [u8; MOST], s: Spelling, next: usize) -> Stepped {
     if s.times == 0 {
         return Stepped::Bad;
     }
@@ -134,7 +139,6 @@ fn close(text: &mut [u8; MOST], s: Spelling, next: usize) -> Stepped {
         Size::Bytes(n) => Stepped::On(Spelling {
             at: next,
             size: n,
-            open: false,
             start: 0,
             times: 0,
         }),

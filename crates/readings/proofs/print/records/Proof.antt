@@ -1,23 +1,30 @@
--- `print::records` is safe and ends. The measure is the number of records left to print.
+-- `print::records` is safe and ends. The measure is what is left of the table; nothing has to hold from turn to turn.
 use borrow.Author.Needs.{needs}
-use Prim.Native.Nat.{_≤_, _-_}
+use Prim.Native.Nat.{_-_}
+use lib.ListN.{length}
 use Rattle.readings.proofs.print.records.Statement.{statement}
 use Rattle.readings.proofs.print.records.Tie as tie
 
 abbrev Inv-loop : tie.InvT-loop
-Inv-loop trees count i₀ i = i ≤ count
+Inv-loop trees from end at₀ at = Unit {0}
 
 abbrev μ-loop : tie.MeasureT-loop
-μ-loop trees count i₀ i = count - i
+μ-loop trees from end at₀ at = length trees - at
 
 loop-holds : tie.Need-loop-holds Inv-loop μ-loop
 loop-holds c = search needs
 
-record-requires : tie.Need-record-requires Inv-loop μ-loop
-record-requires c κs = search needs
+mul-cell : tie.Need-mul-cell Inv-loop μ-loop
+mul-cell c = search needs
 
-add-i : tie.Need-add-i Inv-loop μ-loop
-add-i c = search needs
+shared-slice-read-cell : tie.Need-shared-slice-read-cell Inv-loop μ-loop
+shared-slice-read-cell c = search needs
+
+cell-requires : tie.Need-cell-requires Inv-loop μ-loop
+cell-requires c κs = search needs
+
+add-at : tie.Need-add-at Inv-loop μ-loop
+add-at c = search needs
 
 loop-less : tie.Need-loop-less Inv-loop μ-loop
 loop-less c = search needs
@@ -28,7 +35,21 @@ loop-again c = search needs
 returns : tie.Need-returns Inv-loop μ-loop
 returns c = search needs
 
+returns-2 : tie.Need-returns-2 Inv-loop μ-loop
+returns-2 c = search needs
+
 pub records-spec : {M : Type 1} → statement M
 records-spec =
     tie.close
-    (tie.spec Inv-loop μ-loop loop-holds record-requires add-i loop-less loop-again returns)
+    (tie.spec
+    Inv-loop
+    μ-loop
+    loop-holds
+    mul-cell
+    shared-slice-read-cell
+    cell-requires
+    add-at
+    loop-less
+    loop-again
+    returns
+    returns-2)
