@@ -23,8 +23,8 @@ pub data Part : Type 0 where
 
 -- what a call gives: records or bytes, or a refusal's number and place
 pub data Given : Type 0 where
-  trees : List Tree → Given
-  parts : List Part → Given
+  hasTrees : List Tree → Given
+  hasParts : List Part → Given
   writes : String → Given
   gets : ℕ → ℕ → Given
 
@@ -41,8 +41,8 @@ partCells (part kind mark number ∷ rest) = kind ∷ mark ∷ number ∷ partCe
 
 -- an answer as numbers: 0 and the cells, or number and place
 abbrev given : Given → List ℕ
-given (trees rows) = 0 ∷ treeCells rows
-given (parts rows) = 0 ∷ partCells rows
+given (hasTrees rows) = 0 ∷ treeCells rows
+given (hasParts rows) = 0 ∷ partCells rows
 given (writes text) = 0 ∷ bytes text
 given (gets number place) = number ∷ place ∷ []
 
@@ -71,44 +71,44 @@ allHold (case ∷ rest) = holds case && allHold rest
 
 abbrev pub readings : List Case
 readings =
-    marked "" (trees [])
-    (parts (part 20 0 1 ∷ []))
+    marked "" (hasTrees [])
+    (hasParts (part 20 0 1 ∷ []))
     (writes "\n") ∷
-    marked "/a/;" (trees (tree 5 0 3 1 0 ∷ tree 6 3 4 1 0 ∷ []))
-    (parts (part 4 0 1 ∷ part 13 1 2 ∷ part 20 2 3 ∷ []))
+    marked "/a/;" (hasTrees (tree 5 0 3 1 0 ∷ tree 6 3 4 1 0 ∷ []))
+    (hasParts (part 4 0 1 ∷ part 13 1 2 ∷ part 20 2 3 ∷ []))
     (writes "/a/ ;\n") ∷
-    marked "a/b/c;" (trees (tree 1 0 1 1 0 ∷ tree 6 1 2 1 0 ∷ tree 1 2 3 1 0 ∷ tree 6 3 4 1 0 ∷ tree 1 4 5 1 0 ∷ tree 6 5 6 1 0 ∷ []))
-    (parts (part 1 0 1 ∷ part 1 2 1 ∷ part 10 1 3 ∷ part 1 4 1 ∷ part 10 3 5 ∷ part 13 5 6 ∷ part 20 6 7 ∷ []))
+    marked "a/b/c;" (hasTrees (tree 1 0 1 1 0 ∷ tree 6 1 2 1 0 ∷ tree 1 2 3 1 0 ∷ tree 6 3 4 1 0 ∷ tree 1 4 5 1 0 ∷ tree 6 5 6 1 0 ∷ []))
+    (hasParts (part 1 0 1 ∷ part 1 2 1 ∷ part 10 1 3 ∷ part 1 4 1 ∷ part 10 3 5 ∷ part 13 5 6 ∷ part 20 6 7 ∷ []))
     (writes "a / b / c ;\n") ∷
-    marked "{}/a/;" (trees (tree 9 0 2 1 0 ∷ tree 5 2 5 1 0 ∷ tree 6 5 6 1 0 ∷ []))
-    (parts (part 16 0 1 ∷ part 4 1 1 ∷ part 13 2 2 ∷ part 20 3 4 ∷ []))
+    marked "{}/a/;" (hasTrees (tree 9 0 2 1 0 ∷ tree 5 2 5 1 0 ∷ tree 6 5 6 1 0 ∷ []))
+    (hasParts (part 16 0 1 ∷ part 4 1 1 ∷ part 13 2 2 ∷ part 20 3 4 ∷ []))
     (writes "{ } /a/ ;\n") ∷
-    marked "x={}/a/b;" (trees (tree 1 0 1 1 0 ∷ tree 6 1 2 1 0 ∷ tree 8 2 4 1 0 ∷ tree 6 4 5 1 0 ∷ tree 1 5 6 1 0 ∷ tree 6 6 7 1 0 ∷ tree 1 7 8 1 0 ∷ tree 6 8 9 1 0 ∷ []))
-    (parts (part 1 0 1 ∷ part 5 2 1 ∷ part 1 4 1 ∷ part 10 3 3 ∷ part 1 6 1 ∷ part 10 5 5 ∷ part 12 1 7 ∷ part 13 7 8 ∷ part 20 8 9 ∷ []))
+    marked "x={}/a/b;" (hasTrees (tree 1 0 1 1 0 ∷ tree 6 1 2 1 0 ∷ tree 8 2 4 1 0 ∷ tree 6 4 5 1 0 ∷ tree 1 5 6 1 0 ∷ tree 6 6 7 1 0 ∷ tree 1 7 8 1 0 ∷ tree 6 8 9 1 0 ∷ []))
+    (hasParts (part 1 0 1 ∷ part 5 2 1 ∷ part 1 4 1 ∷ part 10 3 3 ∷ part 1 6 1 ∷ part 10 5 5 ∷ part 12 1 7 ∷ part 13 7 8 ∷ part 20 8 9 ∷ []))
     (writes "x = { } / a / b ;\n") ∷
-    marked "if(a)/b/;" (trees (tree 2 0 2 1 0 ∷ tree 7 2 5 2 0 ∷ tree 1 3 4 1 0 ∷ tree 5 5 8 1 0 ∷ tree 6 8 9 1 0 ∷ []))
-    (parts (part 1 2 1 ∷ part 4 3 1 ∷ part 13 4 2 ∷ part 18 0 4 ∷ part 20 5 5 ∷ []))
+    marked "if(a)/b/;" (hasTrees (tree 2 0 2 1 0 ∷ tree 7 2 5 2 0 ∷ tree 1 3 4 1 0 ∷ tree 5 5 8 1 0 ∷ tree 6 8 9 1 0 ∷ []))
+    (hasParts (part 1 2 1 ∷ part 4 3 1 ∷ part 13 4 2 ∷ part 18 0 4 ∷ part 20 5 5 ∷ []))
     (writes "if ( a ) /b/ ;\n") ∷
-    marked "f(a)/b/c;" (trees (tree 1 0 1 1 0 ∷ tree 7 1 4 2 0 ∷ tree 1 2 3 1 0 ∷ tree 6 4 5 1 0 ∷ tree 1 5 6 1 0 ∷ tree 6 6 7 1 0 ∷ tree 1 7 8 1 0 ∷ tree 6 8 9 1 0 ∷ []))
-    (parts (part 1 0 1 ∷ part 1 2 1 ∷ part 9 1 3 ∷ part 1 4 1 ∷ part 10 3 5 ∷ part 1 6 1 ∷ part 10 5 7 ∷ part 13 7 8 ∷ part 20 8 9 ∷ []))
+    marked "f(a)/b/c;" (hasTrees (tree 1 0 1 1 0 ∷ tree 7 1 4 2 0 ∷ tree 1 2 3 1 0 ∷ tree 6 4 5 1 0 ∷ tree 1 5 6 1 0 ∷ tree 6 6 7 1 0 ∷ tree 1 7 8 1 0 ∷ tree 6 8 9 1 0 ∷ []))
+    (hasParts (part 1 0 1 ∷ part 1 2 1 ∷ part 9 1 3 ∷ part 1 4 1 ∷ part 10 3 5 ∷ part 1 6 1 ∷ part 10 5 7 ∷ part 13 7 8 ∷ part 20 8 9 ∷ []))
     (writes "f ( a ) / b / c ;\n") ∷
-    marked "function f(x){}/a/;" (trees (tree 2 0 8 1 0 ∷ tree 1 9 10 1 0 ∷ tree 7 10 13 2 0 ∷ tree 1 11 12 1 0 ∷ tree 9 13 15 1 0 ∷ tree 5 15 18 1 0 ∷ tree 6 18 19 1 0 ∷ []))
-    (parts (part 19 0 1 ∷ part 4 5 1 ∷ part 13 6 2 ∷ part 20 7 4 ∷ []))
+    marked "function f(x){}/a/;" (hasTrees (tree 2 0 8 1 0 ∷ tree 1 9 10 1 0 ∷ tree 7 10 13 2 0 ∷ tree 1 11 12 1 0 ∷ tree 9 13 15 1 0 ∷ tree 5 15 18 1 0 ∷ tree 6 18 19 1 0 ∷ []))
+    (hasParts (part 19 0 1 ∷ part 4 5 1 ∷ part 13 6 2 ∷ part 20 7 4 ∷ []))
     (writes "function f ( x ) { } /a/ ;\n") ∷
-    marked "x:{}/a/;" (trees (tree 1 0 1 1 0 ∷ tree 6 1 2 1 0 ∷ tree 9 2 4 1 0 ∷ tree 5 4 7 1 0 ∷ tree 6 7 8 1 0 ∷ []))
-    (parts (part 16 2 1 ∷ part 17 0 2 ∷ part 4 3 1 ∷ part 13 4 2 ∷ part 20 5 5 ∷ []))
+    marked "x:{}/a/;" (hasTrees (tree 1 0 1 1 0 ∷ tree 6 1 2 1 0 ∷ tree 9 2 4 1 0 ∷ tree 5 4 7 1 0 ∷ tree 6 7 8 1 0 ∷ []))
+    (hasParts (part 16 2 1 ∷ part 17 0 2 ∷ part 4 3 1 ∷ part 13 4 2 ∷ part 20 5 5 ∷ []))
     (writes "x : { } /a/ ;\n") ∷
-    marked "y={x:{}/a/b};" (trees (tree 1 0 1 1 0 ∷ tree 6 1 2 1 0 ∷ tree 8 2 12 8 0 ∷ tree 1 3 4 1 0 ∷ tree 6 4 5 1 0 ∷ tree 8 5 7 1 0 ∷ tree 6 7 8 1 0 ∷ tree 1 8 9 1 0 ∷ tree 6 9 10 1 0 ∷ tree 1 10 11 1 0 ∷ tree 6 12 13 1 0 ∷ []))
-    (parts (part 1 0 1 ∷ part 5 5 1 ∷ part 1 7 1 ∷ part 10 6 3 ∷ part 1 9 1 ∷ part 10 8 5 ∷ part 5 2 6 ∷ part 12 1 8 ∷ part 13 10 9 ∷ part 20 11 10 ∷ []))
+    marked "y={x:{}/a/b};" (hasTrees (tree 1 0 1 1 0 ∷ tree 6 1 2 1 0 ∷ tree 8 2 12 8 0 ∷ tree 1 3 4 1 0 ∷ tree 6 4 5 1 0 ∷ tree 8 5 7 1 0 ∷ tree 6 7 8 1 0 ∷ tree 1 8 9 1 0 ∷ tree 6 9 10 1 0 ∷ tree 1 10 11 1 0 ∷ tree 6 12 13 1 0 ∷ []))
+    (hasParts (part 1 0 1 ∷ part 5 5 1 ∷ part 1 7 1 ∷ part 10 6 3 ∷ part 1 9 1 ∷ part 10 8 5 ∷ part 5 2 6 ∷ part 12 1 8 ∷ part 13 10 9 ∷ part 20 11 10 ∷ []))
     (writes "y = { x : { } / a / b } ;\n") ∷
-    marked "return{}/a/b;" (trees (tree 2 0 6 1 0 ∷ tree 8 6 8 1 0 ∷ tree 6 8 9 1 0 ∷ tree 1 9 10 1 0 ∷ tree 6 10 11 1 0 ∷ tree 1 11 12 1 0 ∷ tree 6 12 13 1 0 ∷ []))
-    (parts (part 5 1 1 ∷ part 1 3 1 ∷ part 10 2 3 ∷ part 1 5 1 ∷ part 10 4 5 ∷ part 15 0 6 ∷ part 20 7 7 ∷ []))
+    marked "return{}/a/b;" (hasTrees (tree 2 0 6 1 0 ∷ tree 8 6 8 1 0 ∷ tree 6 8 9 1 0 ∷ tree 1 9 10 1 0 ∷ tree 6 10 11 1 0 ∷ tree 1 11 12 1 0 ∷ tree 6 12 13 1 0 ∷ []))
+    (hasParts (part 5 1 1 ∷ part 1 3 1 ∷ part 10 2 3 ∷ part 1 5 1 ∷ part 10 4 5 ∷ part 15 0 6 ∷ part 20 7 7 ∷ []))
     (writes "return { } / a / b ;\n") ∷
-    marked "return\n{}/a/;" (trees (tree 2 0 6 1 0 ∷ tree 9 7 9 1 1 ∷ tree 5 9 12 1 0 ∷ tree 6 12 13 1 0 ∷ []))
+    marked "return\n{}/a/;" (hasTrees (tree 2 0 6 1 0 ∷ tree 9 7 9 1 1 ∷ tree 5 9 12 1 0 ∷ tree 6 12 13 1 0 ∷ []))
     (gets 13 7)
     (writes "return\n{ } /a/ ;\n") ∷
-    marked "a=/[/]/;" (trees (tree 1 0 1 1 0 ∷ tree 6 1 2 1 0 ∷ tree 5 2 7 1 0 ∷ tree 6 7 8 1 0 ∷ []))
-    (parts (part 1 0 1 ∷ part 4 2 1 ∷ part 12 1 3 ∷ part 13 3 4 ∷ part 20 4 5 ∷ []))
+    marked "a=/[/]/;" (hasTrees (tree 1 0 1 1 0 ∷ tree 6 1 2 1 0 ∷ tree 5 2 7 1 0 ∷ tree 6 7 8 1 0 ∷ []))
+    (hasParts (part 1 0 1 ∷ part 4 2 1 ∷ part 12 1 3 ∷ part 13 3 4 ∷ part 20 4 5 ∷ []))
     (writes "a = /[/]/ ;\n") ∷
     marked "a/)/;" (gets 10 2)
     (gets 10 2)

@@ -1,0 +1,66 @@
+// Stack that parsing takes over texts that make one run, or groups, as long or as deep as the limits allow.
+#[path = "../tests/compare/reading.rs"]
+#[allow(dead_code)]
+mod reading;
+#[path = "../tests/compare/elements.rs"]
+#[allow(dead_code)]
+mod elements;
+#[path = "../tests/compare/texts.rs"]
+#[allow(dead_code)]
+mod texts;
+
+use std::process::ExitCode;
+use std::thread;
+
+extern "C" {
+    fn buldrekso_parse(text: *const u8, text_len: usize, trees: *mut u32, trees_len: usize, syntax: *mut u32, syntax_len: usize) -> u64;
+}
+
+const MOST_STACK: usize = 1536 * 1024;
+const PAINTED: usize = 16 * 1024 * 1024;
+const PAINT: u64 = 0x5ac3_96f0_1e2d_7b48;
+
+fn parse(text: &[u8], trees: &mut [u32], syntax: &mut [u32]) -> u64 {
+    // The call asks nothing of its caller; the slices say what it may touch.
+    unsafe { buldrekso_parse(text.as_ptr(), text.len(), trees.as_mut_ptr(), trees.len(), syntax.as_mut_ptr(), syntax.len()) }
+}
+
+/// Paints the unused stack, parses, and finds how much of the paint is gone.
+#[inline(never)]
+fn measured(text: &[u8], trees: &mut [u32], syntax: &mut [u32]) -> (u64, usize) {
+    let here = 0u64;
+    let top = (&raw const here as usize - 4096) & !7;
+    let words = PAINTED / 8;
+    let base = top - PAINTED;
+    // The thread's stack is far larger than what is painted, and nothing else uses what lies below this frame.
+    for index in 0..words {
+        unsafe { ((base + 8 * index) as *mut u64).write_volatile(PAINT) };
+    }
+    let answer = parse(text, trees, syntax);
+    let untouched = (0..words).take_while(|index| unsafe { ((base + 8 * index) as *const u64).read_volatile() } == PAINT).count();
+    (answer, PAINTED - 8 * untouched + 4096)
+}
+
+fn main() -> ExitCode {
+    let mut most = 0;
+    for (name, text) in texts::longest_runs() {
+        let measure = text.clone();
+        let run = thread::Builder::new().stack_size(4 * PAINTED);
+        let (answer, stack) = run.spawn(move || measured(&measure, &mut vec![0; 16_384 * 5], &mut vec![0; 16_385 * 3])).expect("a thread").join().expect("a figure");
+        println!("stack,{stack},{name},answer {}", answer as i64);
+        most = most.max(stack);
+        if answer >> 32 != 0 {
+            println!("refused,{},{}", answer >> 32, answer & 0xffff_ffff);
+            return ExitCode::FAILURE;
+        }
+    }
+    println!("most,{most},of,{MOST_STACK}");
+    if most > MOST_STACK {
+        return ExitCode::FAILURE;
+    }
+    for (_, text) in texts::longest_runs() {
+        let run = thread::Builder::new().stack_size(MOST_STACK);
+        run.spawn(move || parse(&text, &mut vec![0; 16_384 * 5], &mut vec![0; 16_385 * 3])).expect("a thread").join().expect("an answer");
+    }
+    ExitCode::SUCCESS
+}

@@ -1,0 +1,386 @@
+//! Compares the static library's calls with an implementation of document 01 of its own, cell by cell, over many texts.
+
+mod elements;
+mod grammar;
+mod reading;
+mod syntax;
+mod texts;
+
+use elements::{element, gap, slash_met, Element, Fault};
+use grammar::{Grammar, Verdict};
+use reading::{reading, respaced, Reading};
+use std::process::ExitCode;
+use texts::Random;
+
+extern "C" {
+    fn buldrekso_read(text: *const u8, text_len: usize, trees: *mut u32, trees_len: usize) -> u64;
+    #[cfg(respace)]
+    fn buldrekso_respace(text: *const u8, text_len: usize, output: *mut u8, output_len: usize) -> u64;
+    #[cfg(parse)]
+    fn buldrekso_parse(text: *const u8, text_len: usize, trees: *mut u32, trees_len: usize, syntax: *mut u32, syntax_len: usize) -> u64;
+}
+
+const MOST_SYNTAX: usize = 16_385;
+/// Up to so many elements the recogniser decides where a text begins no program; past it, the descent alone.
+const RECOGNISED: usize = 3_000;
+/// Cells behind each lent slice, which no call may touch.
+const GUARD: usize = 8;
+
+type Answer = Result<usize, Fault>;
+
+fn packed(answer: Answer) -> u64 {
+    match answer {
+        Ok(count) => count as u64,
+        Err((number, place)) => (u64::from(number) << 32) | place as u64,
+    }
+}
+
+fn shown(answer: u64) -> String {
+    match answer >> 32 {
+        0 => format!("accepted {answer}"),
+        number => format!("refused {number} at {}", answer & 0xffff_ffff),
+    }
+}
+
+/// What cells hold after a call: the written ones and then the old ones, or zeros; behind them the guard.
+fn after<T: Copy + Default>(before: &[T], lent: usize, written: Option<&[T]>) -> Vec<T> {
+    let mut cells = before.to_vec();
+    match written {
+        Some(written) => cells[..written.len()].copy_from_slice(written),
+        None => cells[..lent].fill(T::default()),
+    }
+    cells
+}
+
+struct Comparison {
+    grammar: Grammar,
+    random: Random,
+    texts: u64,
+    programs: u64,
+    calls: u64,
+    differences: u64,
+}
+
+impl Comparison {
+    fn difference(&mut self, text: &[u8], what: &str) {
+        self.differences += 1;
+        if self.differences <= 20 {
+            let start = String::from_utf8_lossy(&text[..text.len().min(300)]).into_owned();
+            println!("difference,{what}\n    text of {} bytes: {start:?}", text.len());
+        }
+    }
+
+    fn garbage(&mut self, lent: usize) -> Vec<u32> {
+        let seed = self.random.next();
+        (0..lent + GUARD).map(|index| (seed as u32).wrapping_mul(index as u32 | 1) | 0x100).collect()
+    }
+
+    fn garbage_bytes(&mut self, lent: usize) -> Vec<u8> {
+        let seed = self.random.next();
+        (0..lent + GUARD).map(|index| (seed as u8).wrapping_mul(index as u8 | 1) | 0x80).collect()
+    }
+
+    fn read(&mut self, text: &[u8], lent: usize) {
+        self.calls += 1;
+        let expected = reading(text, lent / 5);
+        let before = self.garbage(lent);
+        let mut cells = before.clone();
+        // The call asks nothing of its caller; the slices say what it may touch.
+        let got = unsafe { buldrekso_read(text.as_ptr(), text.len(), cells.as_mut_ptr(), lent) };
+        let written = expected.as_ref().ok().map(|reading| reading.trees.concat());
+        let answer = packed(expected.map(|reading| reading.trees.len()));
+        let right = after(&before, lent, written.as_deref());
+        if got != answer || cells != right {
+            self.difference(text, &format!("read with {lent} cells: expected {}, got {}; {}", shown(answer), shown(got), first(&right, &cells)));
+        }
+    }
+
+    #[cfg(respace)]
+    fn respace(&mut self, text: &[u8], lent: usize) {
+        self.calls += 1;
+        let output = reading(text, usize::MAX).map(|reading| respaced(text, &reading.elements));
+        let expected = match output {
+            Ok(output) if output.len() > lent => Err((15, text.len())),
+            other => other,
+        };
+        let before = self.garbage_bytes(lent);
+        let mut cells = before.clone();
+        let got = unsafe { buldrekso_respace(text.as_ptr(), text.len(), cells.as_mut_ptr(), lent) };
+        let answer = packed(expected.as_ref().map(Vec::len).map_err(|fault| *fault));
+        let right = after(&before, lent, expected.as_deref().ok());
+        if got != answer || cells != right {
+            self.difference(text, &format!("respace with {lent} bytes: expected {}, got {}; {}", shown(answer), shown(got), first(&right, &cells)));
+        }
+    }
+
+    #[cfg(parse)]
+    fn parse(&mut self, text: &[u8], syntax: &Result<Vec<[u32; 3]>, usize>, lent: usize, lent_syntax: usize) {
+        self.calls += 1;
+        let expected: Result<(Vec<u32>, Vec<u32>), Fault> = reading(text, lent / 5).and_then(|reading| match syntax {
+            Err(place) => Err((13, *place)),
+            Ok(records) if records.len() > (lent_syntax / 3).min(MOST_SYNTAX) => Err((14, text.len())),
+            Ok(records) => Ok((reading.trees.concat(), records.concat())),
+        });
+        let (before, before_syntax) = (self.garbage(lent), self.garbage(lent_syntax));
+        let (mut cells, mut cells_syntax) = (before.clone(), before_syntax.clone());
+        let got = unsafe { buldrekso_parse(text.as_ptr(), text.len(), cells.as_mut_ptr(), lent, cells_syntax.as_mut_ptr(), lent_syntax) };
+        let answer = packed(expected.as_ref().map(|(_, syntax)| syntax.len() / 3).map_err(|fault| *fault));
+        let right = after(&before, lent, expected.as_ref().ok().map(|(trees, _)| &trees[..]));
+        let right_syntax = after(&before_syntax, lent_syntax, expected.as_ref().ok().map(|(_, syntax)| &syntax[..]));
+        if got != answer || cells != right || cells_syntax != right_syntax {
+            let what = format!(
+                "parse with {lent} and {lent_syntax} cells: expected {}, got {}; trees {}; syntax {}",
+                shown(answer),
+                shown(got),
+                first(&right, &cells),
+                first(&right_syntax, &cells_syntax)
+            );
+            self.difference(text, &what);
+        }
+    }
+
+    /// Syntax records of a reading, or the place where its elements begin no program.
+    fn syntax(&mut self, text: &[u8], elements: &[Element]) -> Result<Vec<[u32; 3]>, usize> {
+        let descent = syntax::syntax_tree(elements);
+        let place = |index: usize| elements.get(index).map_or(text.len(), |element| element.first);
+        if elements.len() > RECOGNISED {
+            return descent.map_err(place);
+        }
+        let recognised = match self.grammar.verdict(elements) {
+            Verdict::Program => None,
+            Verdict::Beginning => Some(elements.len()),
+            Verdict::Dead(index) => Some(index),
+        };
+        if descent.as_ref().err().copied() != recognised {
+            self.difference(text, &format!("the comparison's own: descent {:?}, recogniser {recognised:?}", descent.as_ref().err()));
+        }
+        descent.map_err(place)
+    }
+
+    /// The choices with which the text is a program: none, or the reading's alone.
+    fn agreement(&mut self, text: &[u8], read: &Result<Reading, Fault>, program: bool) {
+        let mut found: Vec<Vec<Element>> = Vec::new();
+        self.choices(text, 0, &mut Vec::new(), &mut found);
+        let right = match read {
+            Ok(reading) if program => found.len() == 1 && found[0] == reading.elements,
+            Err((9 | 12, _)) => true,
+            _ => found.is_empty(),
+        };
+        if !right {
+            self.difference(text, &format!("the comparison's own: {} choices give a program", found.len()));
+        }
+    }
+
+    fn choices(&self, text: &[u8], from: usize, so_far: &mut Vec<Element>, found: &mut Vec<Vec<Element>>) {
+        let Ok((at, line)) = gap(text, from) else {
+            return;
+        };
+        if at == text.len() {
+            if let Verdict::Program = self.grammar.verdict(so_far) {
+                found.push(so_far.clone());
+            }
+            return;
+        }
+        let patterns: &[bool] = if slash_met(text, at) { &[false, true] } else { &[false] };
+        for &pattern in patterns {
+            if let Ok(next) = element(text, at, line, pattern) {
+                so_far.push(next);
+                self.choices(text, next.end, so_far, found);
+                so_far.pop();
+            }
+        }
+    }
+
+    /// Compares all calls over a text, with lent cells of several lengths around what is needed.
+    fn text(&mut self, text: &[u8], thorough: bool) {
+        self.texts += 1;
+        let read = reading(text, usize::MAX);
+        let needed = match &read {
+            Ok(reading) => 5 * reading.trees.len(),
+            Err((1, _)) => 20,
+            Err(_) => 5 * text.len().min(reading::MOST_TREES + 1),
+        };
+        let syntax = match &read {
+            Ok(reading) => self.syntax(text, &reading.elements),
+            Err(_) => Err(0),
+        };
+        let is_program = read.is_ok() && syntax.is_ok();
+        self.programs += u64::from(is_program);
+        if text.len() < 200 && text.iter().filter(|&&byte| byte == b'/').count() <= 8 {
+            self.agreement(text, &read, is_program);
+        }
+        let lengths: Vec<usize> = match thorough {
+            true => (0..=needed + 6).collect(),
+            false => {
+                let around = [needed, needed.saturating_sub(1), needed + 1 + self.random.below(9)];
+                let shorter = if read.is_err() { Some(self.random.below(needed + 1)) } else { None };
+                around.into_iter().chain(shorter).collect()
+            }
+        };
+        for &lent in &lengths {
+            self.read(text, lent);
+        }
+        #[cfg(respace)]
+        {
+            let bytes = read.as_ref().map_or(text.len(), |reading| respaced(text, &reading.elements).len());
+            let short = bytes.saturating_sub(1 + self.random.below(3));
+            let over = bytes + self.random.below(9);
+            let outputs: Vec<usize> = if thorough { (0..=bytes + 3).collect() } else { vec![bytes, short, over] };
+            for lent in outputs {
+                self.respace(text, lent);
+            }
+        }
+        #[cfg(parse)]
+        {
+            let records = 3 * syntax.as_ref().map_or(needed / 5 + 1, Vec::len);
+            let (more, less) = (self.random.below(9), 1 + self.random.below(7));
+            self.parse(text, &syntax, needed, records);
+            self.parse(text, &syntax, needed, records.saturating_sub(1));
+            self.parse(text, &syntax, needed.saturating_sub(1), records + more);
+            self.parse(text, &syntax, needed + more, records.saturating_sub(less));
+            if thorough {
+                for lent_syntax in 0..=records + 4 {
+                    self.parse(text, &syntax, needed + less, lent_syntax);
+                }
+                for lent in lengths {
+                    self.parse(text, &syntax, lent, records + more);
+                }
+            }
+        }
+    }
+
+    /// Every sequence of at most so many pieces, joined directly and by a blank.
+    fn sequences(&mut self, most: usize) {
+        for count in 0..=most {
+            for number in 0..texts::PIECES.len().pow(count as u32) {
+                let mut rest = number;
+                let mut chosen = Vec::new();
+                for _ in 0..count {
+                    chosen.push(texts::PIECES[rest % texts::PIECES.len()]);
+                    rest /= texts::PIECES.len();
+                }
+                self.text(chosen.concat().as_bytes(), count <= 2);
+                if count > 1 {
+                    self.text(chosen.join(" ").as_bytes(), false);
+                }
+            }
+        }
+    }
+
+    fn random_texts(&mut self, number: usize) {
+        for index in 0..number {
+            let thorough = index % 64 == 0;
+            let size = 1 + self.random.below(if index % 16 == 0 { 200 } else { 40 });
+            let mut text = match index % 8 {
+                0 => texts::bytes(&mut self.random, size),
+                1 | 2 => texts::pieces(&mut self.random, size.min(30)),
+                _ => texts::program(&mut self.random, size),
+            };
+            if index % 8 > 2 {
+                let programs = self.programs;
+                self.text(&text, thorough && size < 40);
+                if self.programs == programs {
+                    self.difference(&text, "the comparison's own: a text made as a program is none");
+                }
+                let times = 1 + self.random.below(3);
+                for _ in 0..times {
+                    texts::damage(&mut self.random, &mut text);
+                }
+            }
+            self.text(&text, thorough && size < 40);
+        }
+    }
+
+    /// Long programs and their damage.
+    fn long_texts(&mut self, number: usize) {
+        for _ in 0..number {
+            let size = 500 + self.random.below(4000);
+            let mut text = texts::program(&mut self.random, size);
+            self.text(&text, false);
+            texts::damage(&mut self.random, &mut text);
+            self.text(&text, false);
+        }
+    }
+
+    fn limits(&mut self) {
+        for text in texts::limits() {
+            self.text(&text, false);
+        }
+    }
+
+    /// The implementation here against the readings that document 01 gives.
+    fn readings(&mut self) {
+        type Case = (&'static str, Answer, Answer);
+        let cases: &[Case] = &[
+            ("", Ok(0), Ok(1)),
+            ("/a/;", Ok(2), Ok(3)),
+            ("a/b/c;", Ok(6), Ok(7)),
+            ("{}/a/;", Ok(3), Ok(4)),
+            ("x={}/a/b;", Ok(8), Ok(9)),
+            ("if(a)/b/;", Ok(5), Ok(5)),
+            ("f(a)/b/c;", Ok(8), Ok(9)),
+            ("function f(x){}/a/;", Ok(7), Ok(4)),
+            ("y=function f(x){}/a/b;", Ok(12), Ok(9)),
+            ("x:{}/a/;", Ok(5), Ok(5)),
+            ("y={x:{}/a/b};", Ok(11), Ok(10)),
+            ("return{}/a/b;", Ok(7), Ok(7)),
+            ("return\n{}/a/;", Ok(4), Err((13, 7))),
+            ("a=/[/]/;", Ok(4), Ok(5)),
+            ("a/)/;", Err((10, 2)), Err((10, 2))),
+            ("a=/=/;", Ok(4), Ok(5)),
+            ("a/=b;", Err((8, 1)), Err((8, 1))),
+            ("a++b", Err((8, 1)), Err((8, 1))),
+            ("a//b", Ok(1), Err((13, 4))),
+            ("({", Err((11, 1)), Err((11, 1))),
+            ("({)", Err((10, 2)), Err((10, 2))),
+            ("while", Err((7, 0)), Err((7, 0))),
+            ("1.x", Err((6, 0)), Err((6, 0))),
+            ("a.if(b)/c/;", Ok(7), Err((13, 2))),
+            ("a = {b: /)/} / c;", Ok(9), Ok(8)),
+        ];
+        for &(text, trees, records) in cases {
+            let text = text.as_bytes();
+            let read = reading(text, usize::MAX);
+            let parsed = match &read {
+                Ok(reading) => self.syntax(text, &reading.elements).map(|records| records.len()).map_err(|place| (13, place)),
+                Err(fault) => Err(*fault),
+            };
+            if read.map(|reading| reading.trees.len()) != trees || parsed != records {
+                self.difference(text, "the comparison's own: a reading of document 01");
+            }
+            self.text(text, true);
+        }
+    }
+}
+
+fn first<T: PartialEq + std::fmt::Debug>(right: &[T], cells: &[T]) -> String {
+    match (0..right.len()).find(|&index| right[index] != cells[index]) {
+        Some(index) => format!("cell {index} should be {:?} and is {:?}", right[index], cells[index]),
+        None => "cells are right".to_string(),
+    }
+}
+
+fn compare(number: usize) -> bool {
+    assert_eq!((elements::words().len(), elements::signs().len()), (36, 48));
+    let mut comparison = Comparison { grammar: Grammar::new(), random: Random(1), texts: 0, programs: 0, calls: 0, differences: 0 };
+    comparison.readings();
+    comparison.limits();
+    comparison.sequences(4);
+    comparison.random_texts(number);
+    comparison.long_texts(number / 2000);
+    println!("texts,{}", comparison.texts);
+    println!("programs,{}", comparison.programs);
+    println!("calls,{}", comparison.calls);
+    println!("differences,{}", comparison.differences);
+    comparison.differences == 0
+}
+
+fn main() -> ExitCode {
+    let number = std::env::args().nth(1).map_or(100_000, |word| word.parse().expect("a number of random texts"));
+    // The descent goes as deep as a run is long.
+    let run = std::thread::Builder::new().stack_size(1 << 29).spawn(move || compare(number)).expect("a thread");
+    match run.join() {
+        Ok(true) => ExitCode::SUCCESS,
+        _ => ExitCode::FAILURE,
+    }
+}

@@ -1,0 +1,390 @@
+//! Texts to compare over: a fixed sequence of random numbers, programs made from the grammar, damage, and texts near each limit.
+
+use crate::reading::{DEEPEST, LONGEST_TEXT, MOST_TREES};
+
+/// SplitMix64: the same numbers on every run.
+pub struct Random(pub u64);
+
+impl Random {
+    pub fn next(&mut self) -> u64 {
+        self.0 = self.0.wrapping_add(0x9e37_79b9_7f4a_7c15);
+        let mut x = self.0;
+        x = (x ^ (x >> 30)).wrapping_mul(0xbf58_476d_1ce4_e5b9);
+        x = (x ^ (x >> 27)).wrapping_mul(0x94d0_49bb_1331_11eb);
+        x ^ (x >> 31)
+    }
+
+    pub fn below(&mut self, bound: usize) -> usize {
+        (self.next() % bound as u64) as usize
+    }
+
+    fn one_in(&mut self, bound: usize) -> bool {
+        self.below(bound) == 0
+    }
+
+    fn of(&mut self, choices: &[&'static str]) -> &'static str {
+        choices[self.below(choices.len())]
+    }
+}
+
+/// The pieces whose every short sequence is compared.
+pub const PIECES: &[&str] = &[
+    "a", "1", "'s'", "/", "/a/", "+", "=", ":", ";", ".", "(", ")", "{", "}", "return", "function", "if", "\n", "/*c*/", "//c\n",
+];
+
+/// Pieces for longer random sequences: the same, and whole phrases.
+const PHRASES: &[&str] = &[
+    "a", "b", "1", "0", "'s'", "\"/\"", "/", "/", "/a/", "/[/]/g", "+", "=", ":", ";", ";", ".", "(", ")", "{", "}", "return", "function", "if", "\n",
+    "\r", "\t", "/*c*/", "/*\n*/", "//c\n", "if(a)", "function f(x){}", "function f(x){", "{}", "(a)", "{a:1}", "{a:", "a:", "x=", "a;", ".b", "return;",
+    "return a;", "while", "++", "/=", ".5", "1.", "'", "#", "\u{7f}",
+];
+
+const NAMES: &[&str] = &["a", "b", "f", "$", "_x1", "ifx", "returns", "x", "nulls", "i"];
+const NUMBERS: &[&str] = &["0", "1", "10", "907"];
+const STRINGS: &[&str] = &["'s'", "\"q\\\"\"", "'\\''", "''", "'//'", "\"}\"", "'/*'", "\"\\\\\"", "'\t'"];
+const PATTERNS: &[&str] = &["/a/", "/[/]/g", "/=/", "/\\//i", "/)/", "/{/", "/[\\]/]/", "/]/", "/'/", "/ /", "/[[]/0$"];
+const GAPS: &[&str] = &["", "", "", "", "", " ", " ", "\n", "\t", "/*c*/", "/*\n*/", "//c\n", "\r\n", " // '\r", "\u{b}\u{c}"];
+const GAPS_WITHOUT_LINE_END: &[&str] = &["", "", " ", "\t", "/*c*/", "/***/"];
+
+/// A random program: its elements, with what follows the word `return` on its line told apart.
+struct Maker<'a> {
+    random: &'a mut Random,
+    budget: isize,
+    open: usize,
+    elements: Vec<&'static str>,
+    /// Indices of elements before which no line end may stand.
+    same_line: Vec<usize>,
+}
+
+impl Maker<'_> {
+    fn put(&mut self, elements: &[&'static str]) {
+        self.budget -= elements.len() as isize;
+        self.elements.extend_from_slice(elements);
+    }
+
+    fn small(&mut self) -> bool {
+        self.budget <= 0 || self.open > 90
+    }
+
+    fn program(&mut self) {
+        while self.budget > 0 {
+            self.item(true);
+        }
+    }
+
+    fn list(&mut self, declarations: bool) {
+        while !self.small() && !self.random.one_in(3) {
+            self.item(declarations);
+        }
+    }
+
+    fn item(&mut self, declarations: bool) {
+        if declarations && self.random.one_in(5) {
+            self.function();
+        } else {
+            self.statement();
+        }
+    }
+
+    fn statement(&mut self) {
+        let choice = if self.small() { 9 } else { self.random.below(10) };
+        match choice {
+            0 => {
+                self.put(&["{"]);
+                self.open += 1;
+                self.list(false);
+                self.open -= 1;
+                self.put(&["}"]);
+            }
+            1 | 2 => {
+                self.put(&["if"]);
+                self.parentheses();
+                self.statement();
+            }
+            3 => self.put(&["return", ";"]),
+            4 | 5 => {
+                self.put(&["return"]);
+                self.same_line.push(self.elements.len());
+                self.assign(false);
+                self.put(&[";"]);
+            }
+            6 => {
+                let name = self.random.of(NAMES);
+                self.put(&[name, ":"]);
+                self.statement();
+            }
+            _ => {
+                self.assign(true);
+                self.put(&[";"]);
+            }
+        }
+    }
+
+    fn function(&mut self) {
+        let (name, parameter) = (self.random.of(NAMES), self.random.of(NAMES));
+        self.put(&["function", name, "(", parameter, ")", "{"]);
+        self.open += 1;
+        self.list(true);
+        self.open -= 1;
+        self.put(&["}"]);
+    }
+
+    fn parentheses(&mut self) {
+        self.put(&["("]);
+        self.open += 1;
+        self.assign(false);
+        self.open -= 1;
+        self.put(&[")"]);
+    }
+
+    fn assign(&mut self, statement: bool) {
+        self.chain(statement);
+        if !self.small() && self.random.one_in(4) {
+            self.put(&["="]);
+            return self.assign(false);
+        }
+        while !self.small() && self.random.one_in(3) {
+            let sign = self.random.of(&["/", "+"]);
+            self.put(&[sign]);
+            self.chain(false);
+        }
+    }
+
+    fn chain(&mut self, statement: bool) {
+        let choice = if self.small() { 0 } else { self.random.below(10) };
+        match choice {
+            4 => {
+                let number = self.random.of(NUMBERS);
+                self.put(&[number]);
+            }
+            5 => {
+                let string = self.random.of(STRINGS);
+                self.put(&[string]);
+            }
+            6 => {
+                let pattern = self.random.of(PATTERNS);
+                self.put(&[pattern]);
+            }
+            7 => self.parentheses(),
+            8 if !statement => {
+                self.put(&["{"]);
+                if !self.random.one_in(3) {
+                    let name = self.random.of(NAMES);
+                    self.put(&[name, ":"]);
+                    self.open += 1;
+                    self.assign(false);
+                    self.open -= 1;
+                }
+                self.put(&["}"]);
+            }
+            9 if !statement => self.function(),
+            _ => {
+                let name = self.random.of(NAMES);
+                self.put(&[name]);
+            }
+        }
+        while !self.small() && self.random.one_in(3) {
+            if self.random.one_in(2) {
+                self.parentheses();
+            } else {
+                let name = self.random.of(NAMES);
+                self.put(&[".", name]);
+            }
+        }
+    }
+}
+
+fn is_name_byte(byte: u8) -> bool {
+    byte.is_ascii_alphanumeric() || byte == b'$' || byte == b'_'
+}
+
+/// Must a blank part these, so that each is cut as it stands?
+fn parted(before: &str, after: &str) -> bool {
+    let (Some(&last), Some(&first)) = (before.as_bytes().last(), after.as_bytes().first()) else {
+        return false;
+    };
+    let number = before.as_bytes()[0].is_ascii_digit();
+    (is_name_byte(last) && is_name_byte(first)) || (before == "/" && first == b'/') || (number && first == b'.')
+}
+
+/// A program of about so many elements, with gaps between them.
+pub fn program(random: &mut Random, size: usize) -> Vec<u8> {
+    let mut maker = Maker { random, budget: size as isize, open: 0, elements: Vec::new(), same_line: Vec::new() };
+    maker.program();
+    let Maker { elements, same_line, .. } = maker;
+    let tight = random.one_in(3);
+    let mut text = String::new();
+    let mut before = "";
+    for (index, element) in elements.iter().enumerate() {
+        let gap = match same_line.contains(&index) {
+            _ if tight => "",
+            true => random.of(GAPS_WITHOUT_LINE_END),
+            false => random.of(GAPS),
+        };
+        let after = if gap.is_empty() { element } else { gap };
+        if parted(before, after) {
+            text.push(' ');
+        }
+        text.push_str(gap);
+        text.push_str(element);
+        before = element;
+    }
+    if !tight {
+        let gap = random.of(GAPS);
+        if parted(before, gap) {
+            text.push(' ');
+        }
+        text.push_str(gap);
+    }
+    text.into_bytes()
+}
+
+/// Damages a text in one place.
+pub fn damage(random: &mut Random, text: &mut Vec<u8>) {
+    const BYTES: &[u8] = b"a1'\"/+=:;.(){}\n\r \\[]*#_0\t\0\x7f\xc3,<if";
+    let byte = BYTES[random.below(BYTES.len())];
+    let at = random.below(text.len() + 1);
+    match random.below(6) {
+        0 if at < text.len() => text[at] = byte,
+        1 if at < text.len() => {
+            text.remove(at);
+        }
+        2 => text.insert(at, byte),
+        3 => text.truncate(at),
+        4 => {
+            let end = (at + random.below(8)).min(text.len());
+            text.drain(at..end);
+        }
+        _ => {
+            let piece = PHRASES[random.below(PHRASES.len())];
+            text.splice(at..at, piece.bytes());
+        }
+    }
+}
+
+/// A random sequence of pieces.
+pub fn pieces(random: &mut Random, count: usize) -> Vec<u8> {
+    let blank = if random.one_in(2) { " " } else { "" };
+    let narrow = random.one_in(2);
+    let mut text = String::new();
+    for _ in 0..count {
+        text.push_str(if narrow { random.of(PIECES) } else { random.of(PHRASES) });
+        text.push_str(blank);
+    }
+    text.into_bytes()
+}
+
+/// Random bytes: of all, or of those that make elements.
+pub fn bytes(random: &mut Random, count: usize) -> Vec<u8> {
+    const BYTES: &[u8] = b"aab10'\"//**+=:;.(){}[]\\\n \rif";
+    let all = random.one_in(4);
+    (0..count).map(|_| if all { random.next() as u8 } else { BYTES[random.below(BYTES.len())] }).collect()
+}
+
+fn repeated(before: &str, run: &str, count: usize, after: &str) -> Vec<u8> {
+    let mut text = before.as_bytes().to_vec();
+    for _ in 0..count {
+        text.extend_from_slice(run.as_bytes());
+    }
+    text.extend_from_slice(after.as_bytes());
+    text
+}
+
+/// Programs that make one run as long as 16,384 tree records allow, or groups as deep as 100.
+pub fn longest_runs() -> Vec<(&'static str, Vec<u8>)> {
+    let run = |name, before, run, trees: usize, after, around: usize| (name, repeated(before, run, (MOST_TREES - around) / trees, after));
+    let within = |depth: usize, before: &str, open: &str, inside: &[u8], close: &str, after: &str| {
+        let mut text = repeated(before, open, depth, "");
+        text.extend_from_slice(inside);
+        text.extend(repeated("", close, depth, after));
+        text
+    };
+    let nested = |before, open, inside, close, after| within(DEEPEST, before, open, inside, close, after);
+    let almost = |before, open, inside, close, after| within(DEEPEST - 1, before, open, inside, close, after);
+    vec![
+        run("labels", "", "a:", 2, "a;", 2),
+        run("ifs", "", "if(a)", 3, "a;", 2),
+        run("ifs and labels", "", "if(a)b:", 5, "a;", 2),
+        run("assignments", "", "a=", 2, "a;", 2),
+        run("calls", "a", "(a)", 2, ";", 2),
+        run("members", "a", ".a", 2, ";", 2),
+        run("members and calls", "a", ".a(b)", 4, ";", 2),
+        run("divides", "a", "/a", 2, ";", 2),
+        run("pluses", "a", "+a", 2, ";", 2),
+        run("operators", "a", "/a+a", 4, ";", 2),
+        run("statements", "", "a;", 2, "", 0),
+        run("returns", "", "return;", 2, "", 0),
+        run("blocks", "", "{}", 1, "", 0),
+        run("functions", "", "function f(a){}", 5, "", 0),
+        run("objects", "x=", "{}/", 2, "a;", 4),
+        run("assignments to objects", "x=", "{}=", 2, "a;", 4),
+        run("assignments to parentheses", "", "(a)=", 3, "a;", 2),
+        run("assignments to calls", "", "a(a)=", 4, "a;", 2),
+        run("assigned functions", "", "a.b=", 4, "function f(a){};", 6),
+        ("parentheses", nested("x=", "(", b"a", ")", ";")),
+        ("blocks within", nested("", "{", b"a;", "}", "")),
+        ("objects within", nested("x=", "{a:", b"a", "}", ";")),
+        ("functions within", nested("", "function f(a){", b"a;", "}", "")),
+        ("functions in expressions", nested("", "a=function f(a){", b"a;", "};", "")),
+        ("calls within", nested("a", "(a", b"", ")", ";")),
+        ("divided calls within", nested("a", "/a+a(a", b"", ")", ";")),
+        ("labels, blocks and a run", almost("", "{a:if(a)", &repeated("", "a:", (MOST_TREES - 6 * DEEPEST - 2) / 2, "a;"), "}", "")),
+        ("parentheses and a run", nested("x=", "a=(", &repeated("", "a=", (MOST_TREES - 3 * DEEPEST - 4) / 2, "a"), ")", ";")),
+        ("operators, functions and a run", nested("", "a+a/function f(a){", &repeated("", "a=", (MOST_TREES - 10 * DEEPEST - 2) / 2, "a;"), "};", "")),
+        ("functions and a run", almost("", "if(a)x=function f(a){", &repeated("", "if(a)", (MOST_TREES - 11 * DEEPEST - 2) / 3, "a;"), "};", "")),
+    ]
+}
+
+/// Texts near the limits of length, depth and records.
+pub fn limits() -> Vec<Vec<u8>> {
+    let mut texts: Vec<Vec<u8>> = Vec::new();
+    for length in [LONGEST_TEXT - 1, LONGEST_TEXT, LONGEST_TEXT + 1, LONGEST_TEXT + 7] {
+        texts.push(vec![b' '; length]);
+        texts.push(vec![b'\n'; length]);
+        texts.push(vec![b'a'; length]);
+        texts.push(vec![0; length]);
+        texts.push(repeated("//", "x", length - 2, ""));
+        texts.push(repeated("/*", "*", length - 4, "*/"));
+        texts.push(repeated("/*", "\n", length - 2, ""));
+        texts.push(repeated("'", "\\'", (length - 3) / 2, "';"));
+        texts.push(repeated("a", "\n", length - 2, ";"));
+        texts.push(repeated("a=/[", "/", length - 7, "]/;"));
+    }
+    for depth in [DEEPEST - 1, DEEPEST, DEEPEST + 1, DEEPEST + 30] {
+        for (open, close) in [("(", ")"), ("{", "}"), ("({", "})"), ("{(", ")}"), ("x={a:", "}"), ("function f(x){", "}")] {
+            let times = depth / open.matches(['(', '{']).count().min(close.len());
+            for inside in ["", "a", "a;", "(", "{", ")", "/"] {
+                let mut text = repeated("", open, times, inside);
+                text.extend(repeated("", close, times, ""));
+                texts.push(text.clone());
+                text.push(b';');
+                texts.push(text);
+            }
+            texts.push(repeated("", open, times, ""));
+        }
+    }
+    for count in [MOST_TREES - 1, MOST_TREES, MOST_TREES + 1] {
+        for (run, trees, last) in [("a;", 2, "a"), (";", 1, ""), ("a ", 1, ""), ("()", 1, ""), ("{a}", 2, "1"), ("a+", 2, "a"), ("+", 0, ""), ("1\n", 1, "")] {
+            if trees > 0 {
+                let rest = count % trees;
+                texts.push(repeated("", run, count / trees, if rest == 0 { "" } else { last }));
+            }
+        }
+        texts.push(repeated("", "a;", count / 2, "while"));
+        texts.push(repeated("", "a;", count / 2, "(((1.x"));
+        texts.push(repeated("", "a;", count / 2, ")"));
+    }
+    for (_, text) in longest_runs() {
+        let mut cut = text.clone();
+        cut.pop();
+        texts.push(cut);
+        let mut doubled = text.clone();
+        doubled.push(text[text.len() - 1]);
+        texts.push(doubled);
+        let mut middle = text.clone();
+        middle[text.len() / 2] = b'+';
+        texts.push(middle);
+        texts.push(text);
+    }
+    texts
+}
