@@ -33,8 +33,8 @@ pub mod WrittenCells
 pub mod Verdicts
 pub mod AcceptedReadings
 pub mod Theorems
-pub mod DescentLawsA
-pub mod DescentLawsB
-pub mod DescentLawsC
+pub mod ChainSteps
+pub mod PrimarySteps
+pub mod StatementSteps
 pub mod JudgedLaws
 pub mod Bounds

@@ -10,7 +10,7 @@ ghost use Rattle.parser.specs.Parameters.{parameterAt};
 mod classes;
 mod descent;
 mod parts;
-pub mod records;
+mod records;
 
 use elements::Answer;
 use reader::records::TreeRecord;

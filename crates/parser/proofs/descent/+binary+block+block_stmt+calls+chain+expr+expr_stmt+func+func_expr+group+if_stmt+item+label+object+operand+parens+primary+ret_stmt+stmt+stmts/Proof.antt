@@ -1,3 +1,6 @@
+-- The parsers call each other, so they are proved together. Each has a measure: 32 times the records left in its part, and a rank
+-- among those that start at one record. Each need is what the code asks at one place; the facts of the callees go into the laws of
+-- ChainSteps, PrimarySteps and StatementSteps. The last term ties all of them.
 use Prim.Native.Nat.{ℕ, _<_, _+_, _-_, _*_, _/_, _≤_}
 use borrow.Fn.Kinds.{In}
 use borrow.Fn.PlainCycle.{Measures, is, falls, and}
@@ -90,16 +93,16 @@ use Rattle.parser.proofs.LabelPaths.{label-fails, label-whole}
 use Rattle.parser.proofs.ReturnPaths.{return-bare, return-line-end, return-value-fails, return-unended, return-whole}
 use Rattle.parser.proofs.ExpressionStatementPaths.{expression-statement-fails, expression-statement-unended, expression-statement-whole}
 use Rattle.parser.proofs.StatementsPaths.{statements-none, statements-all}
-use Rattle.parser.proofs.DescentLawsC.{read-is, read-is-not, known-within, success-room, filled-room, filled-then-room, put-done, bad-at, inside-as, brace-measure, block-bad, block-done, add-statement, no-body, is-body, add-declaration-bad, add-declaration-done, turn-done, turn-bad}
+use Rattle.parser.proofs.StatementSteps.{read-is, read-is-not, known-within, success-room, filled-room, filled-then-room, put-done, bad-at, inside-as, brace-measure, block-bad, block-done, add-statement, no-body, is-body, add-declaration-bad, add-declaration-done, turn-done, turn-bad}
 use Rattle.parser.proofs.CallPaths.{calls-none}
 use Rattle.parser.proofs.AssignPaths.{assign-fails}
-use Rattle.parser.proofs.DescentLawsA as laws-a
+use Rattle.parser.proofs.ChainSteps as chains
 use Rattle.parser.proofs.PartLaws.{class-within}
 use Rattle.parser.proofs.PrimaryPaths.{primary-leaf, primary-parens, primary-parens-fails, primary-function, primary-function-fails}
 use Rattle.parser.proofs.ObjectPaths.{object-empty}
 use Rattle.parser.proofs.ParameterPaths.{parameter-taken, parameter-dies}
 use Rattle.parser.proofs.FunctionPaths.{function-unnamed, function-unopened, function-parameter-fails, function-bodiless}
-use Rattle.parser.proofs.DescentLawsB.{stands, says-put, says-bad-at, leaf-is, none-is, content-count, content-fine, group-bad, group-long, group-done, object-nameless, object-colonless, object-bad, object-long, object-done, function-says}
+use Rattle.parser.proofs.PrimarySteps.{stands, says-put, says-bad-at, leaf-is, none-is, content-count, content-fine, group-bad, group-long, group-done, object-nameless, object-colonless, object-bad, object-long, object-done, function-says}
 
 abbrev μ-binary : Measures 3 binary-kinds.ps ℕ
 μ-binary κs a = 32 * (countOf (a .1 .0 .now) - a .1 .1 .1 .1 .0) + 5
@@ -355,7 +358,7 @@ binary-precedence-requires t c κs = search needs
 binary-returns : (t : ℕ) → binary-lts.Need-returns (binary-claims t) (binary-at t) binary.Post
 binary-returns t c =
     λ table v target number written uncalled unassigned.
-    laws-a.binary-none (c .before .before .class-at .ensures) (c .before .precedence .ensures) (c .if1 .taken) (c .before .before .before .before .before .before .pre .1 .1 .0) number written uncalled unassigned
+    chains.binary-none (c .before .before .class-at .ensures) (c .before .precedence .ensures) (c .if1 .taken) (c .before .before .before .before .before .before .pre .1 .1 .0) number written uncalled unassigned
 
 -- src/descent.rt:61:51
 binary-add-operand : (t : ℕ) → binary-lts.Need-add-operand (binary-claims t) (binary-at t) binary.Post
@@ -363,13 +366,13 @@ binary-add-operand t c = search needs
 
 -- src/descent.rt:61:74
 binary-add-operand-2 : (t : ℕ) → binary-lts.Need-add-operand-2 (binary-claims t) (binary-at t) binary.Post
-binary-add-operand-2 t c = omega (arith, c .before .before .precedence .ensures, laws-a.precedence-small (c .before .before .before .class-at .result))
+binary-add-operand-2 t c = omega (arith, c .before .before .precedence .ensures, chains.precedence-small (c .before .before .before .class-at .result))
 
 -- src/descent.rt:61:9
 binary-operand-requires : (t : ℕ) → binary-lts.Need-operand-requires (binary-claims t) (binary-at t) binary.Post
 binary-operand-requires t c κs =
     let pre = c .before .before .before .before .before .before .before .pre in
-    let here = laws-a.tight-within _ _ _ (c .before .before .before .class-at .ensures) (c .before .before .precedence .ensures) (omega (arith, c .before .if1 .left)) in
+    let here = chains.tight-within _ _ _ (c .before .before .before .class-at .ensures) (c .before .before .precedence .ensures) (omega (arith, c .before .if1 .left)) in
     (omega arith, (pre .1 .0, (omega arith, omega arith, omega arith)))
 
 -- src/descent.rt:63:21
@@ -408,7 +411,7 @@ binary-same-length t c = search needs
 binary-returns-2 : (t : ℕ) → binary-lts.Need-returns-2 (binary-claims t) (binary-at t) binary.Post
 binary-returns-2 t c =
     λ table v target number written uncalled unassigned.
-    laws-a.binary-fails (c .before .before .before .before .before .before .before .before .before .before .before .before .before .pre .1 .0) (c .before .before .before .before .before .before .before .before .before .class-at .ensures) (c .before .before .before .before .before .before .before .before .precedence .ensures) (c .before .before .before .before .before .before .before .before .before .before .before .before .before .pre .1 .1 .3) (c .before .before .before .before .before .before .before .if1 .left)
+    chains.binary-fails (c .before .before .before .before .before .before .before .before .before .before .before .before .before .pre .1 .0) (c .before .before .before .before .before .before .before .before .before .class-at .ensures) (c .before .before .before .before .before .before .before .before .precedence .ensures) (c .before .before .before .before .before .before .before .before .before .before .before .before .before .pre .1 .1 .3) (c .before .before .before .before .before .before .before .if1 .left)
     (says-fails (c .before .before .before .before .before .operand .ensures) (c .before .right .given .1))
 
 -- src/descent.rt:51:1
@@ -419,7 +422,7 @@ binary-same-length-2 t c = search needs
 binary-returns-3 : (t : ℕ) → binary-lts.Need-returns-3 (binary-claims t) (binary-at t) binary.Post
 binary-returns-3 t c =
     λ table v target number written uncalled unassigned.
-    laws-a.binary-more (c .before .before .before .before .before .before .before .before .before .before .before .before .before .before .before .before .before .before .before .before .before .pre .1 .0) (c .before .before .before .before .before .before .before .before .before .before .before .before .before .before .before .before .before .class-at .ensures) (c .before .before .before .before .before .before .before .before .before .before .before .before .before .before .before .before .precedence .ensures) (c .before .before .before .before .before .before .before .before .before .before .before .before .before .before .before .before .before .before .before .before .before .pre .1 .1 .3) (c .before .before .before .before .before .before .before .before .before .before .before .before .before .before .before .if1 .left)
+    chains.binary-more (c .before .before .before .before .before .before .before .before .before .before .before .before .before .before .before .before .before .before .before .before .before .pre .1 .0) (c .before .before .before .before .before .before .before .before .before .before .before .before .before .before .before .before .before .class-at .ensures) (c .before .before .before .before .before .before .before .before .before .before .before .before .before .before .before .before .precedence .ensures) (c .before .before .before .before .before .before .before .before .before .before .before .before .before .before .before .before .before .before .before .before .before .pre .1 .1 .3) (c .before .before .before .before .before .before .before .before .before .before .before .before .before .before .before .if1 .left)
     (says-success (c .before .before .before .before .before .before .before .before .before .before .before .before .before .operand .ensures) (c .before .before .before .before .before .before .before .before .before .right2 .given .1)) _ _ (c .before .before .before .before .before .before .put .ensures .0) (c .before .before .before .before .before .before .put .ensures .1) _ _ (c .before .before .binary .ensures) table v target number written
 
 -- src/descent.rt:268:9
@@ -545,7 +548,7 @@ calls-place-at-requires t c κs = search needs
 calls-returns : (t : ℕ) → calls-lts.Need-returns (calls-claims t) (calls-at t) calls.Post
 calls-returns t c =
     λ table v number written.
-    laws-a.member-unnamed (c .before .before .before .before .before .before .before .before .pre .1 .0) (c .before .before .before .before .class-at .ensures) (c .before .before .before .if1 .taken) (c .before .before .class-at2 .ensures) (c .before .if2 .taken) (c .place-at .ensures)
+    chains.member-unnamed (c .before .before .before .before .before .before .before .before .pre .1 .0) (c .before .before .before .before .class-at .ensures) (c .before .before .before .if1 .taken) (c .before .before .class-at2 .ensures) (c .before .if2 .taken) (c .place-at .ensures)
 
 -- src/descent.rt:164:64
 calls-add-put : (t : ℕ) → calls-lts.Need-add-put (calls-claims t) (calls-at t) calls.Post
@@ -560,7 +563,7 @@ calls-put-requires : (t : ℕ) → calls-lts.Need-put-requires (calls-claims t) 
 calls-put-requires t c κs =
     let pre = c .before .before .before .before .before .before .before .before .pre in
     let few = pre .1 .0 .few in
-    let here = laws-a.class-here _ _ _ (c .before .before .class-at2 .ensures) (c .before .if2 .left) (omega arith) in
+    let here = chains.class-here _ _ _ (c .before .before .class-at2 .ensures) (c .before .if2 .left) (omega arith) in
     (omega arith, omega arith, omega arith)
 
 -- src/descent.rt:165:48
@@ -571,7 +574,7 @@ calls-add-calls t c = search needs
 calls-calls-requires : (t : ℕ) → calls-lts.Need-calls-requires (calls-claims t) (calls-at t) calls.Post
 calls-calls-requires t c κs =
     let pre = c .before .before .before .before .before .before .before .before .before .before .before .before .pre in
-    let here = laws-a.class-here _ _ _ (c .before .before .before .before .before .before .class-at2 .ensures) (c .before .before .before .before .before .if2 .left) (omega arith) in
+    let here = chains.class-here _ _ _ (c .before .before .before .before .before .before .class-at2 .ensures) (c .before .before .before .before .before .if2 .left) (omega arith) in
     let more = c .before .before .before .put .ensures .0 in
     (omega arith, (pre .1 .0, (omega arith, omega arith, omega arith)))
 
@@ -583,7 +586,7 @@ calls-same-length t c = search needs
 calls-returns-2 : (t : ℕ) → calls-lts.Need-returns-2 (calls-claims t) (calls-at t) calls.Post
 calls-returns-2 t c =
     λ table v number written.
-    laws-a.member-more (c .before .before .before .before .before .before .before .before .before .before .before .before .before .before .before .pre .1 .0) (c .before .before .before .before .before .before .before .before .before .before .before .class-at .ensures) (c .before .before .before .before .before .before .before .before .before .before .if1 .taken) (c .before .before .before .before .before .before .before .before .before .class-at2 .ensures) (c .before .before .before .before .before .before .before .before .if2 .left) _ _ refl (c .before .before .before .before .before .before .put .ensures .0) (c .before .before .before .before .before .before .put .ensures .1)
+    chains.member-more (c .before .before .before .before .before .before .before .before .before .before .before .before .before .before .before .pre .1 .0) (c .before .before .before .before .before .before .before .before .before .before .before .class-at .ensures) (c .before .before .before .before .before .before .before .before .before .before .if1 .taken) (c .before .before .before .before .before .before .before .before .before .class-at2 .ensures) (c .before .before .before .before .before .before .before .before .if2 .left) _ _ refl (c .before .before .before .before .before .before .put .ensures .0) (c .before .before .before .before .before .before .put .ensures .1)
     _ _ (c .before .before .calls .ensures) table v number written
 
 -- src/descent.rt:168:9
@@ -616,7 +619,7 @@ calls-put-requires-2 : (t : ℕ) → calls-lts.Need-put-requires-2 (calls-claims
 calls-put-requires-2 t c κs =
     let pre = c .before .before .before .before .before .before .before .before .before .before .before .before .before .before .pre in
     let few = pre .1 .0 .few in
-    let here = laws-a.class-here _ _ _ (c .before .before .before .before .before .before .before .before .before .before .class-at .ensures) (c .before .before .before .before .before .before .before .before .if3 .left) (omega arith) in
+    let here = chains.class-here _ _ _ (c .before .before .before .before .before .before .before .before .before .before .class-at .ensures) (c .before .before .before .before .before .before .before .before .if3 .left) (omega arith) in
     let fits = pre .1 .0 .at _ here .fits in
     let argument = fills-filled (c .before .before .before .before .before .before .group .ensures) (c .before .before .inner2 .given .1) in
     (omega arith, omega arith, omega arith)
@@ -625,7 +628,7 @@ calls-put-requires-2 t c κs =
 calls-calls-requires-2 : (t : ℕ) → calls-lts.Need-calls-requires-2 (calls-claims t) (calls-at t) calls.Post
 calls-calls-requires-2 t c κs =
     let pre = c .before .before .before .before .before .before .before .before .before .before .before .before .before .before .before .before .before .before .pre in
-    let here = laws-a.class-here _ _ _ (c .before .before .before .before .before .before .before .before .before .before .before .before .before .before .class-at .ensures) (c .before .before .before .before .before .before .before .before .before .before .before .before .if3 .left) (omega arith) in
+    let here = chains.class-here _ _ _ (c .before .before .before .before .before .before .before .before .before .before .before .before .before .before .class-at .ensures) (c .before .before .before .before .before .before .before .before .before .before .before .before .if3 .left) (omega arith) in
     let fits = pre .1 .0 .at _ here .fits in
     let argument = fills-filled (c .before .before .before .before .before .before .before .before .before .before .group .ensures) (c .before .before .before .before .before .before .inner2 .given .1) in
     let more = c .before .before .before .put2 .ensures .0 in
@@ -638,7 +641,7 @@ calls-same-length-2 t c = search needs
 -- src/descent.rt:153:1
 calls-returns-4 : (t : ℕ) → calls-lts.Need-returns-4 (calls-claims t) (calls-at t) calls.Post
 calls-returns-4 t c =
-    λ table v number written. laws-a.call-bad (c .before .before .before .before .before .before .before .before .before .before .before .before .before .pre .1 .0) (c .before .before .before .before .before .before .before .before .before .class-at .ensures) (c .before .before .before .before .before .before .before .if3 .left) (c .before .before .before .before .before .group .ensures) (c .before .inner .given .1)
+    λ table v number written. chains.call-bad (c .before .before .before .before .before .before .before .before .before .before .before .before .before .pre .1 .0) (c .before .before .before .before .before .before .before .before .before .class-at .ensures) (c .before .before .before .before .before .before .before .if3 .left) (c .before .before .before .before .before .group .ensures) (c .before .inner .given .1)
 
 -- src/descent.rt:153:1
 calls-same-length-3 : (t : ℕ) → calls-lts.Need-same-length-3 (calls-claims t) (calls-at t) calls.Post
@@ -648,7 +651,7 @@ calls-same-length-3 t c = search needs
 calls-returns-5 : (t : ℕ) → calls-lts.Need-returns-5 (calls-claims t) (calls-at t) calls.Post
 calls-returns-5 t c =
     λ table v number written.
-    laws-a.call-more (c .before .before .before .before .before .before .before .before .before .before .before .before .before .before .before .before .before .before .before .before .before .pre .1 .0) (c .before .before .before .before .before .before .before .before .before .before .before .before .before .before .before .before .before .class-at .ensures) (c .before .before .before .before .before .before .before .before .before .before .before .before .before .before .before .if3 .left) (c .before .before .before .before .before .before .before .before .before .before .before .before .before .group .ensures) (c .before .before .before .before .before .before .before .before .before .inner2 .given .1) _ _ (c .before .before .before .before .before .before .put2 .ensures .0) (c .before .before .before .before .before .before .put2 .ensures .1)
+    chains.call-more (c .before .before .before .before .before .before .before .before .before .before .before .before .before .before .before .before .before .before .before .before .before .pre .1 .0) (c .before .before .before .before .before .before .before .before .before .before .before .before .before .before .before .before .before .class-at .ensures) (c .before .before .before .before .before .before .before .before .before .before .before .before .before .before .before .if3 .left) (c .before .before .before .before .before .before .before .before .before .before .before .before .before .group .ensures) (c .before .before .before .before .before .before .before .before .before .inner2 .given .1) _ _ (c .before .before .before .before .before .before .put2 .ensures .0) (c .before .before .before .before .before .before .put2 .ensures .1)
     _ _ (c .before .before .calls2 .ensures) table v number written
 
 -- src/descent.rt:90:9
@@ -668,7 +671,7 @@ chain-calls-requires : (t : ℕ) → chain-lts.Need-calls-requires (chain-claims
 chain-calls-requires t c κs =
     let pre = c .before .before .before .before .before .before .before .before .before .before .before .pre in
     let s = says-success (c .before .before .before .before .before .before .primary .ensures) (c .before .before .first2 .given .1) in
-    let on = laws-a.chain-on s in
+    let on = chains.chain-on s in
     (omega arith, (pre .1 .0, (s .within, omega arith, omega arith)))
 
 -- src/descent.rt:85:1
@@ -687,7 +690,7 @@ chain-same-length-2 t c = search needs
 chain-returns-2 : (t : ℕ) → chain-lts.Need-returns-2 (chain-claims t) (chain-at t) chain.Post
 chain-returns-2 t c =
     let s = says-success (c .before .before .before .before .before .before .before .before .before .primary .ensures) (c .before .before .before .before .before .first2 .given .1) in
-    laws-a.chain-all s (c .before .before .calls .ensures _ (s .syntax) (s .count-is) (s .cells-are))
+    chains.chain-all s (c .before .before .calls .ensures _ (s .syntax) (s .count-is) (s .cells-are))
 
 -- src/descent.rt:30:9
 expr-chain-requires : (t : ℕ) → expr-lts.Need-chain-requires (expr-claims t) (expr-at t) expr.Post
@@ -710,7 +713,7 @@ expr-binary-requires : (t : ℕ) → expr-lts.Need-binary-requires (expr-claims 
 expr-binary-requires t c κs =
     let pre = c .before .before .before .before .before .before .before .before .before .before .before .before .before .pre in
     let s = says-success (c .before .before .before .before .before .before .before .before .chain .ensures) (c .before .before .before .before .first2 .given .1) in
-    let on = laws-a.chain-on s in
+    let on = chains.chain-on s in
     (omega arith, (pre .1 .0, (s .within, omega arith, omega arith, omega arith)))
 
 -- src/descent.rt:36:17
@@ -721,7 +724,7 @@ expr-same-length t c = search needs
 expr-returns : (t : ℕ) → expr-lts.Need-returns (expr-claims t) (expr-at t) expr.Post
 expr-returns t c =
     let s = says-success (c .before .before .before .before .before .before .before .before .before .before .before .chain .ensures) (c .before .before .before .before .before .before .before .first2 .given .1) in
-    laws-a.expr-operators (c .before .before .before .before .before .before .before .before .before .before .before .before .before .before .before .before .pre .1 .0) s
+    chains.expr-operators (c .before .before .before .before .before .before .before .before .before .before .before .before .before .before .before .before .pre .1 .0) s
     (c .before .before .binary .ensures _ (s .syntax) true (s .count-is) (s .cells-are) (s .past) (λ is. absurd (c .before .before .before .before .if1 .taken (c .before .before .before .before .before .class-at .ensures ∙ is))))
 
 -- src/descent.rt:38:56
@@ -736,8 +739,8 @@ expr-expr-requires : (t : ℕ) → expr-lts.Need-expr-requires (expr-claims t) (
 expr-expr-requires t c κs =
     let pre = c .before .before .before .before .before .before .before .before .before .before .before .before .before .pre in
     let s = says-success (c .before .before .before .before .before .before .before .before .chain .ensures) (c .before .before .before .before .first2 .given .1) in
-    let on = laws-a.chain-on s in
-    let here = laws-a.class-here _ _ _ (c .before .before .class-at .ensures) (c .before .if1 .left) (omega arith) in
+    let on = chains.chain-on s in
+    let here = chains.class-here _ _ _ (c .before .before .class-at .ensures) (c .before .if1 .left) (omega arith) in
     (omega arith, (pre .1 .0, (omega arith, omega arith)))
 
 -- src/descent.rt:40:29
@@ -779,7 +782,7 @@ expr-same-length-3 t c = search needs
 -- src/descent.rt:25:1
 expr-returns-3 : (t : ℕ) → expr-lts.Need-returns-3 (expr-claims t) (expr-at t) expr.Post
 expr-returns-3 t c =
-    laws-a.expr-value-fails (c .before .before .before .before .before .before .before .before .before .before .before .before .before .before .before .before .before .before .before .pre .1 .0) (says-success (c .before .before .before .before .before .before .before .before .before .before .before .before .before .before .chain .ensures) (c .before .before .before .before .before .before .before .before .before .before .first2 .given .1)) (c .before .before .before .before .before .before .before .before .class-at .ensures) (c .before .before .before .before .before .before .before .if1 .left)
+    chains.expr-value-fails (c .before .before .before .before .before .before .before .before .before .before .before .before .before .before .before .before .before .before .before .pre .1 .0) (says-success (c .before .before .before .before .before .before .before .before .before .before .before .before .before .before .chain .ensures) (c .before .before .before .before .before .before .before .before .before .before .first2 .given .1)) (c .before .before .before .before .before .before .before .before .class-at .ensures) (c .before .before .before .before .before .before .before .if1 .left)
     (says-fails (c .before .before .before .before .before .expr .ensures) (c .before .value .given .1))
 
 -- src/descent.rt:25:1
@@ -789,7 +792,7 @@ expr-same-length-4 t c = search needs
 -- src/descent.rt:25:1
 expr-returns-4 : (t : ℕ) → expr-lts.Need-returns-4 (expr-claims t) (expr-at t) expr.Post
 expr-returns-4 t c =
-    laws-a.expr-value (c .before .before .before .before .before .before .before .before .before .before .before .before .before .before .before .before .before .before .before .before .before .before .before .pre .1 .0) (says-success (c .before .before .before .before .before .before .before .before .before .before .before .before .before .before .before .before .before .before .chain .ensures) (c .before .before .before .before .before .before .before .before .before .before .before .before .before .before .first2 .given .1)) (c .before .before .before .before .before .before .before .before .before .before .before .before .class-at .ensures) (c .before .before .before .before .before .before .before .before .before .before .before .if1 .left)
+    chains.expr-value (c .before .before .before .before .before .before .before .before .before .before .before .before .before .before .before .before .before .before .before .before .before .before .before .pre .1 .0) (says-success (c .before .before .before .before .before .before .before .before .before .before .before .before .before .before .before .before .before .before .chain .ensures) (c .before .before .before .before .before .before .before .before .before .before .before .before .before .before .first2 .given .1)) (c .before .before .before .before .before .before .before .before .before .before .before .before .class-at .ensures) (c .before .before .before .before .before .before .before .before .before .before .before .if1 .left)
     (says-success (c .before .before .before .before .before .before .before .before .before .expr .ensures) (c .before .before .before .before .before .value2 .given .1)) (c .before .before .put .ensures .0) (c .before .before .put .ensures .1)
 
 -- src/descent.rt:398:9
@@ -1467,7 +1470,7 @@ operand-binary-requires : (t : ℕ) → operand-lts.Need-binary-requires (operan
 operand-binary-requires t c κs =
     let pre = c .before .before .before .before .before .before .before .before .before .before .before .pre in
     let s = says-success (c .before .before .before .before .before .before .chain .ensures) (c .before .before .first2 .given .1) in
-    let on = laws-a.chain-on s in
+    let on = chains.chain-on s in
     (omega arith, (pre .1 .0, (s .within, omega arith, omega arith, pre .1 .1 .2)))
 
 -- src/descent.rt:72:1
@@ -1486,7 +1489,7 @@ operand-same-length-2 t c = search needs
 operand-returns-2 : (t : ℕ) → operand-lts.Need-returns-2 (operand-claims t) (operand-at t) operand.Post
 operand-returns-2 t c =
     let s = says-success (c .before .before .before .before .before .before .before .before .before .chain .ensures) (c .before .before .before .before .before .first2 .given .1) in
-    laws-a.operand-all s (c .before .before .binary .ensures _ (s .syntax) false (s .count-is) (s .cells-are) (s .past) (λ is. refl))
+    chains.operand-all s (c .before .before .binary .ensures _ (s .syntax) false (s .count-is) (s .cells-are) (s .past) (λ is. refl))
 
 -- src/descent.rt:126:9
 parens-group-requires : (t : ℕ) → parens-lts.Need-group-requires (parens-claims t) (parens-at t) parens.Post
