@@ -1,5 +1,6 @@
 // The cases, one to a line: the number of cells that the table has, a blank, and the text up to the line end. Where the text is
-// to be respaced, `>` stands first, and the number is of the bytes that the output has.
+// to be respaced, `>` stands first, and the number is of the bytes that the output has. Where it is to be parsed, `p` stands first,
+// and the number is of the cells that the syntax table has; the tree table has all of `table::CELLS`.
 ghost use Prim.Native.Nat.{_≤_, _<_};
 ghost use lib.ListN.{length};
 use crate::number;
@@ -12,6 +13,7 @@ use crate::spelling::Size;
 pub enum Case {
     Read(usize, usize),
     Respace(usize, usize),
+    Parse(usize, usize),
     Bad,
 }
 
@@ -29,31 +31,39 @@ pub fn line_end(input: &[u8], at: usize) -> usize
 
 // The case of a line, its text at the start of `text`.
 pub fn case_of(line: &[u8], text: &mut [u8; MOST]) -> Case {
-    let from = start(line);
-    let number = number::number_at(line, from);
+    let letter = first(line);
+    let number = number::number_at(line, start(letter));
     match number {
-        Number::Of(lent, at) => case_with(from, lent, spelling::text_of(line, at, text)),
+        Number::Of(lent, at) => case_with(letter, lent, spelling::text_of(line, at, text)),
         Number::Bad => Case::Bad,
     }
 }
 
-// Where the number starts: behind a `>`.
-fn start(line: &[u8]) -> usize {
-    if line.len() == 0 {
-        return 0;
-    }
-    if line[0] == b'>' { 1 } else { 0 }
+// The first byte of a line, 0 if it has none.
+fn first(line: &[u8]) -> u8 {
+    if line.len() == 0 { 0 } else { line[0] }
 }
 
-fn case_with(from: usize, lent: usize, size: Size) -> Case {
+// Where the number starts: behind a `>` or a `p`.
+fn start(letter: u8) -> usize {
+    match letter {
+        b'>' => 1,
+        b'p' => 1,
+        _ => 0,
+    }
+}
+
+fn case_with(letter: u8, lent: usize, size: Size) -> Case {
     match size {
-        Size::Bytes(n) => {
-            if from == 0 {
-                Case::Read(lent, n)
-            } else {
-                Case::Respace(lent, n)
-            }
-        }
+        Size::Bytes(n) => case_for(letter, lent, n),
         Size::Bad => Case::Bad,
+    }
+}
+
+fn case_for(letter: u8, lent: usize, size: usize) -> Case {
+    match letter {
+        b'>' => Case::Respace(lent, size),
+        b'p' => Case::Parse(lent, size),
+        _ => Case::Read(lent, size),
     }
 }

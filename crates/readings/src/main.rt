@@ -1,5 +1,6 @@
-// Prints how `reader::read` reads, and `respacer::respace` respaces, the texts that standard input gives, one case to a line,
-// for comparison with the stored answers. `cases.rt` and `spelling.rt` say what a line holds, `print.rt` what is printed.
+// Prints how `reader::read` reads, `respacer::respace` respaces and `parser::parse` parses the texts that standard input gives, one
+// case to a line, for comparison with the stored answers. `cases.rt` and `spelling.rt` say what a line holds, `print.rt` what is
+// printed.
 mod cases;
 mod number;
 mod outputs;
@@ -13,6 +14,7 @@ use libc::STDIN_FILENO;
 use outputs::BYTES;
 use spelling::MOST;
 use table::CELLS;
+use table::SYNTAX_CELLS;
 
 fn main() {
     let mut input = io::large_buffer();
@@ -48,6 +50,7 @@ fn answer_case(line: &[u8], text: &mut [u8; MOST], cells: &mut [u32]) {
     match case {
         Case::Read(lent, size) => read(part(text, size), cells, lent),
         Case::Respace(lent, size) => respace(part(text, size), lent),
+        Case::Parse(lent, size) => parse(part(text, size), cells, lent),
         Case::Bad => print::bad_case(),
     }
 }
@@ -95,6 +98,32 @@ fn respace_to(text: &[u8], array: &mut [u8], lent: usize) {
         Answer::Accepted(count) => print::respaced(array, count),
         Answer::Refused(number, place) => {
             print::refused(number, place, outputs::is_right(array, lent, lent))
+        }
+    }
+}
+
+fn parse(text: &[u8], trees: &mut [u32], lent: usize) {
+    let mut array = [0u32; SYNTAX_CELLS];
+    parse_in(text, trees, &mut array, lent);
+}
+
+// The syntax table is the first `lent` cells of the array.
+fn parse_in(text: &[u8], trees: &mut [u32], array: &mut [u32], lent: usize) {
+    if lent <= array.len() {
+        parse_to(text, trees, &mut array[0..lent]);
+    } else {
+        print::bad_case();
+    }
+}
+
+fn parse_to(text: &[u8], trees: &mut [u32], syntax: &mut [u32]) {
+    table::mark_all(trees);
+    table::mark_all(syntax);
+    let answer = parser::parse(text, trees, syntax);
+    match answer {
+        Answer::Accepted(count) => print::parsed(trees, syntax, count),
+        Answer::Refused(number, place) => {
+            print::refused(number, place, table::both_zero(trees, syntax))
         }
     }
 }

@@ -2,16 +2,16 @@
 // and `rest kept` where the cells past the last record are as they were. Of more than 24 records only the first and the
 // last are printed, and the sum of all their cells. Of a refused text: `refused,number,place`, and `all zero` where every
 // cell is. Otherwise `table wrong`. Of a respaced text: `bytes,` and the count, then its bytes, a line end as `~0A`. What the output
-// holds besides is told as of a table.
-ghost use Prim.Native.Nat.{_≤_, _<_, _*_};
-ghost use lib.ListN.{length};
+// holds besides is told as of a table. Of a parsed text: `syntax,` and the count, then the three numbers of each record; what the
+// tables hold besides is told of both together.
+ghost use Prim.Native.Nat.{_<_};
 use crate::outputs;
 use crate::table;
+use crate::table::SYNTAX_WIDTH;
+use crate::table::TREE_WIDTH;
 use libc::STDOUT_FILENO;
 
 const SHOWN: usize = 24;
-
-const WIDTH: usize = 5;
 
 pub fn heading(line: &[u8]) {
     words(line);
@@ -25,16 +25,25 @@ pub fn bad_case() {
 pub fn accepted(trees: &[u32], count: usize) {
     words(b"trees,");
     number(count as u64);
-    if count > trees.len() / WIDTH {
+    if count > trees.len() / TREE_WIDTH {
         words(b" table wrong\n");
         return;
     }
-    if count <= SHOWN {
-        records(trees, 0, count * WIDTH);
-    } else {
-        summary(trees, count);
+    let end = count * TREE_WIDTH;
+    listed(trees, count, end, TREE_WIDTH);
+    verdict(table::kept(trees, end), b" rest kept\n");
+}
+
+pub fn parsed(trees: &[u32], syntax: &[u32], count: usize) {
+    words(b"syntax,");
+    number(count as u64);
+    if count > syntax.len() / SYNTAX_WIDTH {
+        words(b" table wrong\n");
+        return;
     }
-    verdict(table::kept(trees, count * WIDTH), b" rest kept\n");
+    let end = count * SYNTAX_WIDTH;
+    listed(syntax, count, end, SYNTAX_WIDTH);
+    verdict(table::both_kept(trees, syntax, end), b" rest kept\n");
 }
 
 pub fn respaced(array: &[u8], count: usize) {
@@ -78,17 +87,32 @@ fn verdict(right: bool, said: &[u8]) {
     }
 }
 
+// Records of a width that end before `end`.
+fn listed(table: &[u32], count: usize, end: usize, width: usize)
+    requires { ⌜ 0 < width ⌝ }
+{
+    if count <= SHOWN {
+        records(table, 0, end, width);
+    } else {
+        summary(table, end, width);
+    }
+}
+
 // The cells from one place to before another: a blank before each record, and commas in it.
-fn records(trees: &[u32], from: usize, end: usize) {
+fn records(table: &[u32], from: usize, end: usize, width: usize)
+    requires { ⌜ 0 < width ⌝ }
+{
     let mut at = from;
-    while at < trees.len() && at < end {
-        cell(at, trees[at]);
+    while at < table.len() && at < end {
+        cell(at, width, table[at]);
         at += 1;
     }
 }
 
-fn cell(at: usize, value: u32) {
-    if at % WIDTH == 0 {
+fn cell(at: usize, width: usize, value: u32)
+    requires { ⌜ 0 < width ⌝ }
+{
+    if at % width == 0 {
         words(b" ");
     } else {
         words(b",");
@@ -96,16 +120,17 @@ fn cell(at: usize, value: u32) {
     number(table::wide(value));
 }
 
-fn summary(trees: &[u32], count: usize)
-    requires { ⌜ (0 < count) × (count * 5 ≤ length (now trees)) ⌝ }
+fn summary(table: &[u32], end: usize, width: usize)
+    requires { ⌜ 0 < width ⌝ }
 {
-    let end = count * WIDTH;
     words(b" first");
-    records(trees, 0, WIDTH);
+    records(table, 0, width, width);
     words(b" last");
-    records(trees, end - WIDTH, end);
+    if width <= end {
+        records(table, end - width, end, width);
+    }
     words(b" sum ");
-    number(table::sum(trees, end));
+    number(table::sum(table, end));
 }
 
 fn number(value: u64) {

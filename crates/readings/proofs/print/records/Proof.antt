@@ -6,10 +6,10 @@ use Rattle.readings.proofs.print.records.Statement.{statement}
 use Rattle.readings.proofs.print.records.Tie as tie
 
 abbrev Inv-loop : tie.InvT-loop
-Inv-loop trees from end at₀ at = Unit {0}
+Inv-loop table from end width at₀ at = Unit {0}
 
 abbrev μ-loop : tie.MeasureT-loop
-μ-loop trees from end at₀ at = length trees - at
+μ-loop table from end width at₀ at = length table - at
 
 loop-holds : tie.Need-loop-holds Inv-loop μ-loop
 loop-holds c = search needs
