@@ -1,4 +1,5 @@
--- The paths through `expr`, `binary`, `operand`, `chain` and `calls`, as the answers of the parsers that they call come in.
+-- The paths through `assigned`, `operators`, `binary`, `operand`, `chain` and `link`, as the answers of the parsers that they call
+-- come in.
 use mathlib.Core.Path.{_≡_, sym, _∙_}
 use mathlib.Core.Bool.{Bool, true, false, cond, _&&_}
 use mathlib.Core.List.{List, []}
@@ -39,6 +40,13 @@ use Rattle.parser.specs.Says.{
   Extends,
   extends-done,
   extends-bad,
+  Called,
+  Linked,
+  Links,
+  links-on,
+  links-bad,
+  Operated,
+  Completes,
   Fills,
   operandForm,
 }
@@ -47,7 +55,7 @@ use Rattle.parser.specs.declared.Parsed.the-variants.{Done, Bad}
 use Rattle.parser.proofs.PartLaws.{class-within}
 use Rattle.parser.proofs.SaidLaws.{DiesBehind, fills-filled, fills-dies}
 use Rattle.parser.proofs.SuccessLaws.{success-extended, success-dies, extended-further, ended-in}
-use Rattle.parser.proofs.CallPaths.{call-once, call-fails, call-dies, member-once, member-fails, member-dies}
+use Rattle.parser.proofs.CallPaths.{calls-none, call-once, call-fails, call-dies, member-once, member-fails, member-dies}
 use Rattle.parser.proofs.OperatorPaths.{operand-done, operators-none, operator-once, operator-fails, operator-dies}
 use Rattle.parser.proofs.AssignPaths.{assign-operators, assign-operators-fails, assign-value, assign-value-fails}
 
@@ -97,12 +105,15 @@ extends-further : {left right form : Form} {Before Past : Part → ℕ → Synta
 extends-further once dies (extends-done rest) = extends-done (extended-further once rest)
 extends-further once dies (extends-bad {place = place} rest) = extends-bad (dies place rest)
 
--- `chain`: a start, and what extends it
+-- `chain`: a start, and what calls and members behind it come to
 pub chain-all : {Past : Part → ℕ → Syntax → Type 0} {p : Part} {i start j n : ℕ} {table middle final : List ℕ} {answer : Parsed}
-    (s : Success chainForm Past p i start table j n middle) → Extends chainForm chainForm Uncalled p j start table (s .syntax) answer final
-    → Says chainForm Uncalled p i start table answer final
-chain-all s (extends-done rest) = says-done (success-extended s rest)
-chain-all s (extends-bad rest) = says-bad (success-dies s rest)
+    → Success chainForm Past p i start table j n middle → Called p j start n middle answer final → Says chainForm Uncalled p i start table answer final
+chain-all {p = p} {i} {start} {j} {table = table} s called = go (called table (s .syntax) (s .count-is) (s .cells-are))
+  where
+    go : {answer : Parsed} {final : List ℕ} → Extends chainForm chainForm Uncalled p j start table (s .syntax) answer final
+        → Says chainForm Uncalled p i start table answer final
+    go (extends-done rest) = says-done (success-extended s rest)
+    go (extends-bad rest) = says-bad (success-dies s rest)
 
 -- `operand`: a Chain, and operators behind it
 pub operand-all : {Past : Part → ℕ → Syntax → Type 0} {target : Bool} {least : ℕ} {p : Part} {i start j n : ℕ} {table middle final : List ℕ}
@@ -112,23 +123,43 @@ pub operand-all : {Past : Part → ℕ → Syntax → Type 0} {target : Bool} {l
 operand-all s (extends-done rest) = says-done (operand-done s rest)
 operand-all s (extends-bad rest) = says-bad (success-dies s rest)
 
--- `expr`: the same, or a Chain, `=` and an Assign
-module _ {p : Part} (fine : Fine p) {i start j n : ℕ} {table middle : List ℕ} {Past : Part → ℕ → Syntax → Type 0}
-    (s : Success chainForm Past p i start table j n middle) where
-  pub expr-operators : {answer : Parsed} {final : List ℕ}
-      → Extends (operandForm 1 p j) (binaryForm 1) (Ended 1) p j start table (s .syntax) answer final
-      → Says assignForm (Ended 1) p i start table answer final
-  expr-operators (extends-done rest) = says-done (assign-operators fine i start table s rest)
-  expr-operators (extends-bad rest) = says-bad (assign-operators-fails fine i start table s rest)
+-- `operators`: the same, behind a Chain that no `=` follows
+pub operators-complete : {p : Part} → Fine p → {j start n : ℕ} {middle : List ℕ} {answer : Parsed} {final : List ℕ}
+    → Operated 1 p j start n middle answer final → (classAt (p .text) (p .cells) j ≡ assign → ⊥) → Completes p j start n middle answer final
+operators-complete {p} fine {j} {start} operated no-assign i table s =
+    go (operated table (s .syntax) true (s .count-is) (s .cells-are) (s .past) (λ is. absurd (no-assign is)))
+  where
+    go : {answer : Parsed} {final : List ℕ} → Extends (operandForm 1 p j) (binaryForm 1) (Ended 1) p j start table (s .syntax) answer final
+        → Says assignForm (Ended 1) p i start table answer final
+    go (extends-done rest) = says-done (assign-operators fine i start table s rest)
+    go (extends-bad rest) = says-bad (assign-operators-fails fine i start table s rest)
 
-  pub expr-value : {class : ℕ} → class ≡ classAt (p .text) (p .cells) j → class ≡ assign → {k m all : ℕ} {after final : List ℕ}
-      → Success assignForm (Ended 1) p (j + 1) n middle k m after → all ≡ m + 1
-      → final ≡ putRecord after m assign (p .base + j) (m - start + 1) → Says assignForm (Ended 1) p i start table (Done k all) final
-  expr-value is equals value number written = rw (number, written) (says-done (assign-value fine i start table s (sym is ∙ equals) value))
+-- `assigned`: `=` and an Assign behind a Chain
+module _ {p : Part} (fine : Fine p) {j : ℕ} (equals : classAt (p .text) (p .cells) j ≡ assign) {start n : ℕ} {middle : List ℕ} where
+  pub assigned-value : {k m all : ℕ} {after final : List ℕ} → Success assignForm (Ended 1) p (j + 1) n middle k m after → all ≡ m + 1
+      → final ≡ putRecord after m assign (p .base + j) (m - start + 1) → Completes p j start n middle (Done k all) final
+  assigned-value value number written i table s = rw (number, written) (says-done (assign-value fine i start table s equals value))
 
-  pub expr-value-fails : {class : ℕ} → class ≡ classAt (p .text) (p .cells) j → class ≡ assign → {place : ℕ} {final : List ℕ}
-      → Fails assignForm p (j + 1) place → Says assignForm (Ended 1) p i start table (Bad place) final
-  expr-value-fails is equals fails = says-bad (assign-value-fails fine i start table s (sym is ∙ equals) fails)
+  pub assigned-fails : {place : ℕ} {final : List ℕ} → Fails assignForm p (j + 1) place → Completes p j start n middle (Bad place) final
+  assigned-fails fails i table s = says-bad (assign-value-fails fine i start table s equals fails)
+
+-- a loop from record `from` on has come to record i, with n records written: what the rest comes to, all of it comes to
+pub record Underway (p : Part) (from start : ℕ) (Rest Whole : Parsed → List ℕ → Type 0) (i n : ℕ) : Type 0 where
+  pub further : from ≤ i
+  pub within : i ≤ countOf (p .cells)
+  pub some : start ≤ n
+  pub few : n ≤ p .base + i
+  pub rest : (answer : Parsed) (final : List ℕ) → Rest answer final → Whole answer final
+
+pub begun : {p : Part} {i start n : ℕ} (Whole : Parsed → List ℕ → Type 0) → i ≤ countOf (p .cells) → n ≤ p .base + i → start ≤ n
+    → Underway p i start Whole Whole i n
+begun Whole within few some = record {
+  further = omega arith;
+  within = within;
+  some = some;
+  few = few;
+  rest = λ answer final all. all;
+}
 
 -- `binary`: no operator that binds so tight
 pub binary-none : {p : Part} {i start least count : ℕ} {middle : List ℕ} {class tightness : ℕ} → class ≡ classAt (p .text) (p .cells) i
@@ -160,41 +191,104 @@ module _ {p : Part} (fine : Fine p) {i least class : ℕ} (is : class ≡ classA
       extends-further once (λ place. operator-dies fine i (sym is) (omega arith) right)
       (rest table (once .syntax) target (added ∙ once .count-is) (put ∙ once .cells-are) (ended .uncalled) (ended .unassigned))
 
--- `calls`: a member
-module _ {p : Part} (fine : Fine p) {i class named : ℕ} (is : class ≡ classAt (p .text) (p .cells) i) (member : class ≡ dot)
-    (then : named ≡ classAt (p .text) (p .cells) (i + 1)) where
-  pub member-unnamed : (named ≡ name → ⊥) → {place : ℕ} → place ≡ placeAt (p .cells) (p .close) (i + 1)
-      → {left form : Form} {Past : Part → ℕ → Syntax → Type 0} {start : ℕ} {table final : List ℕ} {v : Syntax}
-      → Extends left form Past p i start table v (Bad place) final
-  member-unnamed no-name here = rw here (extends-bad (member-fails fine i (sym is ∙ member) (λ names. no-name (then ∙ names))))
+-- the loop of `binary`: where it ends, and its next turn
+module _ {p : Part} (fine : Fine p) {from start i n least class tightness : ℕ} {cells : List ℕ} {Whole : Parsed → List ℕ → Type 0}
+    (underway : Underway p from start (Operated least p i start n cells) Whole i n) (is : class ≡ classAt (p .text) (p .cells) i)
+    (tight : tightness ≡ precedence class) where
+  pub binary-ended : tightness < least → Whole (Done i n) cells
+  binary-ended loose = underway .rest _ _ (λ table v target. binary-none is tight loose (underway .within))
 
-  pub member-more : named ≡ name → (start all : ℕ) {count mark : ℕ} {middle written : List ℕ} → mark ≡ p .base + i + 1 → all ≡ count + 1
-      → written ≡ putRecord middle count memberSyntax mark (count - start + 1) → (answer : Parsed) (final : List ℕ)
-      → ((table : List ℕ) (v : Syntax) → all ≡ start + size v → written ≡ putSyntax table start v
-      → Extends chainForm chainForm Uncalled p (i + 2) start table v answer final)
-      → (table : List ℕ) (v : Syntax) → count ≡ start + size v → middle ≡ putSyntax table start v
-      → Extends chainForm chainForm Uncalled p i start table v answer final
-  member-more names start all {mark = mark} marked added put answer final rest table v number before =
-      let once = member-once fine i start table v number before (sym is ∙ member) (sym then ∙ names) mark marked in
-      extends-further once (λ place. member-dies fine i (sym is ∙ member) (sym then ∙ names))
-      (rest table (once .syntax) (added ∙ once .count-is) (put ∙ once .cells-are))
+  pub binary-broken : 1 ≤ least → least ≤ tightness → {place : ℕ} → Fails (binaryForm (tightness + 1)) p (i + 1) place → (final : List ℕ)
+      → Whole (Bad place) final
+  binary-broken some bound fails final =
+      underway .rest _ _ (λ table v target number written uncalled unassigned. binary-fails fine is tight some bound fails)
+
+  pub binary-again : 1 ≤ least → least ≤ tightness → {k m all : ℕ} {after written : List ℕ}
+      → Success (binaryForm (tightness + 1)) (EndedIn false (tightness + 1)) p (i + 1) n cells k m after → all ≡ m + 1
+      → written ≡ putRecord after m class (p .base + i) (m - start + 1) → Underway p from start (Operated least p k start all written) Whole k all
+  binary-again some bound s added put = record {
+    further = omega (arith, underway .further, s .few);
+    within = s .within;
+    some = omega (arith, underway .some, s .count-is);
+    few = omega (arith, underway .few, s .count-is, s .few);
+    rest = λ answer final rest.
+        underway .rest answer final
+        (λ table v target number before uncalled unassigned.
+        binary-more fine is tight some bound s start _ added put answer final rest table v target number before);
+  }
+
+-- the loop of `chain`: its next turn, and where it ends
+module _ {p : Part} {from start i n : ℕ} {cells : List ℕ} {Whole : Parsed → List ℕ → Type 0}
+    (underway : Underway p from start (Called p i start n cells) Whole i n) where
+  pub chain-again : {k m : ℕ} {after : List ℕ} → Linked p i start n cells k m after → Underway p from start (Called p k start m after) Whole k m
+  chain-again one = record {
+    further = omega (arith, underway .further, one .further);
+    within = one .within;
+    some = omega (arith, underway .some, one .more);
+    few = omega (arith, underway .few, one .few);
+    rest = λ answer final rest. underway .rest answer final (one .rest answer final rest);
+  }
+
+  pub chain-ended : Fine p → (classAt (p .text) (p .cells) i ≡ dot → ⊥) → (classAt (p .text) (p .cells) i ≡ openParen → ⊥) → Whole (Done i n) cells
+  chain-ended fine no-dot no-parens =
+      underway .rest _ _ (λ table v number written. extends-done (calls-none fine i start table v number written (underway .within) no-dot no-parens))
+
+-- the answer of `link`, taken apart
+module _ {p : Part} {i start count : ℕ} {cells : List ℕ} where
+  pub links-linked : {r : Parsed} {after : List ℕ} → Links p i start count cells r after → {j n : ℕ} → r ≡ Done j n
+      → Linked p i start count cells j n after
+  links-linked (links-on {j = k} {n = m} linked) {j} {n} e =
+      let a : k ≡ j = cc in
+      let b : m ≡ n = cc in
+      rw (a, b) at linked
+  links-linked (links-bad called) e = let z : _≡_ {A = ℕ} 0 1 = cc in absurd (omega arith)
+
+  pub links-called : {r : Parsed} {after : List ℕ} → Links p i start count cells r after → {place : ℕ} → r ≡ Bad place
+      → Called p i start count cells (Bad place) after
+  links-called (links-on linked) e = let z : _≡_ {A = ℕ} 0 1 = cc in absurd (omega arith)
+  links-called (links-bad {place = z} called) {place} e =
+      let a : z ≡ place = cc in
+      rw a at called
+
+-- `link`: a member
+module _ {p : Part} (fine : Fine p) {i class named : ℕ} (is : class ≡ classAt (p .text) (p .cells) i) (member : class ≡ dot)
+    (then : named ≡ classAt (p .text) (p .cells) (i + 1)) {start count : ℕ} {cells : List ℕ} where
+  pub member-unnamed : (named ≡ name → ⊥) → {place : ℕ} → place ≡ placeAt (p .cells) (p .close) (i + 1) → {final : List ℕ}
+      → Links p i start count cells (Bad place) final
+  member-unnamed no-name here =
+      rw here (links-bad (λ table v number written. extends-bad (member-fails fine i (sym is ∙ member) (λ names. no-name (then ∙ names)))))
+
+  pub member-linked : named ≡ name → {all mark : ℕ} {written : List ℕ} → mark ≡ p .base + i + 1 → all ≡ count + 1
+      → written ≡ putRecord cells count memberSyntax mark (count - start + 1) → Linked p i start count cells (i + 2) all written
+  member-linked names {mark = mark} marked added put = record {
+    further = omega arith;
+    within = omega (arith, class-within (p .text) (p .cells) (i + 1) (omega arith));
+    more = omega arith;
+    few = omega arith;
+    rest = λ answer final rest table v number before.
+        let once = member-once fine i start table v number before (sym is ∙ member) (sym then ∙ names) mark marked in
+        extends-further once (λ place. member-dies fine i (sym is ∙ member) (sym then ∙ names))
+        (rest table (once .syntax) (added ∙ once .count-is) (put ∙ once .cells-are));
+  }
 
 -- a call
-module _ {p : Part} (fine : Fine p) {i class : ℕ} (is : class ≡ classAt (p .text) (p .cells) i) (call : class ≡ openParen) {count : ℕ} {middle : List ℕ}
-    {answered : Parsed} {after : List ℕ} (filled : Fills assignForm closeParen (operandDue byParen true) p i count middle answered after) where
-  pub call-bad : {place : ℕ} → answered ≡ Bad place
-      → {left form : Form} {Past : Part → ℕ → Syntax → Type 0} {start : ℕ} {table final : List ℕ} {v : Syntax}
-      → Extends left form Past p i start table v (Bad place) final
-  call-bad bad = extends-bad (call-fails fine i (sym is ∙ call) (fills-dies filled bad))
+module _ {p : Part} (fine : Fine p) {i : ℕ} (call : classAt (p .text) (p .cells) i ≡ openParen) {start count : ℕ} {cells : List ℕ} {answered : Parsed}
+    {after : List ℕ} (filled : Fills assignForm closeParen (operandDue byParen true) p i count cells answered after) where
+  pub call-bad : {place : ℕ} → answered ≡ Bad place → {final : List ℕ} → Links p i start count cells (Bad place) final
+  call-bad bad = links-bad (λ table v number written. extends-bad (call-fails fine i call (fills-dies filled bad)))
 
-  pub call-more : {k m : ℕ} → answered ≡ Done k m → (start all : ℕ) {written : List ℕ} → all ≡ m + 1
-      → written ≡ putRecord after m callSyntax (p .base + i) (m - start + 1) → (answer : Parsed) (final : List ℕ)
-      → ((table : List ℕ) (v : Syntax) → all ≡ start + size v → written ≡ putSyntax table start v
-      → Extends chainForm chainForm Uncalled p k start table v answer final)
-      → (table : List ℕ) (v : Syntax) → count ≡ start + size v → middle ≡ putSyntax table start v
-      → Extends chainForm chainForm Uncalled p i start table v answer final
-  call-more done start all added put answer final rest table v number before =
+  pub call-linked : {k m : ℕ} → answered ≡ Done k m → {all : ℕ} {written : List ℕ} → all ≡ m + 1
+      → written ≡ putRecord after m callSyntax (p .base + i) (m - start + 1) → Linked p i start count cells k all written
+  call-linked done added put =
       let argument = fills-filled filled done in
-      let once = call-once fine i start table v number before (sym is ∙ call) argument in
-      extends-further once (λ place. call-dies fine i (sym is ∙ call) argument)
-      (rest table (once .syntax) (added ∙ once .count-is) (put ∙ once .cells-are))
+      let here = class-within (p .text) (p .cells) i (omega arith) in
+      record {
+        further = omega (arith, argument .few);
+        within = omega (arith, argument .next, fine .at i here .fits);
+        more = omega (arith, argument .count-is);
+        few = omega (arith, argument .count-is, argument .few);
+        rest = λ answer final rest table v number before.
+            let once = call-once fine i start table v number before call argument in
+            extends-further once (λ place. call-dies fine i call argument)
+            (rest table (once .syntax) (added ∙ once .count-is) (put ∙ once .cells-are));
+      }

@@ -87,7 +87,7 @@ module _ {p : Part} (fine : Fine p) (i : ℕ) (is : classAt (p .text) (p .cells)
   inside-as content end = rw (content, end) (inside-fine fine i (known-within fine i is tt))
 
   pub brace-measure : {cells : List ℕ} → cells ≡ contentOf (p .cells) i → {t : ℕ} → 32 * (countOf (p .cells) - i) + 1 ≡ t
-      → 32 * countOf cells + 9 < t
+      → 32 * countOf cells + 11 < t
   brace-measure content measure =
       let h = known-within fine i is tt in
       let f = fine .at i h in

@@ -3,16 +3,16 @@
 use Prim.Native.Nat.{ℕ, _+_, _/_, _≤_, _<_, max}
 use mathlib.Core.Path.{_≡_}
 use mathlib.Core.Bool.{Bool, true, false, _&&_, _||_}
-use mathlib.Core.List.{List, [], _∷_, _++_}
+use mathlib.Core.List.{List, _∷_, _++_}
 use lib.Dec.{T, eqb}
 use lib.ListN.{length}
 use Rattle.elements.specs.declared.Answer.{Answer}
 use Rattle.grammar.specs.Tokens.{Token, token, Spot, name, assign, colon, dot, openParen, closeParen, openBrace, closeBrace, returnWord, functionWord, ifWord}
 use Rattle.grammar.specs.Syntax.{Syntax, size, syntaxWidth, programTree}
 use Rattle.grammar.specs.Grammar.{Scope, body, block, precedence, Form, chainForm, binaryForm, assignForm, functionForm, statementForm, statementsForm, Derives, Program}
-use Rattle.grammar.specs.Machine.{endOfText, Ending, byParen, Role, Control, operandDue, operandDone, functionFirst, statementDue}
+use Rattle.grammar.specs.Machine.{endOfText, Ending, Role, Control, operandDue, operandDone, functionFirst, statementDue}
 use Rattle.parser.specs.Parts.{Part, inside, countOf, sizeAt, classAt, closerSpot, tokensAt}
-use Rattle.parser.specs.Follow.{Fate, died, follow, mayAssign}
+use Rattle.parser.specs.Follow.{died, follow, mayAssign}
 use Rattle.parser.specs.Written.{putSyntax}
 use Rattle.parser.specs.declared.Parsed.{Parsed}
 use Rattle.parser.specs.declared.Parsed.the-variants.{Done, Bad}
@@ -95,6 +95,35 @@ pub data Extends (left form : Form) (Past : Part → ℕ → Syntax → Type 0) 
 abbrev pub operandForm : ℕ → Part → ℕ → Form
 operandForm least p i = binaryForm (max least (precedence (classAt (p .text) (p .cells) i)))
 
+-- what calls and members come to, from record i on, behind a Chain whose records are those from `start` up to `count`
+abbrev pub Called : Part → ℕ → ℕ → ℕ → List ℕ → Parsed → List ℕ → Type 0
+Called p i start count cells answer final = (table : List ℕ) (v : Syntax) → count ≡ start + size v → cells ≡ putSyntax table start v
+    → Extends chainForm chainForm Uncalled p i start table v answer final
+
+-- one of them, to record j: what the rest comes to, all come to
+pub record Linked (p : Part) (i start count : ℕ) (cells : List ℕ) (j n : ℕ) (after : List ℕ) : Type 0 where
+  pub further : i < j
+  pub within : j ≤ countOf (p .cells)
+  pub more : count < n
+  pub few : n + i ≤ count + j
+  pub rest : (answer : Parsed) (final : List ℕ) → Called p j start n after answer final → Called p i start count cells answer final
+
+pub data Links (p : Part) (i start count : ℕ) (cells : List ℕ) : Parsed → List ℕ → Type 0 where
+  links-on : {j n : ℕ} {after : List ℕ} → Linked p i start count cells j n after → Links p i start count cells (Done j n) after
+  links-bad : {place : ℕ} {after : List ℕ} → Called p i start count cells (Bad place) after → Links p i start count cells (Bad place) after
+
+-- what operators of at least a precedence come to, from record i on, behind an operand whose records are those from `start` up to
+-- `count`, and that may be a target
+abbrev pub Operated : ℕ → Part → ℕ → ℕ → ℕ → List ℕ → Parsed → List ℕ → Type 0
+Operated least p i start count cells answer final = (table : List ℕ) (v : Syntax) (target : Bool) → count ≡ start + size v
+    → cells ≡ putSyntax table start v → Uncalled p i v → (classAt (p .text) (p .cells) i ≡ assign → target && mayAssign v ≡ false)
+    → Extends (operandForm least p i) (binaryForm least) (EndedIn target least) p i start table v answer final
+
+-- what stands from record j on makes an Assign of the Chain before it, whose records are those from `start` up to `count`
+abbrev pub Completes : Part → ℕ → ℕ → ℕ → List ℕ → Parsed → List ℕ → Type 0
+Completes p j start count cells answer final = (i : ℕ) (table : List ℕ) → Success chainForm Uncalled p i start table j count cells
+    → Says assignForm (Ended 1) p i start table answer final
+
 -- the inside of group i, whole: the form that it is, up to the closer of that class
 pub record Filled (form : Form) (class : ℕ) (p : Part) (i start : ℕ) (table : List ℕ) (j n : ℕ) (after : List ℕ) : Type 0 where
   pub syntax : Syntax
@@ -111,13 +140,23 @@ pub data Fills (form : Form) (class : ℕ) (control : Control) (p : Part) (i sta
       → ((behinds : List Control) (u : List Token) → follow control behinds (tokensAt (inside p i) 0 ++ (token class (closerSpot p i) ∷ u)) ≡ died place)
       → Fills form class control p i start table (Bad place) after
 
+-- labels stand from record i up to record j
+pub data Labelled (text cells : List ℕ) (i : ℕ) : ℕ → Type 0 where
+  labelled-none : Labelled text cells i i
+  labelled-more : {j : ℕ} → Labelled text cells i j → classAt text cells j ≡ name → classAt text cells (j + 1) ≡ colon
+      → Labelled text cells i (j + 2)
+
+-- and none stands at a record
+abbrev pub Unlabelled : List ℕ → List ℕ → ℕ → Type 0
+Unlabelled text cells i = classAt text cells i ≡ name → classAt text cells (i + 1) ≡ colon → ⊥
+
 -- an expression statement may start at a record: no other statement does
 pub record StartsExpression (p : Part) (i : ℕ) : Type 0 where
   pub no-brace : classAt (p .text) (p .cells) i ≡ openBrace → ⊥
   pub no-if : classAt (p .text) (p .cells) i ≡ ifWord → ⊥
   pub no-return : classAt (p .text) (p .cells) i ≡ returnWord → ⊥
   pub no-function : classAt (p .text) (p .cells) i ≡ functionWord → ⊥
-  pub no-label : classAt (p .text) (p .cells) i ≡ name → classAt (p .text) (p .cells) (i + 1) ≡ colon → ⊥
+  pub no-label : Unlabelled (p .text) (p .cells) i
 
 -- the scope of statements, by whether declarations are allowed
 abbrev pub scopeOf : Bool → Scope

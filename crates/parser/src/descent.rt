@@ -3,19 +3,16 @@
 // writes syntax records behind the first `count`; one that goes on behind an operand is told by `start` how many there were
 // before it.
 ghost use mathlib.Core.Path.{_≡_};
-ghost use mathlib.Core.Bool.{Bool, true, false, _&&_};
-ghost use mathlib.Core.List.{List};
-ghost use Prim.Native.Nat.{ℕ, _+_, _≤_, _<_};
-ghost use Rattle.grammar.specs.Tokens.{name, assign, openParen, closeParen, openBrace, closeBrace, colon, returnWord, functionWord, ifWord};
-ghost use Rattle.grammar.specs.Syntax.{Syntax, size};
+ghost use mathlib.Core.Bool.{true, false};
+ghost use Prim.Native.Nat.{_+_, _≤_, _<_};
+ghost use Rattle.grammar.specs.Tokens.{dot, assign, openParen, closeParen, openBrace, closeBrace, returnWord, functionWord, ifWord};
 ghost use Rattle.grammar.specs.Grammar.{chainForm, binaryForm, assignForm, functionForm, statementForm, statementsForm};
 ghost use Rattle.grammar.specs.Machine.{byParen, operandDue, statementDue};
 ghost use Rattle.parser.specs.Parts.{Fine, part, countOf, classAt};
-ghost use Rattle.parser.specs.Follow.{mayAssign};
-ghost use Rattle.parser.specs.Written.{putSyntax};
-ghost use Rattle.parser.specs.Says.{Anything, Uncalled, Ended, EndedIn, AtEnd, StartsExpression, Says, Extends, operandForm, Fills, scopeOf, Adds};
+ghost use Rattle.parser.specs.Says.{Anything, Uncalled, Ended, EndedIn, AtEnd, Says, Links, Operated, Completes, Fills, Unlabelled, StartsExpression, scopeOf, Adds};
 use crate::Parsed;
 use crate::classes;
+use crate::labels;
 use crate::parameter;
 use crate::parts;
 use crate::records;
@@ -35,24 +32,78 @@ fn expr(
     requires { ⌜ (at ≤ countOf (now trees)) × (count ≤ base + at) ⌝ }
     ensures { λ r. ⌜ Says assignForm (Ended 1) (part (now (text .entry)) (now (trees .entry)) base close) at count (now (syntax .entry)) r (now (syntax .exit)) ⌝ }
 {
-    let first = chain(text, trees, base, close, at, syntax, count);
+    let first = target(text, trees, base, close, at, syntax, count);
     match first {
         Parsed::Bad(place) => Parsed::Bad(place),
         Parsed::Done(next, n) => {
             let class = parts::class_at(text, trees, next);
-            if class != classes::ASSIGN {
-                return binary(text, trees, base, close, next, syntax, count, n, 1);
+            if class == classes::ASSIGN {
+                return assigned(text, trees, base, close, next, syntax, count, n);
             }
-            let value = expr(text, trees, base, close, next + 1, syntax, n);
-            match value {
-                Parsed::Bad(place) => Parsed::Bad(place),
-                Parsed::Done(end, m) => {
-                    let all = records::put(syntax, m, classes::ASSIGN, base + next, count);
-                    Parsed::Done(end, all)
-                }
-            }
+            operators(text, trees, base, close, next, syntax, count, n)
         }
     }
+}
+
+// A Chain, to which a value may be assigned. This, `assigned` and `operators` are functions of their own so that the compiler lets
+// their calls share a place on the stack: a run of assignments is as deep as it is long.
+fn target(
+    text: &[u8],
+    trees: &[u32],
+    base: usize,
+    close: usize,
+    at: usize,
+    syntax: &mut [u32],
+    count: usize,
+) -> Parsed
+    requires { ⌜ Fine (part (now text) (now trees) base close) ⌝ }
+    requires { ⌜ (at ≤ countOf (now trees)) × (count ≤ base + at) ⌝ }
+    ensures { λ r. ⌜ Says chainForm Uncalled (part (now (text .entry)) (now (trees .entry)) base close) at count (now (syntax .entry)) r (now (syntax .exit)) ⌝ }
+{
+    chain(text, trees, base, close, at, syntax, count)
+}
+
+// `=` and an Assign, behind a Chain.
+fn assigned(
+    text: &[u8],
+    trees: &[u32],
+    base: usize,
+    close: usize,
+    at: usize,
+    syntax: &mut [u32],
+    start: usize,
+    count: usize,
+) -> Parsed
+    requires { ⌜ Fine (part (now text) (now trees) base close) ⌝ }
+    requires { ⌜ (at ≤ countOf (now trees)) × (count ≤ base + at) × (start ≤ count) × (classAt (now text) (now trees) at ≡ assign) ⌝ }
+    ensures { λ r. ⌜ Completes (part (now (text .entry)) (now (trees .entry)) base close) at start count (now (syntax .entry)) r (now (syntax .exit)) ⌝ }
+{
+    let value = expr(text, trees, base, close, at + 1, syntax, count);
+    match value {
+        Parsed::Bad(place) => Parsed::Bad(place),
+        Parsed::Done(end, n) => {
+            let all = records::put(syntax, n, classes::ASSIGN, base + at, start);
+            Parsed::Done(end, all)
+        }
+    }
+}
+
+// Operators, each with its right operand, behind a Chain.
+fn operators(
+    text: &[u8],
+    trees: &[u32],
+    base: usize,
+    close: usize,
+    at: usize,
+    syntax: &mut [u32],
+    start: usize,
+    count: usize,
+) -> Parsed
+    requires { ⌜ Fine (part (now text) (now trees) base close) ⌝ }
+    requires { ⌜ (at ≤ countOf (now trees)) × (count ≤ base + at) × (start ≤ count) × (classAt (now text) (now trees) at ≡ assign → ⊥) ⌝ }
+    ensures { λ r. ⌜ Completes (part (now (text .entry)) (now (trees .entry)) base close) at start count (now (syntax .entry)) r (now (syntax .exit)) ⌝ }
+{
+    binary(text, trees, base, close, at, syntax, start, count, 1)
 }
 
 // Operators that bind at least as tight as `least`, each with its right operand, behind an operand.
@@ -69,30 +120,27 @@ fn binary(
 ) -> Parsed
     requires { ⌜ Fine (part (now text) (now trees) base close) ⌝ }
     requires { ⌜ (at ≤ countOf (now trees)) × (count ≤ base + at) × (start ≤ count) × (1 ≤ least) ⌝ }
-    ensures { λ r. ⌜ ((table : List ℕ) (v : Syntax) (target : Bool) → count ≡ start + size v → now (syntax .entry) ≡ putSyntax table start v → Uncalled (part (now (text .entry)) (now (trees .entry)) base close) at v → (classAt (now (text .entry)) (now (trees .entry)) at ≡ assign → (target && mayAssign v) ≡ false) → Extends (operandForm least (part (now (text .entry)) (now (trees .entry)) base close) at) (binaryForm least) (EndedIn target least) (part (now (text .entry)) (now (trees .entry)) base close) at start table v r (now (syntax .exit))) ⌝ }
+    ensures { λ r. ⌜ Operated least (part (now (text .entry)) (now (trees .entry)) base close) at start count (now (syntax .entry)) r (now (syntax .exit)) ⌝ }
 {
-    let class = parts::class_at(text, trees, at);
-    let precedence = classes::precedence(class);
-    if precedence < least {
-        return Parsed::Done(at, count);
-    }
-    let right = operand(
-        text,
-        trees,
-        base,
-        close,
-        at + 1,
-        syntax,
-        count,
-        precedence + 1,
-    );
-    match right {
-        Parsed::Bad(place) => Parsed::Bad(place),
-        Parsed::Done(next, n) => {
-            let all = records::put(syntax, n, class, base + at, start);
-            binary(text, trees, base, close, next, syntax, start, all, least)
+    let mut i = at;
+    let mut n = count;
+    let mut class = parts::class_at(text, trees, at);
+    let mut precedence = classes::precedence(class);
+    while least <= precedence {
+        let right = operand(text, trees, base, close, i + 1, syntax, n, precedence + 1);
+        match right {
+            Parsed::Bad(place) => {
+                return Parsed::Bad(place);
+            }
+            Parsed::Done(next, more) => {
+                n = records::put(syntax, more, class, base + i, start);
+                i = next;
+                class = parts::class_at(text, trees, i);
+                precedence = classes::precedence(class);
+            }
         }
     }
+    Parsed::Done(i, n)
 }
 
 // A Chain, with the operators behind it that bind at least as tight as `least`.
@@ -134,7 +182,59 @@ fn chain(
     let first = primary(text, trees, base, close, at, syntax, count);
     match first {
         Parsed::Bad(place) => Parsed::Bad(place),
-        Parsed::Done(next, n) => calls(text, trees, base, close, next, syntax, count, n),
+        Parsed::Done(behind, some) => {
+            let mut i = behind;
+            let mut n = some;
+            let mut class = parts::class_at(text, trees, behind);
+            while class == classes::DOT || class == classes::OPEN_PAREN {
+                let one = link(text, trees, base, close, i, syntax, count, n, class);
+                match one {
+                    Parsed::Bad(place) => {
+                        return Parsed::Bad(place);
+                    }
+                    Parsed::Done(next, more) => {
+                        i = next;
+                        n = more;
+                        class = parts::class_at(text, trees, i);
+                    }
+                }
+            }
+            Parsed::Done(i, n)
+        }
+    }
+}
+
+// One call or member behind a Chain, by the class of the record.
+fn link(
+    text: &[u8],
+    trees: &[u32],
+    base: usize,
+    close: usize,
+    at: usize,
+    syntax: &mut [u32],
+    start: usize,
+    count: usize,
+    class: u32,
+) -> Parsed
+    requires { ⌜ Fine (part (now text) (now trees) base close) ⌝ }
+    requires { ⌜ (at ≤ countOf (now trees)) × (count ≤ base + at) × (start ≤ count) × (class ≡ classAt (now text) (now trees) at) × ((class ≡ dot → ⊥) → class ≡ openParen) ⌝ }
+    ensures { λ r. ⌜ Links (part (now (text .entry)) (now (trees .entry)) base close) at start count (now (syntax .entry)) r (now (syntax .exit)) ⌝ }
+{
+    if class == classes::DOT {
+        let named = parts::class_at(text, trees, at + 1);
+        if named != classes::NAME {
+            return Parsed::Bad(parts::place_at(trees, close, at + 1));
+        }
+        let all = records::put(syntax, count, records::MEMBER, base + at + 1, start);
+        return Parsed::Done(at + 2, all);
+    }
+    let inner = group(text, trees, base, close, at, syntax, count);
+    match inner {
+        Parsed::Bad(place) => Parsed::Bad(place),
+        Parsed::Done(next, n) => {
+            let all = records::put(syntax, n, records::CALL, base + at, start);
+            Parsed::Done(next, all)
+        }
     }
 }
 
@@ -213,43 +313,6 @@ fn func_expr(
         Parsed::Done(next, n) => {
             let all = records::put(syntax, n, records::FUNCTION, base + at, count);
             Parsed::Done(next, all)
-        }
-    }
-}
-
-// `( Assign )` and `.` name, any number of times, behind the start of a Chain.
-fn calls(
-    text: &[u8],
-    trees: &[u32],
-    base: usize,
-    close: usize,
-    at: usize,
-    syntax: &mut [u32],
-    start: usize,
-    count: usize,
-) -> Parsed
-    requires { ⌜ Fine (part (now text) (now trees) base close) ⌝ }
-    requires { ⌜ (at ≤ countOf (now trees)) × (count ≤ base + at) × (start ≤ count) ⌝ }
-    ensures { λ r. ⌜ ((table : List ℕ) (v : Syntax) → count ≡ start + size v → now (syntax .entry) ≡ putSyntax table start v → Extends chainForm chainForm Uncalled (part (now (text .entry)) (now (trees .entry)) base close) at start table v r (now (syntax .exit))) ⌝ }
-{
-    let class = parts::class_at(text, trees, at);
-    if class == classes::DOT {
-        let named = parts::class_at(text, trees, at + 1);
-        if named != classes::NAME {
-            return Parsed::Bad(parts::place_at(trees, close, at + 1));
-        }
-        let all = records::put(syntax, count, records::MEMBER, base + at + 1, start);
-        return calls(text, trees, base, close, at + 2, syntax, start, all);
-    }
-    if class != classes::OPEN_PAREN {
-        return Parsed::Done(at, count);
-    }
-    let inner = group(text, trees, base, close, at, syntax, count);
-    match inner {
-        Parsed::Bad(place) => Parsed::Bad(place),
-        Parsed::Done(next, n) => {
-            let all = records::put(syntax, n, records::CALL, base + at, start);
-            calls(text, trees, base, close, next, syntax, start, all)
         }
     }
 }
@@ -393,7 +456,7 @@ fn block(
     }
 }
 
-// A statement.
+// A statement, behind its labels.
 fn stmt(
     text: &[u8],
     trees: &[u32],
@@ -405,6 +468,31 @@ fn stmt(
 ) -> Parsed
     requires { ⌜ Fine (part (now text) (now trees) base close) ⌝ }
     requires { ⌜ (at ≤ countOf (now trees)) × (count ≤ base + at) ⌝ }
+    ensures { λ r. ⌜ Says statementForm Anything (part (now (text .entry)) (now (trees .entry)) base close) at count (now (syntax .entry)) r (now (syntax .exit)) ⌝ }
+{
+    let first = labels::behind(text, trees, at);
+    let inner = plain_stmt(text, trees, base, close, first, syntax, count);
+    match inner {
+        Parsed::Bad(place) => Parsed::Bad(place),
+        Parsed::Done(next, n) => {
+            let all = labels::put_all(syntax, n, base, at, first, count);
+            Parsed::Done(next, all)
+        }
+    }
+}
+
+// A statement without a label.
+fn plain_stmt(
+    text: &[u8],
+    trees: &[u32],
+    base: usize,
+    close: usize,
+    at: usize,
+    syntax: &mut [u32],
+    count: usize,
+) -> Parsed
+    requires { ⌜ Fine (part (now text) (now trees) base close) ⌝ }
+    requires { ⌜ (at ≤ countOf (now trees)) × (count ≤ base + at) × Unlabelled (now text) (now trees) at ⌝ }
     ensures { λ r. ⌜ Says statementForm Anything (part (now (text .entry)) (now (trees .entry)) base close) at count (now (syntax .entry)) r (now (syntax .exit)) ⌝ }
 {
     let class = parts::class_at(text, trees, at);
@@ -419,12 +507,6 @@ fn stmt(
     }
     if class == classes::FUNCTION {
         return Parsed::Bad(parts::place_at(trees, close, at));
-    }
-    if class == classes::NAME {
-        let sign = parts::class_at(text, trees, at + 1);
-        if sign == classes::COLON {
-            return label(text, trees, base, close, at, syntax, count);
-        }
     }
     expr_stmt(text, trees, base, close, at, syntax, count)
 }
@@ -519,30 +601,6 @@ fn ret_stmt(
             }
             let all = records::put(syntax, n, records::FULL_RETURN, base + at, count);
             Parsed::Done(end + 1, all)
-        }
-    }
-}
-
-// name `:` statement.
-fn label(
-    text: &[u8],
-    trees: &[u32],
-    base: usize,
-    close: usize,
-    at: usize,
-    syntax: &mut [u32],
-    count: usize,
-) -> Parsed
-    requires { ⌜ Fine (part (now text) (now trees) base close) ⌝ }
-    requires { ⌜ (count ≤ base + at) × (classAt (now text) (now trees) at ≡ name) × (classAt (now text) (now trees) (at + 1) ≡ colon) ⌝ }
-    ensures { λ r. ⌜ Says statementForm Anything (part (now (text .entry)) (now (trees .entry)) base close) at count (now (syntax .entry)) r (now (syntax .exit)) ⌝ }
-{
-    let inner = stmt(text, trees, base, close, at + 2, syntax, count);
-    match inner {
-        Parsed::Bad(place) => Parsed::Bad(place),
-        Parsed::Done(next, n) => {
-            let all = records::put(syntax, n, records::LABEL, base + at, count);
-            Parsed::Done(next, all)
         }
     }
 }

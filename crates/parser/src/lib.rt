@@ -9,6 +9,7 @@ ghost use Rattle.parser.specs.Parameters.{parameterAt};
 
 mod classes;
 mod descent;
+mod labels;
 mod parts;
 mod records;
 
