@@ -25,6 +25,8 @@ const MOST_SYNTAX: usize = 16_385;
 const RECOGNISED: usize = 3_000;
 /// Cells behind each lent slice, which no call may touch.
 const GUARD: usize = 8;
+/// Stack with which every text parses.
+const LITTLE_STACK: usize = 1536 * 1024;
 
 type Answer = Result<usize, Fault>;
 
@@ -51,6 +53,24 @@ fn after<T: Copy + Default>(before: &[T], lent: usize, written: Option<&[T]>) ->
     }
     cells
 }
+
+/// Parses with the first cells of each table lent.
+#[cfg(parse)]
+fn parse(text: &[u8], trees: &mut [u32], lent: usize, syntax: &mut [u32], lent_syntax: usize) -> u64 {
+    unsafe { buldrekso_parse(text.as_ptr(), text.len(), trees.as_mut_ptr(), lent, syntax.as_mut_ptr(), lent_syntax) }
+}
+
+/// The same in a thread with little stack; one that runs out of it ends the program by a signal.
+#[cfg(parse)]
+fn parse_in_little_stack(text: &[u8], trees: &mut [u32], lent: usize, syntax: &mut [u32], lent_syntax: usize) -> u64 {
+    std::thread::scope(|scope| {
+        let run = std::thread::Builder::new().stack_size(LITTLE_STACK).spawn_scoped(scope, || parse(text, trees, lent, syntax, lent_syntax));
+        run.expect("a thread").join().expect("an answer")
+    })
+}
+
+#[cfg(parse)]
+type Parse = fn(&[u8], &mut [u32], usize, &mut [u32], usize) -> u64;
 
 struct Comparison {
     grammar: Grammar,
@@ -114,7 +134,7 @@ impl Comparison {
     }
 
     #[cfg(parse)]
-    fn parse(&mut self, text: &[u8], syntax: &Result<Vec<[u32; 3]>, usize>, lent: usize, lent_syntax: usize) {
+    fn parse(&mut self, call: Parse, text: &[u8], syntax: &Result<Vec<[u32; 3]>, usize>, lent: usize, lent_syntax: usize) {
         self.calls += 1;
         let expected: Result<(Vec<u32>, Vec<u32>), Fault> = reading(text, lent / 5).and_then(|reading| match syntax {
             Err(place) => Err((13, *place)),
@@ -123,7 +143,7 @@ impl Comparison {
         });
         let (before, before_syntax) = (self.garbage(lent), self.garbage(lent_syntax));
         let (mut cells, mut cells_syntax) = (before.clone(), before_syntax.clone());
-        let got = unsafe { buldrekso_parse(text.as_ptr(), text.len(), cells.as_mut_ptr(), lent, cells_syntax.as_mut_ptr(), lent_syntax) };
+        let got = call(text, &mut cells, lent, &mut cells_syntax, lent_syntax);
         let answer = packed(expected.as_ref().map(|(_, syntax)| syntax.len() / 3).map_err(|fault| *fault));
         let right = after(&before, lent, expected.as_ref().ok().map(|(trees, _)| &trees[..]));
         let right_syntax = after(&before_syntax, lent_syntax, expected.as_ref().ok().map(|(_, syntax)| &syntax[..]));
@@ -234,16 +254,16 @@ impl Comparison {
         {
             let records = 3 * syntax.as_ref().map_or(needed / 5 + 1, Vec::len);
             let (more, less) = (self.random.below(9), 1 + self.random.below(7));
-            self.parse(text, &syntax, needed, records);
-            self.parse(text, &syntax, needed, records.saturating_sub(1));
-            self.parse(text, &syntax, needed.saturating_sub(1), records + more);
-            self.parse(text, &syntax, needed + more, records.saturating_sub(less));
+            self.parse(parse, text, &syntax, needed, records);
+            self.parse(parse, text, &syntax, needed, records.saturating_sub(1));
+            self.parse(parse, text, &syntax, needed.saturating_sub(1), records + more);
+            self.parse(parse, text, &syntax, needed + more, records.saturating_sub(less));
             if thorough {
                 for lent_syntax in 0..=records + 4 {
-                    self.parse(text, &syntax, needed + less, lent_syntax);
+                    self.parse(parse, text, &syntax, needed + less, lent_syntax);
                 }
                 for lent in lengths {
-                    self.parse(text, &syntax, lent, records + more);
+                    self.parse(parse, text, &syntax, lent, records + more);
                 }
             }
         }
@@ -353,6 +373,20 @@ impl Comparison {
     }
 }
 
+#[cfg(parse)]
+impl Comparison {
+    /// The longest runs and the deepest groups parse in little stack.
+    fn runs(&mut self) -> usize {
+        let runs = texts::longest_runs();
+        for (name, text) in &runs {
+            let reading = reading(text, usize::MAX).unwrap_or_else(|fault| panic!("{name} is refused: {fault:?}"));
+            let syntax = self.syntax(text, &reading.elements);
+            self.parse(parse_in_little_stack, text, &syntax, 5 * reading::MOST_TREES, 3 * MOST_SYNTAX);
+        }
+        runs.len()
+    }
+}
+
 fn first<T: PartialEq + std::fmt::Debug>(right: &[T], cells: &[T]) -> String {
     match (0..right.len()).find(|&index| right[index] != cells[index]) {
         Some(index) => format!("cell {index} should be {:?} and is {:?}", right[index], cells[index]),
@@ -368,6 +402,8 @@ fn compare(number: usize) -> bool {
     comparison.sequences(4);
     comparison.random_texts(number);
     comparison.long_texts(number / 2000);
+    #[cfg(parse)]
+    println!("parsed in {LITTLE_STACK} bytes of stack,{}", comparison.runs());
     println!("texts,{}", comparison.texts);
     println!("programs,{}", comparison.programs);
     println!("calls,{}", comparison.calls);
