@@ -3,8 +3,8 @@ use mathlib.Core.Path.{_≡_}
 use Prim.Native.Nat.{ℕ}
 use mathlib.Core.Bool.{Bool}
 use native.Mathlib.Omega.{arith}
-use Rattle.elements.specs.declared.gaps.Gap.{Gap}
-use Rattle.elements.specs.declared.literals.Literal.{Literal}
+use Rattle.gaps.specs.declared.Gap.{Gap}
+use Rattle.literals.specs.declared.Literal.{Literal}
 use Rattle.elements.specs.declared.Element.{Element}
 use Rattle.elements.specs.declared.Next.{Next}
 

@@ -16,10 +16,10 @@ use Rattle.words.specs.Words.{wordNumber, taken}
 use Rattle.signs.specs.Signs.{longestSign}
 use Rattle.signs.specs.declared.Longest.{Longest}
 use Rattle.signs.proofs.Laws.{longest-own}
-use Rattle.elements.specs.Faults.{badNumber}
-use Rattle.elements.specs.Numbers.{numberFrom}
-use Rattle.elements.specs.Strings.{quote, stringRest}
-use Rattle.elements.specs.Patterns.{patternRest}
+use Rattle.answers.specs.Faults.{badNumber}
+use Rattle.literals.specs.Numbers.{numberFrom}
+use Rattle.literals.specs.Strings.{quote, stringRest}
+use Rattle.literals.specs.Patterns.{patternRest}
 use Rattle.elements.specs.Elements.{
   element,
   literal,
@@ -36,7 +36,7 @@ use Rattle.elements.specs.Elements.{
   signKind,
   delimiterKind,
 }
-use Rattle.elements.specs.declared.literals.Literal.{Literal}
+use Rattle.literals.specs.declared.Literal.{Literal}
 use Rattle.elements.specs.declared.Element.{Element}
 use Rattle.elements.specs.declared.Next.{Next}
 use Rattle.elements.proofs.Choices.{cond-both, cond-known, cond-follow}

@@ -13,13 +13,13 @@ use Rattle.words.specs.Words.{wordNumber, taken}
 use Rattle.signs.specs.Signs.{longestSign}
 use Rattle.signs.specs.declared.Longest.{Longest}
 use Rattle.signs.proofs.Legal.{legal-single}
-use Rattle.elements.specs.Gaps.{gap}
-use Rattle.elements.specs.Numbers.{numberFrom}
-use Rattle.elements.specs.Strings.{quote, stringRest}
-use Rattle.elements.specs.Patterns.{patternRest}
+use Rattle.gaps.specs.Gaps.{gap}
+use Rattle.literals.specs.Numbers.{numberFrom}
+use Rattle.literals.specs.Strings.{quote, stringRest}
+use Rattle.literals.specs.Patterns.{patternRest}
 use Rattle.elements.specs.Elements.{literal, named, delimiter, signOrStray, elementFrom, afterGap, elementAt, delimiterKind, numberKind, stringKind, patternKind, signKind}
-use Rattle.elements.specs.declared.gaps.Gap.{Gap}
-use Rattle.elements.specs.declared.literals.Literal.{Literal}
+use Rattle.gaps.specs.declared.Gap.{Gap}
+use Rattle.literals.specs.declared.Literal.{Literal}
 use Rattle.elements.specs.declared.Element.{Element}
 use Rattle.elements.specs.declared.Next.{Next}
 use Rattle.elements.proofs.Choices.{cond-both, cond-known}

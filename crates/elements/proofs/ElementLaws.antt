@@ -16,10 +16,10 @@ use Rattle.text.proofs.Lists.{drop-at}
 use Rattle.words.specs.Words.{wordNumber, taken}
 use Rattle.signs.specs.Signs.{longestSign}
 use Rattle.signs.specs.declared.Longest.{Longest}
-use Rattle.elements.specs.Faults.{stray, badNumber, barredWord, barredSign}
-use Rattle.elements.specs.Numbers.{numberFrom}
-use Rattle.elements.specs.Strings.{quote, stringRest}
-use Rattle.elements.specs.Patterns.{patternRest}
+use Rattle.answers.specs.Faults.{stray, badNumber, barredWord, barredSign}
+use Rattle.literals.specs.Numbers.{numberFrom}
+use Rattle.literals.specs.Strings.{quote, stringRest}
+use Rattle.literals.specs.Patterns.{patternRest}
 use Rattle.elements.specs.Elements.{
   element,
   literal,

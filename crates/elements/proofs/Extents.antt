@@ -9,12 +9,12 @@ use lib.ListN.{length, getD}
 use Rattle.text.specs.Quoted.{byte}
 use Rattle.text.specs.Bytes.{blank, lineEnd, illegal, digit, nameByte}
 use Rattle.text.proofs.Laws.{run-le, run-some}
-use Rattle.elements.specs.Gaps.{gap, afterSlash, inLine, inBlock}
-use Rattle.elements.specs.Numbers.{numberLength, numberFrom, spoilsNumber}
-use Rattle.elements.specs.Strings.{stringRest, backslash}
-use Rattle.elements.specs.Patterns.{patternRest}
-use Rattle.elements.specs.declared.gaps.Gap.{Gap}
-use Rattle.elements.specs.declared.literals.Literal.{Literal}
+use Rattle.gaps.specs.Gaps.{gap, afterSlash, inLine, inBlock}
+use Rattle.literals.specs.Numbers.{numberLength, numberFrom, spoilsNumber}
+use Rattle.literals.specs.Strings.{stringRest, backslash}
+use Rattle.literals.specs.Patterns.{patternRest}
+use Rattle.gaps.specs.declared.Gap.{Gap}
+use Rattle.literals.specs.declared.Literal.{Literal}
 use Rattle.elements.proofs.Choices.{cond-both}
 
 -- a fault from lo to before hi, whose number is one of elements or comments

@@ -17,11 +17,11 @@ use Rattle.words.proofs.FirstBytes.{eachWord, word-first}
 use Rattle.signs.specs.Signs.{signs, longestSign}
 use Rattle.signs.specs.declared.Longest.{Longest}
 use Rattle.signs.proofs.FirstBytes.{eachLegal, legal-first}
-use Rattle.elements.specs.Numbers.{numberFrom}
-use Rattle.elements.specs.Strings.{quote, stringRest}
-use Rattle.elements.specs.Patterns.{patternRest}
+use Rattle.literals.specs.Numbers.{numberFrom}
+use Rattle.literals.specs.Strings.{quote, stringRest}
+use Rattle.literals.specs.Patterns.{patternRest}
 use Rattle.elements.specs.Elements.{literal, named, delimiter, signOrStray, elementFrom, elementAt, wordKind, numberKind, stringKind, patternKind, signKind}
-use Rattle.elements.specs.declared.literals.Literal.{Literal}
+use Rattle.literals.specs.declared.Literal.{Literal}
 use Rattle.elements.specs.declared.Element.{Element}
 use Rattle.elements.specs.declared.Next.{Next}
 use Rattle.elements.proofs.Choices.{cond-both, cond-known}

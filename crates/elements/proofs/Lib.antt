@@ -1,7 +1,3 @@
-pub mod GapLaws
-pub mod StringLaws
-pub mod PatternLaws
-pub mod NumberLaws
 pub mod ElementLaws
 pub mod Choices
 pub mod Clashes

@@ -10,9 +10,9 @@ use lib.ListN.{length, take, drop, length-drop}
 use lib.Seq.{drop-at, drop-drop, drop-append-seam, take-add, length-take-le}
 use Rattle.text.specs.Quoted.{byte}
 use Rattle.text.specs.Bytes.{blank, lineEnd, illegal}
-use Rattle.elements.specs.Gaps.{gap, afterSlash, inLine, inBlock}
+use Rattle.gaps.specs.Gaps.{gap, afterSlash, inLine, inBlock}
 use Rattle.elements.specs.Elements.{element, elementFrom, afterGap, elementAt}
-use Rattle.elements.specs.declared.gaps.Gap.{Gap}
+use Rattle.gaps.specs.declared.Gap.{Gap}
 use Rattle.elements.specs.declared.Element.{Element}
 use Rattle.elements.specs.declared.Next.{Next}
 use Rattle.elements.proofs.Choices.{cond-both, cond-known}

@@ -13,10 +13,10 @@ use Rattle.text.specs.Runs.{run}
 use Rattle.words.specs.Words.{wordNumber, taken}
 use Rattle.signs.specs.Signs.{longestSign}
 use Rattle.signs.specs.declared.Longest.{Longest}
-use Rattle.elements.specs.Gaps.{gap, afterSlash, inLine, inBlock}
-use Rattle.elements.specs.Numbers.{numberFrom}
-use Rattle.elements.specs.Strings.{quote, stringRest}
-use Rattle.elements.specs.Patterns.{patternRest}
+use Rattle.gaps.specs.Gaps.{gap, afterSlash, inLine, inBlock}
+use Rattle.literals.specs.Numbers.{numberFrom}
+use Rattle.literals.specs.Strings.{quote, stringRest}
+use Rattle.literals.specs.Patterns.{patternRest}
 use Rattle.elements.specs.Elements.{
   literal,
   named,
@@ -28,11 +28,11 @@ use Rattle.elements.specs.Elements.{
   stringKind,
   patternKind,
 }
-use Rattle.elements.specs.declared.gaps.Gap.{Gap}
-use Rattle.elements.specs.declared.literals.Literal.{Literal}
+use Rattle.gaps.specs.declared.Gap.{Gap}
+use Rattle.literals.specs.declared.Literal.{Literal}
 use Rattle.elements.specs.declared.Next.{Next}
 use Rattle.elements.proofs.Choices.{cond-map}
-use Rattle.elements.proofs.GapLaws.{gap-blank, gap-line-end}
+use Rattle.gaps.proofs.GapLaws.{gap-blank, gap-line-end}
 
 -- an answer whose element, if it has one, stands behind a line end
 abbrev pub lined : Next → Next

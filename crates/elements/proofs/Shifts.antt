@@ -14,16 +14,16 @@ use Rattle.text.specs.Quoted.{byte}
 use Rattle.text.specs.Bytes.{blank, lineEnd, illegal, digit, nameByte, letter}
 use Rattle.text.specs.Runs.{run}
 use Rattle.text.proofs.Laws.{run-own}
-use Rattle.elements.specs.Gaps.{gap, afterSlash, inLine, inBlock}
-use Rattle.elements.specs.Numbers.{numberLength, numberFrom, spoilsNumber}
-use Rattle.elements.specs.Strings.{stringRest, backslash}
-use Rattle.elements.specs.Patterns.{patternRest}
-use Rattle.elements.specs.declared.gaps.Gap.{Gap}
-use Rattle.elements.specs.declared.literals.Literal.{Literal}
+use Rattle.gaps.specs.Gaps.{gap, afterSlash, inLine, inBlock}
+use Rattle.literals.specs.Numbers.{numberLength, numberFrom, spoilsNumber}
+use Rattle.literals.specs.Strings.{stringRest, backslash}
+use Rattle.literals.specs.Patterns.{patternRest}
+use Rattle.gaps.specs.declared.Gap.{Gap}
+use Rattle.literals.specs.declared.Literal.{Literal}
 use Rattle.elements.proofs.Choices.{cond-both, cond-follow}
 use Rattle.elements.proofs.Clashes.{no-gap, no-literal}
 use Rattle.elements.proofs.Extents.{gap-reach, line-reach, block-reach, string-reach, pattern-reach}
-use Rattle.elements.proofs.GapLaws.{line-end-cases}
+use Rattle.gaps.proofs.GapLaws.{line-end-cases}
 
 or-cases : (P : Type 0) (a b : Bool) → (a ≡ true → P) → (b ≡ true → P) → (a || b) ≡ true → P
 or-cases P true b f g e = f refl

@@ -1,58 +1,25 @@
-// The cutting of a text into elements: the element at a place under a stated slash answer. And the answer of reading,
-// respacing and parsing.
+// The cutting of a text into elements: the element at a place under a stated slash answer.
 ghost use mathlib.Core.Path.{_≡_};
 ghost use mathlib.Core.Bool.{_&&_};
 ghost use Prim.Native.Nat.{_+_, _<_};
 ghost use lib.Dec.{eqb};
 ghost use lib.ListN.{length, drop, getD};
 ghost use Rattle.text.specs.Bytes.{digit};
-ghost use Rattle.elements.specs.Answers.{numberOf, valueOf};
 ghost use Rattle.elements.specs.Elements.{literal, named, delimiter, signOrStray, elementFrom, elementAt};
 ghost use Rattle.signs.specs.Signs.{longestSign};
 
-pub mod faults;
-pub mod gaps;
-pub mod literals;
-mod numbers;
-mod patterns;
-mod strings;
 pub mod walk;
 
-use faults::BAD_NUMBER;
-use faults::BARRED_SIGN;
-use faults::BARRED_WORD;
-use faults::STRAY;
+use answers::faults::BAD_NUMBER;
+use answers::faults::BARRED_SIGN;
+use answers::faults::BARRED_WORD;
+use answers::faults::STRAY;
 use gaps::Gap;
 use literals::Literal;
+use literals::numbers;
+use literals::patterns;
+use literals::strings;
 use signs::Longest;
-
-// What a call answers: accepted with its count, or refused with the number of document 01's table and a place.
-pub enum Answer {
-    Accepted(usize),
-    Refused(u32, usize),
-}
-
-impl Answer {
-    // The number of the table's row; 0 where the answer is accepted.
-    pub fn number(self) -> u32
-        ensures { λ r. ⌜ r ≡ numberOf self ⌝ }
-    {
-        match self {
-            Answer::Accepted(_) => 0,
-            Answer::Refused(number, _) => number,
-        }
-    }
-
-    // The count where the answer is accepted, else the place.
-    pub fn value(self) -> usize
-        ensures { λ r. ⌜ r ≡ valueOf self ⌝ }
-    {
-        match self {
-            Answer::Accepted(count) => count,
-            Answer::Refused(_, place) => place,
-        }
-    }
-}
 
 // The kinds of elements, as document 01 numbers those of its tree records. A delimiter's group has a kind of its own.
 pub const DELIMITER: u32 = 0;

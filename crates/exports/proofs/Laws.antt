@@ -3,7 +3,7 @@ use mathlib.Core.Path.{_≡_, refl}
 use mathlib.Core.List.{List}
 use Prim.Native.Nat.{ℕ, _<_, _^_}
 use native.Mathlib.Omega.{arith}
-use Rattle.elements.specs.Answers.{valueOf}
+use Rattle.answers.specs.Answers.{valueOf}
 use Rattle.prefix.specs.Reading.{Reading, accepted, refused}
 use Rattle.reader.specs.Read.{readingFor, answerOf}
 use Rattle.reader.proofs.Theorems.{refused-place, accepted-count}

@@ -1,7 +1,7 @@
 -- An answer as one number, for callers from other languages.
 use Prim.Native.Nat.{ℕ, _+_, _*_, _^_}
-use Rattle.elements.specs.Answers.{numberOf, valueOf}
-use Rattle.elements.specs.declared.Answer.{Answer}
+use Rattle.answers.specs.Answers.{numberOf, valueOf}
+use Rattle.answers.specs.declared.Answer.{Answer}
 
 -- the count of an accepted answer; the number times 2^32 and the place of a refused one
 abbrev pub packed : Answer → ℕ

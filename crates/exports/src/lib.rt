@@ -2,12 +2,12 @@
 ghost use mathlib.Core.Path.{_≡_};
 ghost use Prim.Native.Nat.{_<_, _^_};
 ghost use lib.ListN.{length};
-ghost use Rattle.elements.specs.Answers.{valueOf};
+ghost use Rattle.answers.specs.Answers.{valueOf};
 ghost use Rattle.reader.specs.Read.{readingFor, answerOf, tableAfter};
 ghost use Rattle.respacer.specs.Respace.{respacingFor, outputAfter};
 ghost use Rattle.parser.specs.Parse.{parsingFor, treesAfter, syntaxAfter};
 ghost use Rattle.exports.specs.Packed.{packed};
-use elements::Answer;
+use answers::Answer;
 
 // An answer as one number.
 fn pack(answer: Answer) -> u64

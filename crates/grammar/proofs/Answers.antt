@@ -8,9 +8,9 @@ use native.Mathlib.Omega.{arith}
 use lib.Dec.{eqb}
 use lib.ListN.{getD, drop}
 use Rattle.text.specs.Quoted.{byte}
-use Rattle.elements.specs.Gaps.{gap}
+use Rattle.gaps.specs.Gaps.{gap}
 use Rattle.elements.specs.Elements.{elementAt, slashAfter, slashMet, patternKind}
-use Rattle.elements.specs.declared.gaps.Gap.{Gap}
+use Rattle.gaps.specs.declared.Gap.{Gap}
 use Rattle.elements.specs.declared.Element.{Element}
 use Rattle.elements.specs.declared.Next.{Next}
 use Rattle.elements.proofs.OwnBytes.{found-gap}

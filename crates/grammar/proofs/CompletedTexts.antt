@@ -9,8 +9,8 @@ use Rattle.text.specs.Bytes.{blank, lineEnd, illegal, letter, digit, nameByte}
 use Rattle.text.specs.Runs
 use Rattle.words.specs.Words.{placeIn, wordNumber, taken}
 use Rattle.signs.specs.Signs.{longestSign, longestOf}
-use Rattle.elements.specs.Gaps.{gap, afterSlash, inLine, inBlock}
-use Rattle.elements.specs.Strings.{quote}
+use Rattle.gaps.specs.Gaps.{gap, afterSlash, inLine, inBlock}
+use Rattle.literals.specs.Strings.{quote}
 use Rattle.elements.specs.Elements.{elementAt, elementFrom, named, delimiter}
 use Rattle.elements.specs.declared.Element.{Element}
 use Rattle.elements.specs.declared.Next.{Next}

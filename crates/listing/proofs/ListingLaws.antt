@@ -10,7 +10,7 @@ use lib.ListN.{length, getD, take, drop, replicate, length-append, length-drop, 
 use lib.Seq.{drop-drop, take-append-le, drop-append-le}
 use Rattle.text.specs.Quoted.{byte, bytes}
 use Rattle.text.proofs.Lists.{drop-at}
-use Rattle.elements.specs.declared.Answer.{Answer}
+use Rattle.answers.specs.declared.Answer.{Answer}
 use Rattle.prefix.specs.Trees.{count}
 use Rattle.prefix.specs.Reading.{Reading, accepted, refused}
 use Rattle.reader.specs.Records.{treeWidth, records}

@@ -12,7 +12,7 @@ ghost use Rattle.listing.specs.Writing.{Adds};
 mod numbers;
 mod writing;
 
-use elements::Answer;
+use answers::Answer;
 use reader::records::TreeRecord;
 
 // The bytes that a listed text has at most.

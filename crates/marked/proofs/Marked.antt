@@ -5,10 +5,10 @@ use Rattle.text.specs.Bytes.{blank, lineEnd, illegal, letter, digit, nameByte}
 use Rattle.text.specs.Runs
 use Rattle.words.specs.Words.{placeIn, wordNumber, taken}
 use Rattle.signs.specs.Signs.{longestSign, longestOf}
-use Rattle.elements.specs.Gaps.{gap}
-use Rattle.elements.specs.Numbers.{numberFrom}
-use Rattle.elements.specs.Strings.{quote, stringRest}
-use Rattle.elements.specs.Patterns.{patternRest}
+use Rattle.gaps.specs.Gaps.{gap}
+use Rattle.literals.specs.Numbers.{numberFrom}
+use Rattle.literals.specs.Strings.{quote, stringRest}
+use Rattle.literals.specs.Patterns.{patternRest}
 use Rattle.elements.specs.Elements.{elementAt, elementFrom, named, delimiter}
 use Rattle.prefix.specs.Trees.{count}
 use Rattle.prefix.specs.Rule.{elementClass, groupClass, backwards, opensObject, opensPattern}

@@ -5,7 +5,7 @@ use mathlib.Core.Bool.{Bool, false}
 use Prim.Native.Nat.{ℕ, _≤_}
 use native.Mathlib.Omega.{arith}
 use lib.ListN.{length}
-use Rattle.elements.specs.Answers.{valueOf}
+use Rattle.answers.specs.Answers.{valueOf}
 use Rattle.elements.specs.declared.Element.{Element}
 use Rattle.elements.proofs.Bounds.{found-placed}
 use Rattle.reader.specs.Read.{mostBytes, readLimits}

@@ -8,7 +8,7 @@ use borrow.Author.Tests.{leb-true, leb-false, le-leb, lt-leb}
 use lib.Dec.{leb}
 use lib.ListN.{length, take, drop, replicate, length-append}
 use lib.Seq.{take-at}
-use Rattle.elements.specs.declared.Answer.{Answer}
+use Rattle.answers.specs.declared.Answer.{Answer}
 use Rattle.prefix.specs.Trees.{Trees, count}
 use Rattle.prefix.specs.Reading.{Reading, accepted, refused, reading}
 use Rattle.reader.specs.Records.{treeWidth, mostTrees, records}

@@ -8,7 +8,7 @@ use borrow.Author.Tests.{leb-true, leb-false, le-leb}
 use lib.Dec.{leb}
 use lib.ListN.{length, drop}
 use Rattle.elements.specs.declared.Element.{Element}
-use Rattle.elements.specs.declared.Answer.{Answer}
+use Rattle.answers.specs.declared.Answer.{Answer}
 use Rattle.prefix.specs.Trees.{Trees, count, deepest}
 use Rattle.prefix.specs.Reading.{Limits, Reading, accepted, refused, reading, unlimited, unlimitedReading}
 use Rattle.prefix.proofs.LimitLaws.{accepted-unlimited}

@@ -6,7 +6,7 @@ use mathlib.Core.Bool.{Bool, true, false, _&&_, _||_}
 use mathlib.Core.List.{List, _∷_, _++_}
 use lib.Dec.{T, eqb}
 use lib.ListN.{length}
-use Rattle.elements.specs.declared.Answer.{Answer}
+use Rattle.answers.specs.declared.Answer.{Answer}
 use Rattle.grammar.specs.Tokens.{Token, token, Spot, name, assign, colon, dot, openParen, closeParen, openBrace, closeBrace, returnWord, functionWord, ifWord}
 use Rattle.grammar.specs.Syntax.{Syntax, size, syntaxWidth, programTree}
 use Rattle.grammar.specs.Grammar.{Scope, body, block, precedence, Form, chainForm, binaryForm, assignForm, functionForm, statementForm, statementsForm, Derives, Program}

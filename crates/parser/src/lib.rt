@@ -13,7 +13,7 @@ mod labels;
 mod parts;
 mod records;
 
-use elements::Answer;
+use answers::Answer;
 use reader::records::TreeRecord;
 use records::SyntaxRecord;
 

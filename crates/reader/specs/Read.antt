@@ -4,7 +4,7 @@ use mathlib.Core.Bool.{cond}
 use mathlib.Core.List.{List, _++_}
 use lib.Dec.{leb}
 use lib.ListN.{length, drop, replicate}
-use Rattle.elements.specs.declared.Answer.{Answer}
+use Rattle.answers.specs.declared.Answer.{Answer}
 use Rattle.prefix.specs.Trees.{count}
 use Rattle.prefix.specs.Reading.{Limits, Reading, accepted, refused, reading}
 use Rattle.reader.specs.Records.{treeWidth, mostTrees, records}

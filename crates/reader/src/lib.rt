@@ -13,7 +13,7 @@ ghost use Rattle.reader.specs.Table.{recordIndex, openerPlace, Holds, So
 
 pub mod records;
 
-use elements::Answer;
+use answers::Answer;
 use elements::Element;
 use elements::Next;
 use prefix::Advanced;

@@ -8,8 +8,8 @@ mod print;
 mod spelling;
 mod table;
 
+use answers::Answer;
 use cases::Case;
-use elements::Answer;
 use libc::STDIN_FILENO;
 use outputs::BYTES;
 use spelling::MOST;

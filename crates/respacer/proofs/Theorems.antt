@@ -7,7 +7,7 @@ use native.Mathlib.Omega.{arith}
 use borrow.Author.Tests.{leb-true}
 use lib.Dec.{leb}
 use lib.ListN.{length, length-append}
-use Rattle.elements.specs.Answers.{valueOf}
+use Rattle.answers.specs.Answers.{valueOf}
 use Rattle.prefix.specs.Trees.{Trees, count, deepest}
 use Rattle.prefix.specs.Reading.{Reading, accepted, refused, reading, unlimitedReading, deep, treesFull}
 use Rattle.reader.specs.Records.{mostTrees}

@@ -3,7 +3,7 @@ use Prim.Native.Nat.{ℕ, _+_, _*_, _≤_}
 use mathlib.Core.Path.{_≡_}
 use mathlib.Core.List.{List, [], _++_}
 use lib.ListN.{length, take, drop}
-use Rattle.elements.specs.declared.Answer.{Answer}
+use Rattle.answers.specs.declared.Answer.{Answer}
 use Rattle.prefix.specs.Levels.{Levels, text, inside}
 use Rattle.prefix.specs.Reading.{Step, stop, more, Reading, accepted, refused}
 use Rattle.prefix.specs.Held.{Held}

@@ -13,7 +13,7 @@ ghost use Rattle.reader.specs.Records.{mostTrees};
 ghost use Rattle.reader.specs.Read.{mostBytes};
 ghost use Rattle.reader.specs.Table.{openerPlace};
 ghost use Rattle.respacer.specs.Written.{over, Writes, Turned, Told};
-use elements::Answer;
+use answers::Answer;
 use elements::Element;
 use prefix::Advanced;
 use prefix::State;

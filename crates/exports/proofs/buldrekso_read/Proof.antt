@@ -2,7 +2,7 @@
 use borrow.Author.Needs.{needs}
 use mathlib.Core.Path.{_≡_, ap, _∙_}
 use lib.ListN.{length}
-use Rattle.elements.specs.Answers.{valueOf}
+use Rattle.answers.specs.Answers.{valueOf}
 use Rattle.exports.specs.Packed.{packed}
 use Rattle.exports.proofs.Laws.{count-small}
 use borrow.Author.Needs.{needs}

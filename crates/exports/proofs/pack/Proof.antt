@@ -2,7 +2,7 @@
 use borrow.Author.Needs.{needs}
 use native.Mathlib.Omega.{arith}
 use mathlib.Core.Path.{_≡_, sym, ap}
-use Rattle.elements.specs.Answers.{valueOf}
+use Rattle.answers.specs.Answers.{valueOf}
 use Rattle.exports.specs.Packed.{packed}
 use borrow.Author.Needs.{needs}
 use Rattle.exports.proofs.pack.Statement.{statement}

@@ -1,0 +1,60 @@
+-- `comment_at` resumes the gap at a slash: the byte behind it tells which comment starts there, if any.
+use borrow.Author.Needs.{needs}
+use native.Mathlib.Omega.{arith}
+use mathlib.Core.Path.{_∙_}
+use Prim.Native.Nat.{_+_}
+use Rattle.gaps.proofs.GapLaws.{slash-last, slash-line, slash-block, slash-alone, not-before-less}
+use borrow.Author.Needs.{needs}
+use Rattle.gaps.proofs.comment_at.Statement.{statement}
+use Rattle.gaps.proofs.comment_at.Tie as tie
+
+add-if1 : tie.Need-add-if1
+add-if1 c = search needs
+
+returns : tie.Need-returns
+returns c = (λ line. slash-last _ _ line (omega arith) (c .before .before .pre .1) (c .if1 .taken), tt)
+
+add-b : tie.Need-add-b
+add-b c = search needs
+
+shared-slice-read-b : tie.Need-shared-slice-read-b
+shared-slice-read-b c = search needs
+
+line-comment-requires : tie.Need-line-comment-requires
+line-comment-requires c κs = search needs
+
+returns-2 : tie.Need-returns-2
+returns-2 c =
+    let s = c .before .before .before .before .before in (
+      λ line. slash-line _ _ line (omega arith) (s .pre .1) (omega arith) (omega arith) ∙ c .line-comment .ensures .0 line,
+      not-before-less (s .args .slash + 1) (s .args .slash + 2) (omega arith) (c .line-comment .result) (c .line-comment .ensures .1),
+    )
+
+block-comment-requires : tie.Need-block-comment-requires
+block-comment-requires c κs = search needs
+
+returns-3 : tie.Need-returns-3
+returns-3 c =
+    let s = c .before .before .before .before .before .before in (
+      λ line. slash-block _ _ line (omega arith) (s .pre .1) (omega arith) (omega arith) ∙ c .block-comment .ensures .0 line,
+      not-before-less (s .args .slash + 1) (s .args .slash + 2) (omega arith) (c .block-comment .result) (c .block-comment .ensures .1),
+    )
+
+returns-4 : tie.Need-returns-4
+returns-4 c =
+    let s = c .before .before .before .before .before in
+    (λ line. slash-alone _ _ line (omega arith) (s .pre .1) (omega arith) (omega arith) (omega arith), tt)
+
+pub comment-at-spec : {M : Type 1} → statement M
+comment-at-spec =
+    tie.close
+    (tie.spec
+    add-if1
+    returns
+    add-b
+    shared-slice-read-b
+    line-comment-requires
+    returns-2
+    block-comment-requires
+    returns-3
+    returns-4)

@@ -1,0 +1,75 @@
+-- `line_comment` resumes the gap where the `//` ends: the rest of the comment, from the place where the loop stands, is
+-- what is left to pass.
+use borrow.Author.Needs.{needs}
+use native.Mathlib.Omega.{arith}
+use mathlib.Core.Path.{_≡_, refl, sym, _∙_}
+use mathlib.Core.Bool.{Bool, or-false}
+use Prim.Native.Nat.{_+_, _-_, _≤_}
+use lib.ListN.{length, drop}
+use Rattle.gaps.specs.Gaps.{inLine}
+use Rattle.gaps.proofs.GapLaws.{gap-past, line-past, line-ends, line-stray, line-more}
+use Rattle.gaps.proofs.line_comment.Statement.{statement}
+use Rattle.gaps.proofs.line_comment.Tie as tie
+
+abbrev Inv-loop : tie.InvT-loop
+Inv-loop text slash i₀ i = (slash + 2 ≤ i) × ((line : Bool) → inLine (slash + 2) line (drop (slash + 2) text) ≡ inLine i line (drop i text))
+
+abbrev μ-loop : tie.MeasureT-loop
+μ-loop text slash i₀ i = length text - i
+
+add-i : tie.Need-add-i Inv-loop μ-loop
+add-i c = search needs
+
+loop-holds : tie.Need-loop-holds Inv-loop μ-loop
+loop-holds c = (omega arith, λ line. refl)
+
+shared-slice-read-b : tie.Need-shared-slice-read-b Inv-loop μ-loop
+shared-slice-read-b c = search needs
+
+inside-requires : tie.Need-inside-requires Inv-loop μ-loop
+inside-requires c κs = search needs
+
+returns : tie.Need-returns Inv-loop μ-loop
+returns c =
+    let l = c .before .before .before .before in
+    (λ line. rw (or-false line) (l .loop .inv .1 line ∙ line-ends _ _ line (omega arith) (omega arith)), l .loop .inv .0)
+
+returns-2 : tie.Need-returns-2 Inv-loop μ-loop
+returns-2 c =
+    let l = c .before .before .before .before .before in
+    (λ line. l .loop .inv .1 line ∙ line-stray _ _ line (omega arith) (omega arith), tt)
+
+add-i-2 : tie.Need-add-i-2 Inv-loop μ-loop
+add-i-2 c = search needs
+
+loop-less : tie.Need-loop-less Inv-loop μ-loop
+loop-less c = search needs
+
+loop-again : tie.Need-loop-again Inv-loop μ-loop
+loop-again c =
+    let l = c .before .before .before .before .before in
+    (omega arith, λ line. l .loop .inv .1 line ∙ line-more _ _ line (omega arith) (omega arith) (omega arith))
+
+returns-3 : tie.Need-returns-3 Inv-loop μ-loop
+returns-3 c =
+    let past = c .loop-test .left in (
+      λ line. rw (or-false line) (c .before .loop .inv .1 line ∙ line-past _ _ line past ∙ sym (gap-past _ _ line past)),
+      c .before .loop .inv .0,
+    )
+
+pub line-comment-spec : {M : Type 1} → statement M
+line-comment-spec =
+    tie.close
+    (tie.spec
+    Inv-loop
+    μ-loop
+    add-i
+    loop-holds
+    shared-slice-read-b
+    inside-requires
+    returns
+    returns-2
+    add-i-2
+    loop-less
+    loop-again
+    returns-3)

@@ -1,0 +1,132 @@
+// What stands between elements: blanks, line ends and both comments.
+ghost use mathlib.Core.Path.{_≡_};
+ghost use mathlib.Core.Bool.{Bool, true, false};
+ghost use Prim.Native.Nat.{_+_, _<_};
+ghost use lib.ListN.{length, drop, getD};
+ghost use Rattle.gaps.specs.Gaps.{gap, inLine, inBlock};
+ghost use Rattle.gaps.specs.Comments.{resumed, NotBefore};
+use answers::faults::OPEN_COMMENT;
+use answers::faults::STRAY;
+
+// Where a gap ends, and whether a line end lies in it; or the first fault in it.
+pub enum Gap {
+    Ends(usize, bool),
+    Fault(u32, usize),
+}
+
+// What stands at a slash: no comment; or where the comment there ends, and whether a line end lies in it; or its fault.
+pub enum Comment {
+    Absent,
+    Ends(usize, bool),
+    Fault(u32, usize),
+}
+
+// The `//` that starts at `slash`: it ends before its line end.
+fn line_comment(text: &[u8], slash: usize) -> Comment
+    requires { ⌜ slash + 1 < length (now text) ⌝ }
+    ensures { λ r. ⌜ ((line : Bool) → inLine (slash + 2) line (drop (slash + 2) (now (text .entry))) ≡ resumed (now (text .entry)) slash line r) × NotBefore (slash + 2) r ⌝ }
+{
+    let mut i = slash + 2;
+    while i < text.len() {
+        let b = text[i];
+        let k = text::inside(b);
+        if k == 1 {
+            return Comment::Ends(i, false);
+        }
+        if k == 2 {
+            return Comment::Fault(STRAY, i);
+        }
+        i += 1;
+    }
+    Comment::Ends(i, false)
+}
+
+// The `/*` that starts at `slash`.
+fn block_comment(text: &[u8], slash: usize) -> Comment
+    requires { ⌜ slash + 1 < length (now text) ⌝ }
+    ensures { λ r. ⌜ ((line : Bool) → inBlock slash (slash + 2) line false (drop (slash + 2) (now (text .entry))) ≡ resumed (now (text .entry)) slash line r) × NotBefore (slash + 2) r ⌝ }
+{
+    let mut lined = false;
+    let mut i = slash + 2;
+    while i < text.len() {
+        let b = text[i];
+        let k = text::inside(b);
+        if k == 1 {
+            lined = true;
+            i += 1;
+            continue;
+        }
+        if k == 2 {
+            return Comment::Fault(STRAY, i);
+        }
+        if b != b'*' {
+            i += 1;
+            continue;
+        }
+        if i + 1 == text.len() {
+            i += 1;
+            continue;
+        }
+        if text[i + 1] != b'/' {
+            i += 1;
+            continue;
+        }
+        return Comment::Ends(i + 2, lined);
+    }
+    Comment::Fault(OPEN_COMMENT, slash)
+}
+
+// The comment at a slash, if one starts there.
+fn comment_at(text: &[u8], slash: usize) -> Comment
+    requires { ⌜ (slash < length (now text)) × (getD (now text) slash 0 ≡ 47) ⌝ }
+    ensures { λ r. ⌜ ((line : Bool) → gap slash line (drop slash (now (text .entry))) ≡ resumed (now (text .entry)) slash line r) × NotBefore (slash + 1) r ⌝ }
+{
+    if slash + 1 == text.len() {
+        return Comment::Absent;
+    }
+    let b = text[slash + 1];
+    if b == b'/' {
+        return line_comment(text, slash);
+    }
+    if b == b'*' {
+        return block_comment(text, slash);
+    }
+    Comment::Absent
+}
+
+// The gap from a place on.
+pub fn gap_from(text: &[u8], from: usize) -> Gap
+    ensures { λ r. ⌜ r ≡ gap from false (drop from (now (text .entry))) ⌝ }
+{
+    let mut line = false;
+    let mut i = from;
+    while i < text.len() {
+        let b = text[i];
+        if text::is_blank(b) {
+            i += 1;
+            continue;
+        }
+        if text::is_line_end(b) {
+            line = true;
+            i += 1;
+            continue;
+        }
+        if b != b'/' {
+            return Gap::Ends(i, line);
+        }
+        let comment = comment_at(text, i);
+        match comment {
+            Comment::Absent => {
+                return Gap::Ends(i, line);
+            }
+            Comment::Ends(end, lined) => {
+                line = line || lined;
+                i = end;
+            }
+            Comment::Fault(number, place) => {
+                return Gap::Fault(number, place);
+            }
+        }
+    }
+    Gap::Ends(i, line)
+}

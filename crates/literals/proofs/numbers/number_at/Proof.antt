@@ -1,0 +1,51 @@
+-- `number_at` is `numberFrom`: what follows the number settles it.
+use borrow.Author.Needs.{needs}
+use native.Mathlib.Omega.{arith}
+use mathlib.Core.Path.{sym, _∙_}
+use Rattle.literals.proofs.NumberLaws.{number-past, number-last, number-ends, number-named, number-dotted}
+use borrow.Author.Needs.{needs}
+use Rattle.literals.proofs.numbers.number_at.Statement.{statement}
+use Rattle.literals.proofs.numbers.number_at.Tie as tie
+
+returns : tie.Need-returns
+returns c = sym (number-past _ _ (c .if1 .taken))
+
+number-end-requires : tie.Need-number-end-requires
+number-end-requires c κs = search needs
+
+shared-slice-read-b : tie.Need-shared-slice-read-b
+shared-slice-read-b c = search needs
+
+is-name-byte-requires : tie.Need-is-name-byte-requires
+is-name-byte-requires c κs = search needs
+
+returns-2 : tie.Need-returns-2
+returns-2 c =
+    let f = c .before .before .before .before in
+    sym (number-named _ _ _ (f .number-end .ensures) (sym (c .before .is-name-byte .ensures) ∙ c .if3 .taken))
+
+returns-3 : tie.Need-returns-3
+returns-3 c =
+    let f = c .before .before .before .before .before in
+    sym (number-dotted _ _ _ (f .number-end .ensures) (c .if4 .taken))
+
+returns-4 : tie.Need-returns-4
+returns-4 c =
+    let f = c .before .before .before .before .before in
+    sym (number-ends _ _ _ (f .number-end .ensures) (sym (c .before .before .is-name-byte .ensures) ∙ c .before .if3 .left) (c .if4 .left))
+
+returns-5 : tie.Need-returns-5
+returns-5 c = sym (number-last _ _ _ (c .before .number-end .ensures) (c .if2 .left))
+
+pub number-at-spec : {M : Type 1} → statement M
+number-at-spec =
+    tie.close
+    (tie.spec
+    returns
+    number-end-requires
+    shared-slice-read-b
+    is-name-byte-requires
+    returns-2
+    returns-3
+    returns-4
+    returns-5)

@@ -1,0 +1,48 @@
+// Regular expressions: to a slash that stands outside classes and that no backslash takes, and the flags after it.
+ghost use mathlib.Core.Path.{_≡_};
+ghost use mathlib.Core.Bool.{false};
+ghost use lib.ListN.{drop};
+ghost use Rattle.literals.specs.Patterns.{patternRest};
+use crate::Literal;
+use answers::faults::OPEN_PATTERN;
+use answers::faults::STRAY;
+
+// The regular expression that the slash at `first` opens, from the byte after it on.
+pub fn pattern_rest(text: &[u8], first: usize, from: usize) -> Literal
+    ensures { λ r. ⌜ r ≡ patternRest first false false from (drop from (now (text .entry))) ⌝ }
+{
+    let mut class = false;
+    let mut taken = false;
+    let mut i = from;
+    while i < text.len() {
+        let b = text[i];
+        let k = text::inside(b);
+        if k == 1 {
+            return Literal::Fault(OPEN_PATTERN, first);
+        }
+        if k == 2 {
+            return Literal::Fault(STRAY, i);
+        }
+        if taken {
+            taken = false;
+            i += 1;
+            continue;
+        }
+        if b == b'\\' {
+            taken = true;
+            i += 1;
+            continue;
+        }
+        if class {
+            class = b != b']';
+            i += 1;
+            continue;
+        }
+        if b == b'/' {
+            return Literal::Ends(text::name_end(text, i + 1));
+        }
+        class = b == b'[';
+        i += 1;
+    }
+    Literal::Fault(OPEN_PATTERN, first)
+}

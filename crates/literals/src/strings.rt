@@ -1,0 +1,46 @@
+// Strings: from a quote to the same quote.
+ghost use mathlib.Core.Path.{_≡_};
+ghost use mathlib.Core.Bool.{false};
+ghost use lib.ListN.{drop};
+ghost use Rattle.literals.specs.Strings.{quote, stringRest};
+use crate::Literal;
+use answers::faults::OPEN_STRING;
+use answers::faults::STRAY;
+
+pub fn is_quote(b: u8) -> bool
+    ensures { λ r. ⌜ r ≡ quote b ⌝ }
+{
+    if b == b'\'' {
+        return true;
+    }
+    b == b'"'
+}
+
+// The string that the quote `q` at `first` opens, from the byte after it on.
+pub fn string_rest(text: &[u8], q: u8, first: usize, from: usize) -> Literal
+    ensures { λ r. ⌜ r ≡ stringRest q first false from (drop from (now (text .entry))) ⌝ }
+{
+    let mut taken = false;
+    let mut i = from;
+    while i < text.len() {
+        let b = text[i];
+        let k = text::inside(b);
+        if k == 1 {
+            return Literal::Fault(OPEN_STRING, first);
+        }
+        if k == 2 {
+            return Literal::Fault(STRAY, i);
+        }
+        if taken {
+            taken = false;
+            i += 1;
+            continue;
+        }
+        if b == q {
+            return Literal::Ends(i + 1);
+        }
+        taken = b == b'\\';
+        i += 1;
+    }
+    Literal::Fault(OPEN_STRING, first)
+}
