@@ -11,7 +11,7 @@ use Rattle.elements.specs.Elements.{delimiterKind}
 use Rattle.elements.specs.Walks.{partOf}
 use Rattle.elements.specs.declared.Element.{Element}
 use Rattle.prefix.specs.Rule.{isSign}
-use Rattle.reader.specs.Records.{treeWidth, mostTrees}
+use Rattle.tables.specs.Records.{treeWidth, mostTrees}
 use Rattle.reader.specs.Read.{mostBytes, mostGroups}
 use Rattle.grammar.specs.Cuts.{isCloser, Cuts}
 use Rattle.grammar.specs.Tokens.{tokens}

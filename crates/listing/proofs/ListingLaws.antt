@@ -13,7 +13,8 @@ use Rattle.text.proofs.Lists.{drop-at}
 use Rattle.answers.specs.declared.Answer.{Answer}
 use Rattle.prefix.specs.Trees.{count}
 use Rattle.prefix.specs.Reading.{Reading, accepted, refused}
-use Rattle.reader.specs.Records.{treeWidth, records}
+use Rattle.tables.specs.Records.{treeWidth}
+use Rattle.reader.specs.Records.{records}
 use Rattle.reader.specs.Read.{longText, mostBytes, readingFor, answerOf, tableAfter}
 use Rattle.reader.proofs.CellLaws.{records-length}
 use Rattle.listing.specs.Listing.{digit, digits, decimal, after, line, lines, listingOf, mostListed, listedReading}

@@ -7,7 +7,8 @@ use lib.ListN.{length, take, drop}
 use Rattle.text.specs.Quoted.{byte, bytes}
 use Rattle.prefix.specs.Trees.{count}
 use Rattle.prefix.specs.Reading.{Reading, accepted, refused}
-use Rattle.reader.specs.Records.{treeWidth, records}
+use Rattle.tables.specs.Records.{treeWidth}
+use Rattle.reader.specs.Records.{records}
 use Rattle.reader.specs.Read.{longText, mostBytes, readingFor}
 
 abbrev pub digit : ℕ → ℕ

@@ -4,7 +4,7 @@ ghost use mathlib.Core.List.{[], _∷_, _++_};
 ghost use Prim.Native.Nat.{_*_, _≤_, min};
 ghost use lib.ListN.{length, take, drop};
 ghost use Rattle.text.specs.Quoted.{bytes};
-ghost use Rattle.reader.specs.Records.{treeWidth};
+ghost use Rattle.tables.specs.Records.{treeWidth};
 ghost use Rattle.reader.specs.Read.{answerOf, tableAfter};
 ghost use Rattle.listing.specs.Listing.{line, lines, listedReading, listing};
 ghost use Rattle.listing.specs.Writing.{Adds};
@@ -13,7 +13,7 @@ mod numbers;
 mod writing;
 
 use answers::Answer;
-use reader::records::TreeRecord;
+use tables::TreeRecord;
 
 // The bytes that a listed text has at most.
 pub const MOST_LISTED: usize = 8192;
@@ -24,7 +24,7 @@ fn read_listed(text: &[u8], trees: &mut [u32]) -> Answer
     ensures { λ r. ⌜ now (trees .exit) ≡ tableAfter (listedReading (now (text .entry)) (length (now (trees .entry)))) (now (trees .entry)) ⌝ }
 {
     if MOST_LISTED < text.len() {
-        reader::records::clear(trees);
+        tables::clear(trees);
         return Answer::Refused(reader::LONG, reader::MOST_BYTES);
     }
     reader::read(text, trees)

@@ -15,7 +15,8 @@ use Rattle.prefix.specs.Reading.{Limits, Reading, accepted, refused, ending, re
 use Rattle.prefix.proofs.Induction.{reading-tells}
 use Rattle.prefix.proofs.StepCases.{Stopped, at-depth, at-room, at-closer, step-reason}
 use Rattle.prefix.proofs.Sizes.{accepted-fits}
-use Rattle.reader.specs.Read.{longText, mostBytes, mostGroups, roomFor, readLimits, readingFor}
+use Rattle.tables.specs.Records.{roomFor}
+use Rattle.reader.specs.Read.{longText, mostBytes, mostGroups, readLimits, readingFor}
 use Rattle.reader.proofs.Formed.{Formed, reading-formed}
 use Rattle.grammar.specs.Derivations.{countTrees, deepestFrom}
 use Rattle.grammar.specs.TreeElements.{elementsOf}

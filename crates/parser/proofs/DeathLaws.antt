@@ -10,7 +10,7 @@ use lib.ListN.{getD}
 use Rattle.text.specs.Quoted.{byte}
 use Rattle.elements.specs.Elements.{nameKind, wordKind, numberKind, stringKind, patternKind, signKind}
 use Rattle.prefix.specs.Trees.{parenKind, objectKind, blockKind}
-use Rattle.reader.specs.Records.{treeWidth}
+use Rattle.tables.specs.Records.{treeWidth}
 use Rattle.grammar.specs.Tokens.{
   Token,
   token,

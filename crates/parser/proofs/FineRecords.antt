@@ -9,7 +9,8 @@ use lib.Dec.{ltb}
 use lib.ListN.{getD}
 use Rattle.elements.specs.declared.Element.{Element}
 use Rattle.prefix.specs.Trees.{Trees, none, leaf, group, count}
-use Rattle.reader.specs.Records.{mostTrees, records}
+use Rattle.tables.specs.Records.{mostTrees}
+use Rattle.reader.specs.Records.{records}
 use Rattle.reader.proofs.CellLaws.{records-length}
 use Rattle.grammar.specs.Tokens.{classOf}
 use Rattle.parser.specs.Parts.{countOf, sizeAt, classBy, classAt, part, Fine}

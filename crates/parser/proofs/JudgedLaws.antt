@@ -11,7 +11,8 @@ use lib.Seq.{take-at}
 use Rattle.answers.specs.declared.Answer.{Answer}
 use Rattle.prefix.specs.Trees.{Trees, count}
 use Rattle.prefix.specs.Reading.{Reading, accepted, refused, reading}
-use Rattle.reader.specs.Records.{treeWidth, mostTrees, records}
+use Rattle.tables.specs.Records.{treeWidth, mostTrees}
+use Rattle.reader.specs.Records.{records}
 use Rattle.reader.specs.Read
 use Rattle.reader.specs.Read.{readLimits, readingFor, tableAfter}
 use Rattle.reader.proofs.CellLaws.{records-length}

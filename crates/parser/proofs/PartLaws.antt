@@ -9,7 +9,7 @@ use lib.Dec.{T, ltb, eqb, ltb→lt}
 use lib.ListN.{length, getD, drop, length-drop}
 use lib.Seq.{getD-take, getD-drop, length-take-le}
 use Rattle.text.proofs.Range.{and-left, and-right}
-use Rattle.reader.specs.Records.{treeWidth}
+use Rattle.tables.specs.Records.{treeWidth}
 use Rattle.grammar.specs.Tokens.{Token, token, openParen, openBrace}
 use Rattle.parser.specs.Parts.{countOf, cellOr, kindAt, placeAt, sizeAt, classBy, classAt, contentOf, Part, inside, isOpener, spotAt, closerSpot, tokensBy, tokensAt, FineAt, Fine}
 

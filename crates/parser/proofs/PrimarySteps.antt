@@ -6,7 +6,7 @@ use Prim.Native.Nat.{ℕ, zero, suc, _+_, _-_, _≤_, _<_}
 use native.Mathlib.Omega.{arith}
 use borrow.Author.Tests.{leb-true, ne-eqb}
 use lib.Dec.{leb}
-use Rattle.reader.specs.Records.{mostTrees}
+use Rattle.tables.specs.Records.{mostTrees}
 use Rattle.grammar.specs.Tokens.{name, number, string, pattern, colon, openParen, closeParen, openBrace, closeBrace, functionWord}
 use Rattle.grammar.specs.Syntax.{Syntax, objectSyntax}
 use Rattle.grammar.specs.Grammar.{body, Form, Leaf, chainForm, assignForm, functionForm, statementsForm}

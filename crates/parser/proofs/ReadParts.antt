@@ -9,7 +9,8 @@ use lib.ListN.{getD}
 use Rattle.elements.specs.declared.Element.{Element}
 use Rattle.prefix.specs.Trees.{Trees, none, leaf, group, count}
 use Rattle.prefix.specs.Reading.{Limits, accepted, reading}
-use Rattle.reader.specs.Records.{mostTrees, records}
+use Rattle.tables.specs.Records.{mostTrees}
+use Rattle.reader.specs.Records.{records}
 use Rattle.grammar.specs.Tokens.{Token, token, classOf, tokensFrom, tokens}
 use Rattle.grammar.specs.TreeElements.{openerOf, closerOf, elementsOf}
 use Rattle.parser.specs.Parts.{sizeAt, classBy, Part, part, inside, closerSpot, tokensAt, Fine}

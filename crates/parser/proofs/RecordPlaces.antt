@@ -10,7 +10,8 @@ use lib.ListN.{length, getD, take, drop, length-append}
 use lib.Seq.{getD-append-add, take-at, drop-at}
 use Rattle.elements.specs.declared.Element.{Element}
 use Rattle.prefix.specs.Trees.{Trees, leaf, group, count}
-use Rattle.reader.specs.Records.{treeWidth, treeRecord, records}
+use Rattle.tables.specs.Records.{treeWidth, treeRecord}
+use Rattle.reader.specs.Records.{records}
 use Rattle.reader.proofs.CellLaws.{records-length}
 use Rattle.parser.specs.Parts.{countOf, cellOr, kindAt, placeAt, sizeAt, lineAt, closerAt, classBy, classAt, contentOf}
 

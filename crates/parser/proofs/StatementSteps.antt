@@ -5,7 +5,7 @@ use mathlib.Core.List.{List}
 use Prim.Native.Nat.{ℕ, _+_, _-_, _*_, _≤_, _<_}
 use native.Mathlib.Omega.{arith}
 use lib.Dec.{T, ltb, ltb→lt}
-use Rattle.reader.specs.Records.{mostTrees}
+use Rattle.tables.specs.Records.{mostTrees}
 use Rattle.grammar.specs.Tokens.{openBrace, closeBrace, functionWord}
 use Rattle.grammar.specs.Syntax.{Syntax, mostSyntax, declarationSyntax}
 use Rattle.grammar.specs.Grammar.{Scope, body, Form, functionForm, statementForm, statementsForm}

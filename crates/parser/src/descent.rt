@@ -16,7 +16,7 @@ use crate::labels;
 use crate::parameter;
 use crate::parts;
 use crate::records;
-use reader::records::TreeRecord;
+use tables::TreeRecord;
 
 // Assign: Chain `=` Assign, or Chains joined by operators.
 fn expr(

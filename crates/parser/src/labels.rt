@@ -3,7 +3,7 @@
 ghost use mathlib.Core.Path.{_≡_};
 ghost use mathlib.Core.List.{List};
 ghost use Prim.Native.Nat.{ℕ, _+_, _≤_};
-ghost use Rattle.reader.specs.Records.{mostTrees};
+ghost use Rattle.tables.specs.Records.{mostTrees};
 ghost use Rattle.grammar.specs.Grammar.{statementForm};
 ghost use Rattle.parser.specs.Parts.{Part, Fine, countOf};
 ghost use Rattle.parser.specs.Says.{Anything, Success, Labelled, Unlabelled};

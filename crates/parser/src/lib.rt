@@ -14,8 +14,8 @@ mod parts;
 mod records;
 
 use answers::Answer;
-use reader::records::TreeRecord;
 use records::SyntaxRecord;
+use tables::TreeRecord;
 
 // What a parser answers: the next record of the part and the number of syntax records so far; or the place where no program
 // begins.
@@ -72,7 +72,7 @@ pub fn parse(text: &[u8], trees: &mut [u32], syntax: &mut [u32]) -> Answer
     let read = reader::read(text, trees);
     match read {
         Answer::Refused(number, place) => {
-            reader::records::clear(syntax);
+            tables::clear(syntax);
             Answer::Refused(number, place)
         }
         Answer::Accepted(count) => {
@@ -80,8 +80,8 @@ pub fn parse(text: &[u8], trees: &mut [u32], syntax: &mut [u32]) -> Answer
             match answer {
                 Answer::Accepted(n) => Answer::Accepted(n),
                 Answer::Refused(number, place) => {
-                    reader::records::clear(trees);
-                    reader::records::clear(syntax);
+                    tables::clear(trees);
+                    tables::clear(syntax);
                     Answer::Refused(number, place)
                 }
             }

@@ -2,9 +2,9 @@
 ghost use mathlib.Core.Path.{_≡_};
 ghost use Prim.Native.Nat.{_+_, _≤_, _<_};
 ghost use lib.ListN.{getD};
-ghost use Rattle.reader.specs.Records.{treeWidth};
+ghost use Rattle.tables.specs.Records.{treeWidth};
 ghost use Rattle.parser.specs.Parts.{countOf, cellOr, placeAt, sizeAt, lineAt, closerAt, classAt, contentOf};
-use reader::records::TreeRecord;
+use tables::TreeRecord;
 
 // A number of a record; 0 past the last.
 fn cell(trees: &[u32], at: usize, place: usize) -> u32

@@ -1,7 +1,7 @@
 // Syntax records.
 ghost use mathlib.Core.Path.{_≡_};
 ghost use Prim.Native.Nat.{_+_, _-_, _≤_, _<_};
-ghost use Rattle.reader.specs.Records.{mostTrees};
+ghost use Rattle.tables.specs.Records.{mostTrees};
 ghost use Rattle.grammar.specs.Syntax.{mostSyntax};
 ghost use Rattle.parser.specs.Written.{putRecord};
 

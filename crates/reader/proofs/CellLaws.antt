@@ -11,7 +11,8 @@ use lib.Seq.{take-at, drop-append-add, drop-drop, getD-append-add, sets-eq}
 use Rattle.elements.specs.declared.Element.{Element}
 use Rattle.prefix.specs.Trees.{Trees, none, leaf, group, count}
 use Rattle.prefix.specs.Levels.{Levels, text, inside, number, onTop}
-use Rattle.reader.specs.Records.{treeWidth, treeRecord, records}
+use Rattle.tables.specs.Records.{treeWidth, treeRecord}
+use Rattle.reader.specs.Records.{records}
 use Rattle.reader.specs.Table.{cells}
 
 pub records-length : (trees : Trees) → length (records trees) ≡ treeWidth * count trees

@@ -16,7 +16,8 @@ use Rattle.prefix.specs.Levels.{Levels, text, inside, slashOpens, onTop}
 use Rattle.prefix.specs.Reading.{Limits, Step, stop, more, step, Reading, accepted, refused, ending, reading}
 use Rattle.prefix.proofs.Induction.{reading-tells}
 use Rattle.prefix.proofs.StepCases.{Taken, leaf-taken, open-taken, close-taken, step-taken, step-stopped}
-use Rattle.reader.specs.Records.{treeWidth, treeRecord, records}
+use Rattle.tables.specs.Records.{treeWidth, treeRecord}
+use Rattle.reader.specs.Records.{records}
 use Rattle.reader.specs.Nested.{contentCells, Nested}
 use Rattle.reader.proofs.CellLaws.{records-length}
 

@@ -14,7 +14,8 @@ use Rattle.prefix.specs.Held.{Held, Closes, closed, Follows, leaf-added, group-
 use Rattle.prefix.specs.declared.State.{State}
 use Rattle.prefix.specs.declared.Advanced.{Advanced}
 use Rattle.prefix.proofs.StateLaws.{number-on-top}
-use Rattle.reader.specs.Records.{treeWidth, mostTrees, treeRecord, records}
+use Rattle.tables.specs.Records.{treeWidth, mostTrees, treeRecord}
+use Rattle.reader.specs.Records.{records}
 use Rattle.reader.specs.Read.{answerOf}
 use Rattle.reader.specs.Table.{cells, recordIndex, Holds, Some, Turned, goes-on, ends}
 use Rattle.reader.specs.declared.Stored.{Stored}

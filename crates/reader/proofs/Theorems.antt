@@ -11,8 +11,9 @@ use Rattle.prefix.specs.Trees.{Trees, count, deepest}
 use Rattle.prefix.specs.Reading.{Limits, Reading, accepted, refused, reading, unlimitedReading, deep, treesFull}
 use Rattle.prefix.proofs.Sizes.{accepted-fits}
 use Rattle.prefix.proofs.LimitLaws.{Within, reading-within}
-use Rattle.reader.specs.Records.{treeWidth, records}
-use Rattle.reader.specs.Read.{longText, mostBytes, mostGroups, roomFor, readLimits, readingFor}
+use Rattle.tables.specs.Records.{treeWidth, roomFor}
+use Rattle.reader.specs.Records.{records}
+use Rattle.reader.specs.Read.{longText, mostBytes, mostGroups, readLimits, readingFor}
 use Rattle.reader.specs.Nested.{Nested}
 use Rattle.reader.proofs.CellLaws.{records-length}
 use Rattle.reader.proofs.Formed.{reading-formed, records-nested, reading-within-text}

@@ -4,7 +4,7 @@ use Prim.Native.Nat.{ℕ, _-_, _*_, _≤_}
 use mathlib.Core.Path.{_≡_}
 use mathlib.Core.List.{List, [], _∷_}
 use lib.ListN.{length, take, drop}
-use Rattle.reader.specs.Records.{treeWidth}
+use Rattle.tables.specs.Records.{treeWidth}
 
 -- the cells of a group's content, by the group's fourth number
 abbrev pub contentCells : ℕ → ℕ

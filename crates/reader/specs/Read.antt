@@ -1,5 +1,5 @@
 -- What `read` answers, and what it leaves in the lent table.
-use Prim.Native.Nat.{ℕ, _*_, _/_, min}
+use Prim.Native.Nat.{ℕ, _*_}
 use mathlib.Core.Bool.{cond}
 use mathlib.Core.List.{List, _++_}
 use lib.Dec.{leb}
@@ -7,7 +7,8 @@ use lib.ListN.{length, drop, replicate}
 use Rattle.answers.specs.declared.Answer.{Answer}
 use Rattle.prefix.specs.Trees.{count}
 use Rattle.prefix.specs.Reading.{Limits, Reading, accepted, refused, reading}
-use Rattle.reader.specs.Records.{treeWidth, mostTrees, records}
+use Rattle.tables.specs.Records.{treeWidth, roomFor}
+use Rattle.reader.specs.Records.{records}
 
 -- Document 01, Refused texts, row 1: "over 262,144 bytes", at 262144
 abbrev pub longText : ℕ
@@ -19,10 +20,6 @@ mostBytes = 262144
 -- "opener inside 100 open groups"
 abbrev pub mostGroups : ℕ
 mostGroups = 100
-
--- the records that a table of so many numbers has room for
-abbrev pub roomFor : ℕ → ℕ
-roomFor cells = min (cells / treeWidth) mostTrees
 
 abbrev pub readLimits : ℕ → Limits
 readLimits cells = record { groups = mostGroups; room = roomFor cells }

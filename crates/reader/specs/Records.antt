@@ -1,20 +1,8 @@
--- Document 01, Records: "Tree record, five numbers, at most 16,384 records, a group before its content: kind; first byte;
--- byte after the last; records in it with itself; 1 if a line end lies between it and the element before (or the text's
--- start), else 0."
+-- Document 01, Records: the tree records of a text, "a group before its content".
 use Prim.Native.Nat.{ℕ, _+_}
-use mathlib.Core.Bool.{Bool, cond}
-use mathlib.Core.List.{List, [], _∷_, _++_}
+use mathlib.Core.List.{List, [], _++_}
+use Rattle.tables.specs.Records.{treeRecord}
 use Rattle.prefix.specs.Trees.{Trees, none, leaf, group, count}
-
--- the width of a tree record, and the largest count of them
-abbrev pub treeWidth : ℕ
-treeWidth = 5
-
-abbrev pub mostTrees : ℕ
-mostTrees = 16384
-
-abbrev pub treeRecord : ℕ → ℕ → ℕ → ℕ → Bool → List ℕ
-treeRecord kind first end number line = kind ∷ first ∷ end ∷ number ∷ cond line 1 0 ∷ []
 
 -- the records of trees
 unfoldable pub records : Trees → List ℕ

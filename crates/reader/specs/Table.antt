@@ -12,8 +12,9 @@ use Rattle.prefix.specs.Reading.{Reading, accepted, refused, Step, stop, more, 
 use Rattle.prefix.specs.Held.{Held, Follows}
 use Rattle.prefix.specs.declared.Advanced.{Advanced}
 use Rattle.prefix.specs.declared.State.{State}
-use Rattle.reader.specs.Records.{treeWidth, mostTrees, treeRecord, records}
-use Rattle.reader.specs.Read.{roomFor, readingFor, tableAfter}
+use Rattle.tables.specs.Records.{treeWidth, mostTrees, treeRecord, roomFor}
+use Rattle.reader.specs.Records.{records}
+use Rattle.reader.specs.Read.{readingFor, tableAfter}
 use Rattle.reader.specs.declared.Stored.{Stored}
 use Rattle.reader.specs.declared.Turn.{Turn}
 

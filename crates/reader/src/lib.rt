@@ -7,18 +7,15 @@ ghost use mathlib.Core.Bool.{true, false};
 ghost use Rattle.prefix.specs.Levels.{Levels};
 ghost use Rattle.prefix.specs.Reading.{Step};
 ghost use Rattle.prefix.specs.Held.{Held, Follows};
-ghost use Rattle.reader.specs.Records.{treeWidth, mostTrees, treeRecord};
+ghost use Rattle.tables.specs.Records.{treeWidth, mostTrees, treeRecord};
 ghost use Rattle.reader.specs.Read.{longText, mostBytes, readingFor, answerOf, tableAfter};
 ghost use Rattle.reader.specs.Table.{recordIndex, openerPlace, Holds, Some, Stepped, Turned, Starts, Takes, Runs, Filled};
-
-pub mod records;
-
 use answers::Answer;
 use elements::Element;
 use elements::Next;
 use prefix::Advanced;
 use prefix::State;
-use records::TreeRecord;
+use tables::TreeRecord;
 
 // The number of the table's first row, and the bytes that a text has at most.
 pub const LONG: u32 = 1;
@@ -35,7 +32,7 @@ fn put(trees: &mut [u32], index: usize, tree: TreeRecord)
     trees[at + 1] = tree.first;
     trees[at + 2] = tree.end;
     trees[at + 3] = tree.number;
-    trees[at + 4] = records::line_mark(tree.line);
+    trees[at + 4] = tables::line_mark(tree.line);
 }
 
 // Writes the end and the number of the group whose record has an index.
@@ -173,7 +170,7 @@ fn fill(text: &[u8], trees: &mut [u32], stack: &mut [u32]) -> Answer
     requires { ⌜ (length (now text) ≤ mostBytes) × (length (now stack) ≡ 200) ⌝ }
     ensures { λ r. ⌜ (r ≡ answerOf (readingFor (now (text .entry)) (length (now (trees .entry))))) × Filled (readingFor (now (text .entry)) (length (now (trees .entry)))) (now (trees .entry)) (now (trees .exit)) ⌝ }
 {
-    let room = records::room_for(trees.len());
+    let room = tables::room_for(trees.len());
     let turn = read_on(text, trees, stack, room, prefix::start(), 0, false);
     match turn {
         Turn::End(state) => ending(trees, stack, state),
@@ -189,7 +186,7 @@ pub fn read(text: &[u8], trees: &mut [u32]) -> Answer
     ensures { λ r. ⌜ (r ≡ answerOf (readingFor (now (text .entry)) (length (now (trees .entry))))) × (now (trees .exit) ≡ tableAfter (readingFor (now (text .entry)) (length (now (trees .entry)))) (now (trees .entry))) ⌝ }
 {
     if MOST_BYTES < text.len() {
-        records::clear(trees);
+        tables::clear(trees);
         return Answer::Refused(LONG, MOST_BYTES);
     }
     let mut stack = [0u32; 200];
@@ -197,7 +194,7 @@ pub fn read(text: &[u8], trees: &mut [u32]) -> Answer
     match answer {
         Answer::Accepted(count) => Answer::Accepted(count),
         Answer::Refused(number, place) => {
-            records::clear(trees);
+            tables::clear(trees);
             Answer::Refused(number, place)
         }
     }

@@ -17,7 +17,7 @@ use Rattle.prefix.specs.Held.{Held, Follows}
 use Rattle.prefix.specs.declared.Advanced.{Advanced}
 use Rattle.prefix.specs.declared.State.{State}
 use Rattle.prefix.proofs.ReadingLaws.{read-end, read-fault, read-stop, read-more}
-use Rattle.reader.specs.Records.{mostTrees}
+use Rattle.tables.specs.Records.{mostTrees}
 use Rattle.reader.specs.Read.{mostBytes, longText}
 use Rattle.reader.specs.Table.{openerPlace, Takes, at-end, at-fault, at-element}
 use Rattle.reader.specs.declared.Turn.{Turn}

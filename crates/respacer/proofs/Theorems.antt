@@ -10,7 +10,7 @@ use lib.ListN.{length, length-append}
 use Rattle.answers.specs.Answers.{valueOf}
 use Rattle.prefix.specs.Trees.{Trees, count, deepest}
 use Rattle.prefix.specs.Reading.{Reading, accepted, refused, reading, unlimitedReading, deep, treesFull}
-use Rattle.reader.specs.Records.{mostTrees}
+use Rattle.tables.specs.Records.{mostTrees}
 use Rattle.reader.specs.Read.{longText, mostBytes, mostGroups}
 use Rattle.reader.proofs.Formed.{reading-within-text}
 use Rattle.reader.proofs.LengthFirst.{first-fits, first-full, first-deep}

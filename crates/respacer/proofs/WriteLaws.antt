@@ -13,7 +13,7 @@ use Rattle.prefix.specs.Reading.{Step, more, ending, unclosed}
 use Rattle.prefix.specs.Held.{Held, Closes, closed, Follows, leaf-added, group-opened, group-closed, stopped}
 use Rattle.prefix.specs.declared.State.{State}
 use Rattle.prefix.specs.declared.Advanced.{Advanced}
-use Rattle.reader.specs.Records.{mostTrees}
+use Rattle.tables.specs.Records.{mostTrees}
 use Rattle.reader.specs.Table.{openerPlace}
 use Rattle.respacer.specs.Respaced.{lineFeed, addElement, addCloser, addTrees}
 use Rattle.respacer.specs.Respace.{written}

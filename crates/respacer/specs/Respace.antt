@@ -6,7 +6,7 @@ use lib.Dec.{leb}
 use lib.ListN.{length, drop, replicate}
 use Rattle.answers.specs.declared.Answer.{Answer}
 use Rattle.prefix.specs.Reading.{Limits, Reading, accepted, refused, reading}
-use Rattle.reader.specs.Records.{mostTrees}
+use Rattle.tables.specs.Records.{mostTrees}
 use Rattle.reader.specs.Read.{longText, mostBytes, mostGroups}
 use Rattle.respacer.specs.Respaced.{respaced}
 

@@ -9,7 +9,7 @@ ghost use Rattle.prefix.specs.Levels.{Levels};
 ghost use Rattle.prefix.specs.Reading.{Step};
 ghost use Rattle.prefix.specs.Held.{Follows};
 ghost use Rattle.prefix.specs.declared.State.{State};
-ghost use Rattle.reader.specs.Records.{mostTrees};
+ghost use Rattle.tables.specs.Records.{mostTrees};
 ghost use Rattle.reader.specs.Read.{mostBytes};
 ghost use Rattle.reader.specs.Table.{openerPlace};
 ghost use Rattle.respacer.specs.Written.{over, Writes, Turned, Told};

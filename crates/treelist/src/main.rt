@@ -1,7 +1,7 @@
 // Prints the tree records of the text on standard input, or its first fault.
 use libc::STDIN_FILENO;
 use libc::STDOUT_FILENO;
-use reader::records::TreeRecord;
+use tables::TreeRecord;
 
 // The records that there is room for.
 const TREES: usize = 3000;

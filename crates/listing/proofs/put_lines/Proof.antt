@@ -4,7 +4,7 @@ use mathlib.Core.Path.{_≡_}
 use Prim.Native.Nat.{_+_, _-_, _*_, _≤_}
 use native.Mathlib.Omega.{arith}
 use lib.ListN.{length, take, drop}
-use Rattle.reader.specs.Records.{treeWidth}
+use Rattle.tables.specs.Records.{treeWidth}
 use Rattle.listing.specs.Listing.{line, lines}
 use Rattle.listing.proofs.WritingLaws.{Left, left-less, left-none}
 use Rattle.listing.proofs.ListingLaws.{lines-none, lines-step}

@@ -5,7 +5,7 @@ use mathlib.Core.Path.{_≡_, refl, _∙_}
 use mathlib.Core.List.{List}
 use Prim.Native.Nat.{ℕ, _+_, _-_, _≤_}
 use lib.ListN.{length}
-use Rattle.reader.specs.Records.{mostTrees}
+use Rattle.tables.specs.Records.{mostTrees}
 use Rattle.grammar.specs.Grammar.{statementForm}
 use Rattle.parser.specs.Parts.{Part, Fine}
 use Rattle.parser.specs.Says.{Anything, Success, Labelled}

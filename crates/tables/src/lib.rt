@@ -2,7 +2,7 @@
 ghost use mathlib.Core.Path.{_≡_};
 ghost use mathlib.Core.Bool.{cond};
 ghost use lib.ListN.{length, replicate};
-ghost use Rattle.reader.specs.Read.{roomFor};
+ghost use Rattle.tables.specs.Records.{roomFor};
 
 // A tree record: its kind, its first byte, the byte after its last, the records in it with itself, and whether a line end
 // lies before it.

@@ -7,8 +7,8 @@ use mathlib.Core.List.{_++_, append-nil}
 use Prim.Native.Nat.{_-_, _≤_}
 use lib.ListN.{length, drop, replicate, length-set}
 use lib.Seq.{drop-length}
-use Rattle.reader.proofs.records.clear.Statement.{statement}
-use Rattle.reader.proofs.records.clear.Tie as tie
+use Rattle.tables.proofs.clear.Statement.{statement}
+use Rattle.tables.proofs.clear.Tie as tie
 
 abbrev Inv-loop : tie.InvT-loop
 Inv-loop table₀ i₀ table i = (i ≤ length table₀) × (table ≡ replicate i 0 ++ drop i table₀) × (length table ≡ length table₀)
