@@ -8,7 +8,7 @@ use native.Mathlib.Numerals.{unary-clauses}
 use native.Mathlib.Omega.{arith}
 use lib.ListN.{length, take, drop, length-take, length-drop}
 use Rattle.elements.specs.Elements.{elementAt}
-use Rattle.elements.specs.Walks.{partOf}
+use Rattle.elements.specs.Parts.{partOf}
 use Rattle.elements.specs.declared.Element.{Element}
 use Rattle.elements.specs.declared.Next.{Next}
 use Rattle.elements.proofs.Bounds.{found-placed}

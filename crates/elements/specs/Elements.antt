@@ -1,6 +1,7 @@
 -- Document 01, Elements: the element at a place of a text under a stated slash answer, or the text's end, or the first
 -- fault of a comment or of the element itself, "bytes of an element left to right".
 use Prim.Native.Nat.{ℕ, _+_}
+use Prim.Native.String.{String}
 use mathlib.Core.List.{List, [], _∷_}
 use mathlib.Core.Bool.{Bool, true, false, cond, _&&_, _||_}
 use lib.Dec.{eqb}
@@ -113,3 +114,10 @@ slashAfter text (Gap.Fault number place) = false
 -- "A slash is met where an element would start with it and no comment starts there."
 unfoldable pub slashMet : List ℕ → ℕ → Bool
 slashMet text place = slashAfter text (gap place false (drop place text))
+
+-- whether a number is that of the reserved word, or of the sign, that is spelled so
+abbrev pub isWord : String → ℕ → Bool
+isWord t which = eqb which (wordNumber (bytes t))
+
+abbrev pub isSign : String → ℕ → Bool
+isSign t which = eqb which (numberOfSign (longestSign (bytes t)))

@@ -1,19 +1,12 @@
--- Document 01, Elements: "A walk over one text keeps that text and gives the next element at each call; each element can be
--- shown as the part of the text it is."
-use Prim.Native.Nat.{ℕ, _-_}
+-- Document 01, Elements: "A walk over one text keeps that text and gives the next element at each call".
+use Prim.Native.Nat.{ℕ}
 use mathlib.Core.List.{List}
 use mathlib.Core.Bool.{Bool}
-use lib.ListN.{take, drop}
 use denote.Ref.{RefT, now}
 use Rattle.elements.specs.Elements.{elementAt}
-use Rattle.elements.specs.declared.Element.{Element}
 use Rattle.elements.specs.declared.Next.{Next}
 use Rattle.elements.specs.declared.walk.Turn.{Turn}
 use Rattle.elements.specs.declared.walk.Walk.{Walk}
-
--- "the part of the text it is": the bytes from an element's first to before its end
-abbrev pub partOf : List ℕ → Element → List ℕ
-partOf text e = take (e .end - e .first) (drop (e .first) text)
 
 -- a walk over a text, at its start
 abbrev pub begun : RefT (List ℕ) → Walk

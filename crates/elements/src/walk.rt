@@ -2,7 +2,8 @@
 // place itself takes one turn at a time, by `turn_at` and `part_of`.
 ghost use mathlib.Core.Path.{_≡_};
 ghost use Prim.Native.Nat.{min};
-ghost use Rattle.elements.specs.Walks.{placeAfter, partOf, begun, met, moved, turnAt};
+ghost use Rattle.elements.specs.Parts.{partOf};
+ghost use Rattle.elements.specs.Walks.{placeAfter, begun, met, moved, turnAt};
 use crate::Element;
 use crate::Next;
 

@@ -1,6 +1,6 @@
 // A text is walked from its start, one turn after the other.
 ghost use mathlib.Core.Path.{_≡_};
-ghost use Rattle.elements.specs.Walks.{partOf};
+ghost use Rattle.elements.specs.Parts.{partOf};
 use crate::cases::MOST;
 use crate::print;
 use crate::print::ROOM;

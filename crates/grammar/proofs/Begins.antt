@@ -36,9 +36,9 @@ closer-same e f k w = rw (k, w)
 pub run-same : {s t : List ℕ} {es fs : List Element} → SameElements s t es fs → (mark : ℕ) (state : State) → run state (tokensFrom mark es) ≡ run state (tokensFrom mark fs)
 unfolding tokensFrom
 run-same no-elements mark state = refl
-run-same (same-element {e} {f} {es} {fs} k w l b rest) mark state =
-    ap (λ (after : State). run after (tokensFrom (cond (isCloser e) mark (mark + 1)) es)) (take-same state mark e f (class-same e f k w) l)
-    ∙ ap (λ (b : Bool). run (take state (tokenOf mark f)) (tokensFrom (cond b mark (mark + 1)) es)) (closer-same e f k w)
+run-same (same-element {e} {f} {es} {fs} same rest) mark state =
+    ap (λ (after : State). run after (tokensFrom (cond (isCloser e) mark (mark + 1)) es)) (take-same state mark e f (class-same e f (same .kind) (same .which)) (same .line))
+    ∙ ap (λ (b : Bool). run (take state (tokenOf mark f)) (tokensFrom (cond b mark (mark + 1)) es)) (closer-same e f (same .kind) (same .which))
     ∙ run-same rest (cond (isCloser f) mark (mark + 1)) (take state (tokenOf mark f))
 
 -- tokens of elements one after the other
@@ -108,6 +108,6 @@ pub record Front (text other : List ℕ) (es whole : List Element) : Type 0 wher
 
 pub same-split : {text other : List ℕ} (es fs : List Element) {whole : List Element} → SameElements text other (es ++ fs) whole → Front text other es whole
 same-split [] fs {whole} s = record { front = []; back = whole; all = refl; same = no-elements }
-same-split (e ∷ es) fs (same-element {f = f} k w l b rest) =
+same-split (e ∷ es) fs (same-element {f = f} one rest) =
     let r = same-split es fs rest in
-    record { front = f ∷ r .front; back = r .back; all = ap (_∷_ f) (r .all); same = same-element k w l b (r .same) }
+    record { front = f ∷ r .front; back = r .back; all = ap (_∷_ f) (r .all); same = same-element one (r .same) }

@@ -6,10 +6,10 @@ use Prim.Native.Nat.{ℕ}
 use native.Mathlib.Omega.{arith}
 use borrow.Author.Tests.{eqb-true}
 use lib.Dec.{T, T-not, eqb}
-use Rattle.elements.specs.Elements.{nameKind, wordKind, numberKind, stringKind, patternKind, signKind, delimiterKind}
+use Rattle.elements.specs.Elements.{nameKind, wordKind, numberKind, stringKind, patternKind, signKind, delimiterKind, isWord, isSign}
 use Rattle.elements.specs.declared.Element.{Element}
 use Rattle.elements.proofs.Choices.{cond-known}
-use Rattle.prefix.specs.Rule.{Class, isWord, isSign, elementClass}
+use Rattle.prefix.specs.Rule.{Class, elementClass}
 use Rattle.grammar.specs.Tokens.{
   name,
   number,

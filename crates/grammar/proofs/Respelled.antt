@@ -11,18 +11,18 @@ use Rattle.elements.specs.declared.Element.{Element}
 use Rattle.elements.specs.declared.Next.{Next}
 use Rattle.grammar.specs.Cuts.{marked, Cuts, cut-end, cut-element, cut-slash}
 use Rattle.grammar.specs.Derivations.{SameElements, no-elements, same-element}
-use Rattle.grammar.proofs.Spelling.{Piece, bytesOf, before, spelled, moved, placedFrom, bytes-length, written, written-length, written-text}
+use Rattle.grammar.proofs.Spelling.{Piece, spelling, before, spelled, moved, placedFrom, bytes-length, written, written-length, written-text}
 
 -- the bytes of a piece stand where it was written
 piece-bytes : (u : List ℕ) (p : Piece) (ps : List Piece)
-    → bytesOf p ≡ take (moved (length u) p .end - moved (length u) p .first) (drop (moved (length u) p .first) (u ++ spelled (p ∷ ps)))
+    → spelling p ≡ take (moved (length u) p .end - moved (length u) p .first) (drop (moved (length u) p .first) (u ++ spelled (p ∷ ps)))
 unfolding spelled
 piece-bytes u p ps =
     let size = p .element .end - p .element .first in
-    let seam : drop (length u + 1) (u ++ before p ∷ (bytesOf p ++ spelled ps)) ≡ bytesOf p ++ spelled ps =
-    ap (drop (length u + 1)) (sym (append-assoc u (before p ∷ []) (bytesOf p ++ spelled ps)))
-    ∙ drop-at (u ++ (before p ∷ [])) (bytesOf p ++ spelled ps) (length u + 1) (length-append u (before p ∷ [])) in
-    rw seam (sym (take-at (bytesOf p) (spelled ps) (length u + 1 + size - (length u + 1)) (bytes-length p ∙ omega arith)))
+    let seam : drop (length u + 1) (u ++ before p ∷ (spelling p ++ spelled ps)) ≡ spelling p ++ spelled ps =
+    ap (drop (length u + 1)) (sym (append-assoc u (before p ∷ []) (spelling p ++ spelled ps)))
+    ∙ drop-at (u ++ (before p ∷ [])) (spelling p ++ spelled ps) (length u + 1) (length-append u (before p ∷ [])) in
+    rw seam (sym (take-at (spelling p) (spelled ps) (length u + 1 + size - (length u + 1)) (bytes-length p ∙ omega arith)))
 
 -- the elements of a text from a place on, as pieces
 pub record Pieces (s : List ℕ) (es : List Element) : Type 0 where
@@ -36,7 +36,7 @@ module _ (s : List ℕ) where
       record {
         pieces = p ∷ rest .pieces;
         same = λ u more.
-            same-element refl refl refl (piece-bytes u p (rest .pieces ++ more))
+            same-element (record { kind = refl; which = refl; line = refl; bytes = piece-bytes u p (rest .pieces ++ more) })
             (subst (λ (n : ℕ). SameElements s (u ++ spelled (p ∷ (rest .pieces ++ more))) es (placedFrom n (rest .pieces))) (written-length u p (rest .pieces ++ more))
             (subst (λ (t : List ℕ). SameElements s t es (placedFrom (length (written u p (rest .pieces ++ more))) (rest .pieces))) (written-text u p (rest .pieces ++ more))
             (rest .same (written u p (rest .pieces ++ more)) more)));

@@ -9,11 +9,10 @@ use lib.Dec.{eqb, leb}
 use Rattle.text.specs.Quoted.{bytes}
 use Rattle.text.specs.Runs
 use Rattle.signs.specs.Signs.{longestSign, longestOf}
-use Rattle.elements.specs.Elements.{numberOfSign, delimiter, delimiterKind}
+use Rattle.elements.specs.Elements.{numberOfSign, delimiter, delimiterKind, isSign}
 use Rattle.elements.specs.declared.Element.{Element}
 use Rattle.elements.proofs.Choices.{cond-both, cond-known}
 use Rattle.prefix.specs.Trees.{Trees, none, leaf, group, parenKind, objectKind, blockKind}
-use Rattle.prefix.specs.Rule.{isSign}
 use Rattle.prefix.specs.Levels.{Levels, text, inside, braceOpens, depth, number, onTop}
 use Rattle.prefix.specs.Reading.{Limits, Step, stop, more, addLeaf, openGroup, closes, closeGroup, delimit, step}
 use Rattle.grammar.specs.Cuts.{isCloser, marked}

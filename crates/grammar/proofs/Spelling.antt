@@ -8,13 +8,13 @@ use lib.ListN.{length, take, drop, length-append, length-drop}
 use lib.Seq.{take-at, drop-append-seam, length-take-le}
 use Rattle.text.specs.Bytes.{blank, lineEnd}
 use Rattle.elements.specs.Elements.{elementAt}
+use Rattle.elements.specs.Parts.{partOf}
 use Rattle.elements.specs.declared.Element.{Element}
 use Rattle.elements.specs.declared.Next.{Next}
 use Rattle.elements.proofs.Bounds.{Placed, found-placed, past-end}
 use Rattle.elements.proofs.Separators.{lined, blank-first, line-end-first}
 use Rattle.elements.proofs.OwnBytes.{own-bytes}
 use Rattle.grammar.specs.Cuts.{marked, isCloser, cut-end}
-use Rattle.grammar.specs.Derivations.{SameElements, no-elements, same-element}
 use Rattle.grammar.proofs.ReadCuts.{CutsInto, cut-more}
 
 -- an element of a text, and whether a line end is to lie before it
@@ -27,8 +27,8 @@ pub record Piece : Type 0 where
   pub line : Bool
 
 -- its bytes, and what is written before them
-abbrev pub bytesOf : Piece → List ℕ
-bytesOf p = take (p .element .end - p .element .first) (drop (p .element .first) (p .source))
+abbrev pub spelling : Piece → List ℕ
+spelling p = partOf (p .source) (p .element)
 
 abbrev pub before : Piece → ℕ
 before p = cond (p .line) 0x0A 0x20
@@ -36,7 +36,7 @@ before p = cond (p .line) 0x0A 0x20
 -- all of them, and a line end
 unfoldable pub spelled : List Piece → List ℕ
 spelled [] = 0x0A ∷ []
-spelled (p ∷ ps) = before p ∷ (bytesOf p ++ spelled ps)
+spelled (p ∷ ps) = before p ∷ (spelling p ++ spelled ps)
 
 -- the element that a piece is behind so many bytes
 abbrev pub moved : ℕ → Piece → Element
@@ -68,27 +68,27 @@ pub record Starts (s : List ℕ) : Type 0 where
 starts : (ps : List Piece) → Starts (spelled ps)
 unfolding spelled blank lineEnd
 starts [] = record { head = 0x0A; tail = []; is = refl; separates = refl }
-starts (p ∷ ps) = record { head = before p; tail = bytesOf p ++ spelled ps; is = refl; separates = separated (p .line) }
+starts (p ∷ ps) = record { head = before p; tail = spelling p ++ spelled ps; is = refl; separates = separated (p .line) }
 
 -- a piece is found behind what was written
 module _ (u : List ℕ) (p : Piece) (rest : List ℕ) (r : Starts rest) where
-  own : (b : ℕ) → elementAt (u ++ (b ∷ (bytesOf p ++ rest))) (length u + 1) (p .answer)
+  own : (b : ℕ) → elementAt (u ++ (b ∷ (spelling p ++ rest))) (length u + 1) (p .answer)
       ≡ Next.Found (record { kind = p .element .kind; which = p .element .which; first = length u + 1; end = length u + 1 + (p .element .end - p .element .first); line = false })
   own b =
       let size : length (u ++ (b ∷ [])) ≡ length u + 1 = length-append u (b ∷ []) in
       let o = own-bytes (p .source) (p .place) (p .answer) (p .element) (p .found) (r .head) (r .separates) (u ++ (b ∷ [])) (r .tail) in
-      rw (r .is) (rw (size, append-assoc u (b ∷ []) (bytesOf p ++ r .head ∷ r .tail)) at o)
+      rw (r .is) (rw (size, append-assoc u (b ∷ []) (spelling p ++ r .head ∷ r .tail)) at o)
 
-  found-again : elementAt (u ++ (before p ∷ (bytesOf p ++ rest))) (length u) (p .answer) ≡ Next.Found (moved (length u) p)
+  found-again : elementAt (u ++ (before p ∷ (spelling p ++ rest))) (length u) (p .answer) ≡ Next.Found (moved (length u) p)
   unfolding blank lineEnd
   found-again = go (p .line)
     where
-      go : (line : Bool) → elementAt (u ++ (cond line 0x0A 0x20 ∷ (bytesOf p ++ rest))) (length u) (p .answer)
+      go : (line : Bool) → elementAt (u ++ (cond line 0x0A 0x20 ∷ (spelling p ++ rest))) (length u) (p .answer)
           ≡ Next.Found (record { kind = p .element .kind; which = p .element .which; first = length u + 1; end = length u + 1 + (p .element .end - p .element .first); line = line })
-      go true = line-end-first u (bytesOf p ++ rest) 0x0A (p .answer) refl ∙ ap lined (own 0x0A)
-      go false = blank-first u (bytesOf p ++ rest) 0x20 (p .answer) refl ∙ own 0x20
+      go true = line-end-first u (spelling p ++ rest) 0x0A (p .answer) refl ∙ ap lined (own 0x0A)
+      go false = blank-first u (spelling p ++ rest) 0x20 (p .answer) refl ∙ own 0x20
 
-pub bytes-length : (p : Piece) → length (bytesOf p) ≡ p .element .end - p .element .first
+pub bytes-length : (p : Piece) → length (spelling p) ≡ p .element .end - p .element .first
 bytes-length p =
     let q : Placed (p .source) (p .place) (p .element) = found-placed (p .source) (p .place) (p .answer) (p .element) (p .found) in
     length-take-le (p .element .end - p .element .first) (drop (p .element .first) (p .source)) (omega (arith, length-drop (p .element .first) (p .source)))
@@ -96,14 +96,14 @@ bytes-length p =
 -- the same text, with the bytes of a piece among what was written
 module _ (u : List ℕ) (p : Piece) (ps : List Piece) where
   abbrev pub written : List ℕ
-  written = u ++ (before p ∷ bytesOf p)
+  written = u ++ (before p ∷ spelling p)
 
   pub written-length : length written ≡ length u + 1 + (p .element .end - p .element .first)
-  written-length = length-append u (before p ∷ bytesOf p) ∙ omega (arith, bytes-length p)
+  written-length = length-append u (before p ∷ spelling p) ∙ omega (arith, bytes-length p)
 
   pub written-text : written ++ spelled ps ≡ u ++ spelled (p ∷ ps)
   unfolding spelled
-  written-text = append-assoc u (before p ∷ bytesOf p) (spelled ps)
+  written-text = append-assoc u (before p ∷ spelling p) (spelled ps)
 
 -- what is spelled is cut into the elements again
 pub spelled-cuts : (u : List ℕ) (ps : List Piece) → CutsInto (u ++ spelled ps) (length u) (placedFrom (length u) ps)

@@ -7,9 +7,8 @@ use native.Mathlib.Omega.{arith}
 use lib.Dec.{T, eqb, eqb→eq}
 use Rattle.text.specs.Runs.{same}
 use Rattle.signs.specs.Signs.{longestSign, longestOf}
-use Rattle.elements.specs.Elements.{delimiterKind, nameKind, wordKind, numberKind, stringKind, patternKind, signKind}
+use Rattle.elements.specs.Elements.{delimiterKind, nameKind, wordKind, numberKind, stringKind, patternKind, signKind, isWord, isSign}
 use Rattle.elements.specs.declared.Element.{Element}
-use Rattle.prefix.specs.Rule.{isWord, isSign}
 use Rattle.grammar.specs.Cuts.{isCloser}
 use Rattle.grammar.specs.Tokens.{
   Token,

@@ -8,10 +8,9 @@ use borrow.Author.Tests.{ne-eqb}
 use lib.Dec.{eqb}
 use Rattle.text.specs.Runs
 use Rattle.signs.specs.Signs.{longestSign, longestOf}
-use Rattle.elements.specs.Elements.{delimiterKind}
+use Rattle.elements.specs.Elements.{delimiterKind, isSign}
 use Rattle.elements.specs.declared.Element.{Element}
 use Rattle.prefix.specs.Trees.{Trees, none, leaf, group, count, deepest, parenKind}
-use Rattle.prefix.specs.Rule.{isSign}
 use Rattle.reader.proofs.Formed.{Formed}
 use Rattle.grammar.specs.Cuts.{isCloser}
 use Rattle.grammar.specs.Derivations.{countTrees, openAfter, deepestFrom}

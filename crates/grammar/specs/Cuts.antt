@@ -6,10 +6,9 @@ use mathlib.Core.Path.{_≡_}
 use mathlib.Core.Bool.{Bool, true, false, cond, _&&_, _||_}
 use mathlib.Core.List.{List, [], _∷_}
 use lib.Dec.{eqb}
-use Rattle.elements.specs.Elements.{elementAt, slashMet, delimiterKind}
+use Rattle.elements.specs.Elements.{elementAt, slashMet, delimiterKind, isSign}
 use Rattle.elements.specs.declared.Element.{Element}
 use Rattle.elements.specs.declared.Next.{Next}
-use Rattle.prefix.specs.Rule.{isSign}
 
 -- a closer: `)` or `}`
 abbrev pub isCloser : Element → Bool

@@ -7,10 +7,9 @@ use mathlib.Core.Bool.{Bool, true, false, cond, _&&_, _||_}
 use mathlib.Core.List.{List, [], _∷_, _++_}
 use lib.Dec.{eqb}
 use lib.ListN.{length}
-use Rattle.elements.specs.Elements.{delimiterKind}
-use Rattle.elements.specs.Walks.{partOf}
+use Rattle.elements.specs.Elements.{delimiterKind, isSign}
+use Rattle.elements.specs.Parts.{SameElement}
 use Rattle.elements.specs.declared.Element.{Element}
-use Rattle.prefix.specs.Rule.{isSign}
 use Rattle.tables.specs.Records.{treeWidth, mostTrees}
 use Rattle.reader.specs.Read.{mostBytes, mostGroups}
 use Rattle.grammar.specs.Cuts.{isCloser, Cuts}
@@ -60,12 +59,11 @@ pub record LongEnough {text : List ℕ} (d : Derivation text) (treeCells syntaxC
   pub trees-fit : countTrees (d .elements) ≤ treeCells / treeWidth
   pub parts-fit : size (syntaxTree d) ≤ syntaxCells / syntaxWidth
 
--- elements of two texts with the same kinds, line marks and bytes
+-- elements of two texts that are the same but for positions
 pub data SameElements (text other : List ℕ) : List Element → List Element → Type 0 where
   no-elements : SameElements text other [] []
-  same-element : {e f : Element} {es fs : List Element} → e .kind ≡ f .kind → e .which ≡ f .which → e .line ≡ f .line
-      → partOf text e ≡ partOf other f
-      → SameElements text other es fs → SameElements text other (e ∷ es) (f ∷ fs)
+  same-element : {e f : Element} {es fs : List Element} → SameElement text other e f → SameElements text other es fs
+      → SameElements text other (e ∷ es) (f ∷ fs)
 
 -- elements of a text begin a program, "limits aside": some text has a derivation whose elements start with these
 pub record BeginsProgram (text : List ℕ) (es : List Element) : Type 0 where

@@ -3,9 +3,8 @@ use Prim.Native.Nat.{ℕ, _+_}
 use mathlib.Core.Bool.{Bool, cond}
 use mathlib.Core.List.{List, [], _∷_}
 use lib.Dec.{eqb}
-use Rattle.elements.specs.Elements.{nameKind, wordKind, numberKind, stringKind, patternKind, signKind, delimiterKind}
+use Rattle.elements.specs.Elements.{nameKind, wordKind, numberKind, stringKind, patternKind, signKind, delimiterKind, isWord, isSign}
 use Rattle.elements.specs.declared.Element.{Element}
-use Rattle.prefix.specs.Rule.{isWord, isSign}
 use Rattle.grammar.specs.Cuts.{isCloser}
 
 -- Classes of tokens. A name, number, string, regular expression, `/`, `+` or `=` has the number of the part that it makes by

@@ -5,11 +5,10 @@ use Prim.Native.Nat.{ℕ, _≤_, _<_}
 use native.Mathlib.Omega.{arith}
 use borrow.Author.Tests.{eqb-false, leb-true, leb-false}
 use lib.Dec.{eqb, leb}
-use Rattle.elements.specs.Elements.{delimiterKind}
+use Rattle.elements.specs.Elements.{delimiterKind, isSign}
 use Rattle.elements.specs.declared.Element.{Element}
 use Rattle.elements.proofs.Choices.{cond-both, cond-known}
 use Rattle.prefix.specs.Trees.{Trees, none, leaf, group, parenKind, objectKind, blockKind}
-use Rattle.prefix.specs.Rule.{isSign}
 use Rattle.prefix.specs.Levels.{Levels, text, inside, braceOpens, depth, number, onTop}
 use Rattle.prefix.specs.Reading.{Limits, Step, stop, more, addLeaf, openGroup, closes, closeGroup, delimit, step, deep, wrongCloser, treesFull}
 

@@ -5,28 +5,7 @@ use mathlib.Core.List.{List, [], _∷_}
 use Prim.Native.Nat.{ℕ}
 use lib.Dec.{T, eqb}
 use Rattle.text.proofs.Range.{alike, alike→eq}
-use Rattle.prefix.specs.Rule.{
-  Class,
-  name,
-  literal,
-  operator,
-  colon,
-  other,
-  returnWord,
-  functionWord,
-  ifWord,
-  parens,
-  object,
-  block,
-  rank,
-  Before,
-  tree,
-  endsWith,
-  rest,
-  objectAfter,
-  opensObject,
-  opensPattern,
-}
+use Rattle.prefix.specs.Rule.{Class, name, literal, operator, colon, other, returnWord, functionWord, ifWord, parens, object, block, rank, Before, tree, endsWith, rest, objectAfter, opensObject, opensPattern}
 use Rattle.prefix.specs.Summary.{Summary, braceBy, slashBy, addName, addParens, addBlock, add, summary}
 use Rattle.prefix.proofs.Finite.{bothBools, at-bool, allClasses, at-class, allSummaries, at-summary}
 

@@ -7,13 +7,12 @@ use native.Mathlib.Omega.{arith}
 use borrow.Author.Tests.{leb-true, lt-leb}
 use lib.Dec.{eqb, leb}
 use lib.ListN.{length}
-use Rattle.elements.specs.Elements.{elementAt, delimiterKind}
+use Rattle.elements.specs.Elements.{elementAt, delimiterKind, isSign}
 use Rattle.elements.specs.declared.Element.{Element}
 use Rattle.elements.specs.declared.Next.{Next}
 use Rattle.elements.proofs.Choices.{cond-known}
 use Rattle.elements.proofs.Bounds.{found-placed, fault-number}
 use Rattle.prefix.specs.Trees.{Trees, none, leaf, count, deepest, parenKind, objectKind, blockKind}
-use Rattle.prefix.specs.Rule.{isSign}
 use Rattle.prefix.specs.Levels.{Levels, text, inside, slashOpens, braceOpens, depth, number, onTop}
 use Rattle.prefix.specs.Reading.{
   Limits,

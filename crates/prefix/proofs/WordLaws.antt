@@ -6,10 +6,10 @@ use Prim.Native.Nat.{ℕ, _+_, _*_, _/_, _%_, _<_, _≤_}
 use native.Mathlib.Omega.{arith}
 use lib.Dec.{T, eqb, eqb→eq, ltb, ltb→lt}
 use Rattle.text.proofs.Range.{alike, alike→eq}
-use Rattle.elements.specs.Elements.{nameKind, wordKind, signKind}
+use Rattle.elements.specs.Elements.{nameKind, wordKind, signKind, isWord, isSign}
 use Rattle.elements.specs.declared.Element.{Element}
 use Rattle.prefix.specs.Trees.{Trees, leaf, group, parenKind, objectKind}
-use Rattle.prefix.specs.Rule.{Class, isWord, isSign, wordClass, signClass, elementClass, groupClass, backwards}
+use Rattle.prefix.specs.Rule.{Class, wordClass, signClass, elementClass, groupClass, backwards}
 use Rattle.prefix.specs.Levels.{Levels, text, inside, isExpression, kindOf, treesOf, slashOpens, braceOpens, onTop}
 use Rattle.prefix.specs.Summary.{Summary, braceBy, slashBy, addName, addParens, addBlock, add, summary, code, wordFor, wordOf}
 use Rattle.prefix.specs.Words.{with, slashByWord, braceByWord, nameWord, reservedWord, signWord, leafWord, parensWord, blockWord, groupWord}

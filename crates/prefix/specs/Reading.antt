@@ -5,11 +5,10 @@ use mathlib.Core.Bool.{Bool, cond, _||_}
 use mathlib.Core.List.{List}
 use lib.Dec.{eqb, leb}
 use lib.ListN.{length}
-use Rattle.elements.specs.Elements.{elementAt, delimiterKind}
+use Rattle.elements.specs.Elements.{elementAt, delimiterKind, isSign}
 use Rattle.elements.specs.declared.Element.{Element}
 use Rattle.elements.specs.declared.Next.{Next}
 use Rattle.prefix.specs.Trees.{Trees, none, leaf, group, parenKind, objectKind, blockKind}
-use Rattle.prefix.specs.Rule.{isSign}
 use Rattle.prefix.specs.Levels.{Levels, text, inside, kindOf, slashOpens, braceOpens, depth, number, onTop}
 
 -- Document 01, Refused texts, row 9, deep: "opener inside 100 open groups"; place: the opener

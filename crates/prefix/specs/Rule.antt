@@ -1,13 +1,9 @@
 -- Document 01, Prefix rule: over the trees before on the same level. "Last" is the tree before, on the same level.
 use Prim.Native.Nat.{ℕ}
-use Prim.Native.String.{String}
 use mathlib.Core.Bool.{Bool, true, false, not, cond, _&&_, _||_}
 use mathlib.Core.List.{List, [], _∷_}
 use lib.Dec.{eqb}
-use Rattle.text.specs.Quoted.{bytes}
-use Rattle.words.specs.Words.{wordNumber}
-use Rattle.signs.specs.Signs.{longestSign}
-use Rattle.elements.specs.Elements.{numberOfSign, nameKind, wordKind, signKind}
+use Rattle.elements.specs.Elements.{nameKind, wordKind, signKind, isWord, isSign}
 use Rattle.elements.specs.declared.Element.{Element}
 use Rattle.prefix.specs.Trees.{Trees, none, leaf, group, parenKind, objectKind}
 
@@ -31,13 +27,6 @@ pub data Class : Type 0 where
   parens : Class
   object : Class
   block : Class
-
--- whether a number is that of the reserved word, or of the sign, that is spelled so
-abbrev pub isWord : String → ℕ → Bool
-isWord t which = eqb which (wordNumber (bytes t))
-
-abbrev pub isSign : String → ℕ → Bool
-isSign t which = eqb which (numberOfSign (longestSign (bytes t)))
 
 -- the class of the reserved word of a number
 abbrev pub wordClass : ℕ → Class

@@ -7,8 +7,9 @@ use Rattle.elements.specs.declared.Element.{Element}
 use Rattle.prefix.specs.Trees.{Trees, leaf, group, count}
 use Rattle.prefix.specs.Rule.{elementClass, backwards}
 use Rattle.prefix.specs.Levels.{Levels, text, inside, kindOf, treesOf, slashOpens, braceOpens, depth, number, onTop}
-use Rattle.respacer.specs.Respaced.{space, bytesOf, separator, addElement, addCloser, addTrees}
-use Rattle.respacer.specs.Alike.{SameElement, Alike, alike-none, alike-leaf, alike-group}
+use Rattle.elements.specs.Parts.{bytesOf, SameElement}
+use Rattle.respacer.specs.Respaced.{space, separator, addElement, addCloser, addTrees}
+use Rattle.respacer.specs.Alike.{Alike, alike-none, alike-leaf, alike-group}
 
 -- levels that are the same but for positions
 pub data AlikeLevels (s t : List ℕ) : Levels → Levels → Type 0 where

@@ -13,7 +13,8 @@ use Rattle.elements.specs.declared.Next.{Next}
 use Rattle.elements.proofs.Bounds.{Placed, found-placed, past-end}
 use Rattle.elements.proofs.Separators.{lined, blank-first, line-end-first}
 use Rattle.elements.proofs.OwnBytes.{own-bytes}
-use Rattle.respacer.specs.Respaced.{lineFeed, space, bytesOf, separator, addElement}
+use Rattle.elements.specs.Parts.{bytesOf}
+use Rattle.respacer.specs.Respaced.{lineFeed, space, separator, addElement}
 use Rattle.respacer.proofs.OverLaws.{bytes-length}
 
 -- an element from `first` on, behind a line end or not

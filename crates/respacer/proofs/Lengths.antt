@@ -14,7 +14,8 @@ use Rattle.prefix.specs.Levels.{Levels, text, inside, slashOpens, onTop}
 use Rattle.prefix.specs.Reading.{Limits, Reading, accepted, refused, ending, reading}
 use Rattle.prefix.proofs.Induction.{reading-tells}
 use Rattle.prefix.proofs.StepCases.{Taken, leaf-taken, open-taken, close-taken, step-taken}
-use Rattle.respacer.specs.Respaced.{bytesOf, separator, addElement, addCloser, addTrees, respaced, space, lineFeed}
+use Rattle.elements.specs.Parts.{bytesOf}
+use Rattle.respacer.specs.Respaced.{separator, addElement, addCloser, addTrees, respaced, space, lineFeed}
 use Rattle.respacer.specs.Written.{writtenOf}
 use Rattle.respacer.proofs.OverLaws.{bytes-length}
 use Rattle.respacer.proofs.WriteLaws.{written-leaf, written-group}

@@ -7,7 +7,8 @@ use native.Mathlib.Omega.{arith}
 use native.Mathlib.Numerals.{add-one}
 use lib.ListN.{length, getD, take, drop, set, length-append, length-take, length-drop, drop-of-length-le}
 use lib.Seq.{take-nil, take-all, take-append-le, drop-cons, set-append-seam, take-suc, getD-drop, length-take-le}
-use Rattle.respacer.specs.Respaced.{bytesOf, separator, addElement, addCloser, lineFeed, space}
+use Rattle.elements.specs.Parts.{bytesOf}
+use Rattle.respacer.specs.Respaced.{separator, addElement, addCloser, lineFeed, space}
 use Rattle.respacer.specs.Written.{over}
 
 pub over-nothing : (old : List ℕ) → old ≡ over [] old

@@ -14,7 +14,8 @@ use Rattle.prefix.specs.Levels.{Levels, text, slashOpens, depth}
 use Rattle.prefix.specs.Reading.{Limits, more, step, accepted, readOn, reading}
 use Rattle.prefix.proofs.ReadingLaws.{read-end, read-more}
 use Rattle.prefix.proofs.Course.{Course, ended, went, accepted-course}
-use Rattle.respacer.specs.Respaced.{bytesOf, separator, addElement, addTrees, respaced}
+use Rattle.elements.specs.Parts.{bytesOf}
+use Rattle.respacer.specs.Respaced.{separator, addElement, addTrees, respaced}
 use Rattle.respacer.specs.Written.{writtenOf}
 use Rattle.respacer.specs.Alike.{alike-none, Kept}
 use Rattle.respacer.proofs.AlikeLevels.{AlikeLevels, alike-text, alike-slash}

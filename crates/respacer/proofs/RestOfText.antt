@@ -15,7 +15,8 @@ use Rattle.prefix.specs.Trees.{Trees}
 use Rattle.prefix.specs.Levels.{Levels, text, slashOpens, depth}
 use Rattle.prefix.specs.Reading.{Limits, more, step}
 use Rattle.prefix.proofs.Course.{Course, ended, went}
-use Rattle.respacer.specs.Respaced.{lineFeed, space, bytesOf, separator, addElement, respaced}
+use Rattle.elements.specs.Parts.{bytesOf}
+use Rattle.respacer.specs.Respaced.{lineFeed, space, separator, addElement, respaced}
 use Rattle.respacer.specs.Written.{writtenOf}
 use Rattle.respacer.proofs.OverLaws.{bytes-length}
 use Rattle.respacer.proofs.StepWrites.{lineWritten, step-written}

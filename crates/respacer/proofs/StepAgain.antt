@@ -7,14 +7,13 @@ use Prim.Native.Nat.{ℕ, _+_, _-_}
 use native.Mathlib.Omega.{arith}
 use borrow.Author.Tests.{eqb-true}
 use lib.Dec.{eqb, leb}
-use Rattle.elements.specs.Elements.{delimiterKind}
+use Rattle.elements.specs.Elements.{delimiterKind, isSign}
 use Rattle.elements.specs.declared.Element.{Element}
 use Rattle.prefix.specs.Trees.{none, leaf, group, parenKind, objectKind, blockKind}
-use Rattle.prefix.specs.Rule.{isSign}
 use Rattle.prefix.specs.Levels.{Levels, inside, braceOpens, depth, number, onTop}
 use Rattle.prefix.specs.Reading.{Limits, Step, stop, more, addLeaf, openGroup, closes, closeGroup, step, deep, treesFull, wrongCloser}
 use Rattle.prefix.proofs.StepCases.{not-more}
-use Rattle.respacer.specs.Respaced.{bytesOf}
+use Rattle.elements.specs.Parts.{bytesOf}
 use Rattle.respacer.specs.Alike.{alike-none}
 use Rattle.respacer.proofs.AlikeLevels.{AlikeLevels, alike-text, alike-inside, alike-brace, alike-depth, alike-number, alike-leaf-more, alike-group-more}
 use Rattle.respacer.proofs.StepWrites.{stepBy, lineBut, lineWritten}

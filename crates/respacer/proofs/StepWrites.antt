@@ -7,10 +7,9 @@ use native.Mathlib.Omega.{arith}
 use borrow.Author.Tests.{eqb-true}
 use lib.Dec.{eqb, leb}
 use lib.ListN.{length}
-use Rattle.elements.specs.Elements.{delimiterKind}
+use Rattle.elements.specs.Elements.{delimiterKind, isSign}
 use Rattle.elements.specs.declared.Element.{Element}
 use Rattle.prefix.specs.Trees.{none, leaf, group, parenKind, objectKind, blockKind}
-use Rattle.prefix.specs.Rule.{isSign}
 use Rattle.prefix.specs.Levels.{Levels, text, inside, braceOpens, depth, number, onTop}
 use Rattle.prefix.specs.Reading.{Limits, Step, stop, more, addLeaf, openGroup, closes, closeGroup, step, deep, treesFull, wrongCloser}
 use Rattle.prefix.proofs.StepCases.{not-more}

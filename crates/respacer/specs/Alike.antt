@@ -6,15 +6,8 @@ use mathlib.Core.List.{List}
 use Rattle.elements.specs.declared.Element.{Element}
 use Rattle.prefix.specs.Trees.{Trees, none, leaf, group}
 use Rattle.prefix.specs.Reading.{Reading, accepted}
-use Rattle.respacer.specs.Respaced.{bytesOf, respaced}
-
--- an element of a text and an element of another: the same kind, the same number among the words or the signs, the same line
--- mark and the same bytes
-pub record SameElement (text again : List ℕ) (e other : Element) : Type 0 where
-  pub kind : e .kind ≡ other .kind
-  pub which : e .which ≡ other .which
-  pub line : e .line ≡ other .line
-  pub bytes : bytesOf text (e .first) (e .end) ≡ bytesOf again (other .first) (other .end)
+use Rattle.elements.specs.Parts.{bytesOf, SameElement}
+use Rattle.respacer.specs.Respaced.{respaced}
 
 -- trees of a text and trees of another are the same but for positions: the same elements in the same order, and groups with the
 -- same kind, the same line mark, the same bytes of opener and closer, and insides that are the same but for positions

@@ -3,7 +3,7 @@
 use Prim.Native.Nat.{ℕ, _+_, _-_}
 use mathlib.Core.Bool.{Bool, cond}
 use mathlib.Core.List.{List, [], _∷_, _++_}
-use lib.ListN.{take, drop}
+use Rattle.elements.specs.Parts.{bytesOf}
 use Rattle.prefix.specs.Trees.{Trees, none, leaf, group}
 
 abbrev pub lineFeed : ℕ
@@ -11,10 +11,6 @@ lineFeed = 0x0A
 
 abbrev pub space : ℕ
 space = 0x20
-
--- the bytes of an element of a text
-abbrev pub bytesOf : List ℕ → ℕ → ℕ → List ℕ
-bytesOf text first end = take (end - first) (drop first text)
 
 -- what comes before an element that has a record, behind what is written so far: "0A if its record says line end; else .. one
 -- blank (none at the start)"

@@ -36,7 +36,8 @@ use denote.Triple.Table.{entered, cited}
 use denote.Triple.Walked.{says, Stays, stay-none, stay-none-slice, walkOf, goes-none, goes-none-slice, Walks, ends-at, walked, walk-meets}
 use denote.Exit.{yes}
 use denote.Triple.Clauses.{ensured, lasts}
-use Rattle.elements.specs.Walks.{partOf, begun}
+use Rattle.elements.specs.Parts.{partOf}
+use Rattle.elements.specs.Walks.{begun}
 use Rattle.elements.specs.declared.Element.{Element}
 use Rattle.elements.specs.declared.walk.Walk.{Walk}
 use Rattle.elements.proofs.walk.Walk as T

@@ -42,7 +42,7 @@ use denote.Triple.Table.{entered, cited}
 use denote.Triple.Walked.{says, Stays, stay-none, walkOf, goes-none, Walks, ends-at, walked, walk-meets}
 use denote.Exit.{yes}
 use denote.Triple.Clauses.{ensured, lasts}
-use Rattle.elements.specs.Walks.{partOf}
+use Rattle.elements.specs.Parts.{partOf}
 use Rattle.elements.specs.declared.Element.{Element}
 use Rattle.elements.specs.declared.walk.Walk.{Walk}
 use Rattle.elements.proofs.walk.Walk as T
