@@ -667,7 +667,7 @@ chain-same-length-3 t c = c .before .before .loop .inv .2 ∙ c .before .before 
 chain-returns-3 : (t : ℕ) → chain-lts.Need-returns-3 (chain-claims t) (chain-at t) chain.Post chain-Inv-loop chain-μ-loop
 chain-returns-3 t c =
     chains.chain-all (says-success (c .before .before .before .before .before .before .before .before .before .primary .ensures) (c .before .before .before .before .before .first2 .given .1))
-    (chains.chain-ended (c .before .before .loop .inv .0) (c .before .before .before .before .before .before .before .before .before .before .before .before .before .before .pre .1 .0) (λ is. c .before .if1 .left (c .before .before .loop .inv .1 ∙ is)) (λ is. eqb-false _ _ (c .if2 .left) (c .before .before .loop .inv .1 ∙ is)))
+    (chains.chain-ended (c .before .before .loop .inv .0) (c .before .before .before .before .before .before .before .before .before .before .before .before .before .before .pre .1 .0) (read-is-not (c .before .before .loop .inv .1) (c .before .if1 .left)) (read-is-not (c .before .before .loop .inv .1) (eqb-false _ _ (c .if2 .left))))
 
 expr-target-requires : (t : ℕ) → expr-lts.Need-target-requires (expr-claims t) (expr-at t) expr.Post
 expr-target-requires t c κs = search needs
@@ -810,19 +810,19 @@ func-place-at-requires-3 t c κs = search needs
 func-returns-3 : (t : ℕ) → func-lts.Need-returns-3 (func-claims t) (func-at t) func.Post
 func-returns-3 t c =
     let opened = read-is (c .before .before .before .before .before .before .before .before .class-at2 .ensures) (c .before .before .before .before .before .before .before .if2 .left) in
-    says-bad-at (c .place-at3 .ensures) (function-bodiless (c .before .before .before .before .before .before .before .before .before .before .before .before .before .before .pre .1 .0) _ (read-is (c .before .before .before .before .before .before .before .before .before .before .class-at .ensures) (c .before .before .before .before .before .before .before .before .before .if1 .left)) opened (parameter-taken (c .before .before .before .before .before .before .before .before .before .before .before .before .before .before .pre .1 .0) _ _ opened (sym (c .before .before .before .before .before .before .parameter .ensures) ∙ c .before .before .before .before .taken2 .given .1)) (read-is-not (c .before .before .class-at3 .ensures) (c .before .if3 .taken)))
+    says-bad-at (c .place-at3 .ensures) (function-bodiless (c .before .before .before .before .before .before .before .before .before .before .before .before .before .before .pre .1 .0) _ (read-is (c .before .before .before .before .before .before .before .before .before .before .class-at .ensures) (c .before .before .before .before .before .before .before .before .before .if1 .left)) opened (parameter-taken (c .before .before .before .before .before .before .before .before .before .before .before .before .before .before .pre .1 .0) _ _ opened (read-is (c .before .before .before .before .before .before .parameter .ensures) (c .before .before .before .before .taken2 .given .1))) (read-is-not (c .before .before .class-at3 .ensures) (c .before .if3 .taken)))
 
 func-block-requires : (t : ℕ) → func-lts.Need-block-requires (func-claims t) (func-at t) func.Post
 func-block-requires t c κs =
     let opened = read-is (c .before .before .before .before .before .before .before .before .class-at2 .ensures) (c .before .before .before .before .before .before .before .if2 .left) in
     let s = stands (c .before .before .before .before .before .before .before .before .before .before .before .before .before .before .pre .1 .0) _ opened tt in
-    let f = parameter-taken (c .before .before .before .before .before .before .before .before .before .before .before .before .before .before .pre .1 .0) _ _ opened (sym (c .before .before .before .before .before .before .parameter .ensures) ∙ c .before .before .before .before .taken2 .given .1) in
+    let f = parameter-taken (c .before .before .before .before .before .before .before .before .before .before .before .before .before .before .pre .1 .0) _ _ opened (read-is (c .before .before .before .before .before .before .parameter .ensures) (c .before .before .before .before .taken2 .given .1)) in
     (omega (arith, c .before .before .before .before .before .before .before .before .before .before .before .before .before .before .pre .0, f .next), (c .before .before .before .before .before .before .before .before .before .before .before .before .before .before .pre .1 .0, (omega (arith, c .before .before .before .before .before .before .before .before .before .before .before .before .before .before .pre .1 .1, f .next), read-is (c .before .before .class-at3 .ensures) (c .before .if3 .left))))
 
 func-returns-4 : (t : ℕ) → func-lts.Need-returns-4 (func-claims t) (func-at t) func.Post
 func-returns-4 t c =
     let opened = read-is (c .before .before .before .before .before .class-at2 .ensures) (c .before .before .before .before .if2 .left) in
-    says-bad (function-parameter-fails (c .before .before .before .before .before .before .before .before .before .before .before .pre .1 .0) _ (read-is (c .before .before .before .before .before .before .before .class-at .ensures) (c .before .before .before .before .before .before .if1 .left)) opened (parameter-dies (c .before .before .before .before .before .before .before .before .before .before .before .pre .1 .0) _ (c .before .before .before .before .before .before .before .before .before .before .before .args .count) opened (sym (c .before .before .before .parameter .ensures) ∙ c .before .taken .given .1)))
+    says-bad (function-parameter-fails (c .before .before .before .before .before .before .before .before .before .before .before .pre .1 .0) _ (read-is (c .before .before .before .before .before .before .before .class-at .ensures) (c .before .before .before .before .before .before .if1 .left)) opened (parameter-dies (c .before .before .before .before .before .before .before .before .before .before .before .pre .1 .0) _ (c .before .before .before .before .before .before .before .before .before .before .before .args .count) opened (read-is (c .before .before .before .parameter .ensures) (c .before .taken .given .1))))
 
 func-same-length : (t : ℕ) → func-lts.Need-same-length (func-claims t) (func-at t) func.Post
 func-same-length t c = search needs
@@ -830,7 +830,7 @@ func-same-length t c = search needs
 func-returns-5 : (t : ℕ) → func-lts.Need-returns-5 (func-claims t) (func-at t) func.Post
 func-returns-5 t c =
     let opened = read-is (c .before .before .before .before .before .before .before .before .before .before .before .class-at2 .ensures) (c .before .before .before .before .before .before .before .before .before .before .if2 .left) in
-    function-says (c .before .before .before .before .before .before .before .before .before .before .before .before .before .before .before .before .before .pre .1 .0) _ (read-is (c .before .before .before .before .before .before .before .before .before .before .before .before .before .class-at .ensures) (c .before .before .before .before .before .before .before .before .before .before .before .before .if1 .left)) opened (parameter-taken (c .before .before .before .before .before .before .before .before .before .before .before .before .before .before .before .before .before .pre .1 .0) _ _ opened (sym (c .before .before .before .before .before .before .before .before .before .parameter .ensures) ∙ c .before .before .before .before .before .before .before .taken2 .given .1)) (read-is (c .before .before .before .before .before .class-at3 .ensures) (c .before .before .before .before .if3 .left)) (c .before .before .block .ensures)
+    function-says (c .before .before .before .before .before .before .before .before .before .before .before .before .before .before .before .before .before .pre .1 .0) _ (read-is (c .before .before .before .before .before .before .before .before .before .before .before .before .before .class-at .ensures) (c .before .before .before .before .before .before .before .before .before .before .before .before .if1 .left)) opened (parameter-taken (c .before .before .before .before .before .before .before .before .before .before .before .before .before .before .before .before .before .pre .1 .0) _ _ opened (read-is (c .before .before .before .before .before .before .before .before .before .parameter .ensures) (c .before .before .before .before .before .before .before .taken2 .given .1))) (read-is (c .before .before .before .before .before .class-at3 .ensures) (c .before .before .before .before .if3 .left)) (c .before .before .block .ensures)
 
 func-expr-add-func : (t : ℕ) → func-expr-lts.Need-add-func (func-expr-claims t) (func-expr-at t) func-expr.Post
 func-expr-add-func t c =
@@ -1163,7 +1163,7 @@ object-same-length t c = search needs
 
 object-returns : (t : ℕ) → object-lts.Need-returns (object-claims t) (object-at t) object.Post
 object-returns t c =
-    says-put (object-empty (c .before .before .before .before .before .before .before .before .before .pre .1 .0) _ (c .before .before .before .before .before .before .before .before .before .pre .1 .1 .1) _ _ (sym (c .before .before .before .before .before .size-at .ensures) ∙ c .before .before .before .before .if1 .taken) (omega (arith, c .before .before .before .before .before .size-at .ensures))) (c .before .before .put .ensures)
+    says-put (object-empty (c .before .before .before .before .before .before .before .before .before .pre .1 .0) _ (c .before .before .before .before .before .before .before .before .before .pre .1 .1 .1) _ _ (read-is (c .before .before .before .before .before .size-at .ensures) (c .before .before .before .before .if1 .taken)) (omega (arith, c .before .before .before .before .before .size-at .ensures))) (c .before .before .put .ensures)
 
 object-closer-at-requires : (t : ℕ) → object-lts.Need-closer-at-requires (object-claims t) (object-at t) object.Post
 object-closer-at-requires t c κs = search needs
@@ -1443,14 +1443,14 @@ primary-same-length-4 t c = search needs
 
 primary-returns-4 : (t : ℕ) → primary-lts.Need-returns-4 (primary-claims t) (primary-at t) primary.Post
 primary-returns-4 t c =
-    says-put (primary-leaf (c .before .before .before .before .before .before .before .before .before .before .before .before .before .pre .1 .0) _ _ _ (sym (c .before .before .before .before .before .before .before .before .before .class-at .ensures)) (leaf-is _ (sym (c .before .before .before .before .before .is-leaf .ensures) ∙ c .before .before .before .before .if4 .taken))) (c .before .before .put .ensures)
+    says-put (primary-leaf (c .before .before .before .before .before .before .before .before .before .before .before .before .before .pre .1 .0) _ _ _ (sym (c .before .before .before .before .before .before .before .before .before .class-at .ensures)) (leaf-is _ (read-is (c .before .before .before .before .before .is-leaf .ensures) (c .before .before .before .before .if4 .taken)))) (c .before .before .put .ensures)
 
 primary-place-at-requires : (t : ℕ) → primary-lts.Need-place-at-requires (primary-claims t) (primary-at t) primary.Post
 primary-place-at-requires t c κs = search needs
 
 primary-returns-5 : (t : ℕ) → primary-lts.Need-returns-5 (primary-claims t) (primary-at t) primary.Post
 primary-returns-5 t c =
-    says-bad-at (c .place-at .ensures) (none-is (c .before .before .before .before .before .before .before .before .before .before .pre .1 .0) _ (ap isLeaf (sym (c .before .before .before .before .before .before .class-at .ensures)) ∙ (sym (c .before .before .is-leaf .ensures) ∙ c .before .if4 .left)) (read-is-not (c .before .before .before .before .before .before .class-at .ensures) (c .before .before .before .before .before .if1 .left)) (read-is-not (c .before .before .before .before .before .before .class-at .ensures) (c .before .before .before .before .if2 .left)) (read-is-not (c .before .before .before .before .before .before .class-at .ensures) (c .before .before .before .if3 .left)))
+    says-bad-at (c .place-at .ensures) (none-is (c .before .before .before .before .before .before .before .before .before .before .pre .1 .0) _ (ap isLeaf (sym (c .before .before .before .before .before .before .class-at .ensures)) ∙ (read-is (c .before .before .is-leaf .ensures) (c .before .if4 .left))) (read-is-not (c .before .before .before .before .before .before .class-at .ensures) (c .before .before .before .before .before .if1 .left)) (read-is-not (c .before .before .before .before .before .before .class-at .ensures) (c .before .before .before .before .if2 .left)) (read-is-not (c .before .before .before .before .before .before .class-at .ensures) (c .before .before .before .if3 .left)))
 
 ret-stmt-add-class-at : (t : ℕ) → ret-stmt-lts.Need-add-class-at (ret-stmt-claims t) (ret-stmt-at t) ret-stmt.Post
 ret-stmt-add-class-at t c =
