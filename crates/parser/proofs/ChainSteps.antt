@@ -43,7 +43,6 @@ use Rattle.parser.specs.Says.{
   Called,
   Linked,
   Links,
-  links-on,
   links-bad,
   Operated,
   Completes,
@@ -53,6 +52,7 @@ use Rattle.parser.specs.Says.{
 use Rattle.parser.specs.declared.Parsed.{Parsed}
 use Rattle.parser.specs.declared.Parsed.the-variants.{Done, Bad}
 use Rattle.parser.proofs.PartLaws.{class-within}
+use Rattle.parser.proofs.ReadValues.{read-is, read-is-not, stands, says-put}
 use Rattle.parser.proofs.SaidLaws.{DiesBehind, fills-filled, fills-dies}
 use Rattle.parser.proofs.SuccessLaws.{success-extended, success-dies, extended-further, ended-in}
 use Rattle.parser.proofs.CallPaths.{calls-none, call-once, call-fails, call-dies, member-once, member-fails, member-dies}
@@ -93,10 +93,6 @@ pub tight-within : (text cells : List ℕ) (i : ℕ) {class tightness : ℕ} →
 tight-within text cells i {class} is tight some =
     class-within text cells i (omega (arith, tight-class class (omega arith)))
 
--- and so is one of a class
-pub class-here : (text cells : List ℕ) (i : ℕ) {class known : ℕ} → class ≡ classAt text cells i → class ≡ known → 1 ≤ known → i < countOf cells
-class-here text cells i is same some = class-within text cells i (omega arith)
-
 -- what is behind one step is behind the step and the operand before it
 extends-further : {left right form : Form} {Before Past : Part → ℕ → Syntax → Type 0} {p : Part} {i start j n : ℕ} {table middle final : List ℕ}
     {v : Syntax} {answer : Parsed} (once : Extended left right Before p i start table v j n middle)
@@ -136,9 +132,9 @@ operators-complete {p} fine {j} {start} operated no-assign i table s =
 
 -- `assigned`: `=` and an Assign behind a Chain
 module _ {p : Part} (fine : Fine p) {j : ℕ} (equals : classAt (p .text) (p .cells) j ≡ assign) {start n : ℕ} {middle : List ℕ} where
-  pub assigned-value : {k m all : ℕ} {after final : List ℕ} → Success assignForm (Ended 1) p (j + 1) n middle k m after → all ≡ m + 1
-      → final ≡ putRecord after m assign (p .base + j) (m - start + 1) → Completes p j start n middle (Done k all) final
-  assigned-value value number written i table s = rw (number, written) (says-done (assign-value fine i start table s equals value))
+  pub assigned-value : {k m all : ℕ} {after final : List ℕ} → Success assignForm (Ended 1) p (j + 1) n middle k m after
+      → (all ≡ m + 1) × (final ≡ putRecord after m assign (p .base + j) (m - start + 1)) → Completes p j start n middle (Done k all) final
+  assigned-value value put i table s = says-put (assign-value fine i start table s equals value) put
 
   pub assigned-fails : {place : ℕ} {final : List ℕ} → Fails assignForm p (j + 1) place → Completes p j start n middle (Bad place) final
   assigned-fails fails i table s = says-bad (assign-value-fails fine i start table s equals fails)
@@ -177,19 +173,19 @@ module _ {p : Part} (fine : Fine p) {i least class : ℕ} (is : class ≡ classA
   binary-fails fails = extends-bad (operator-fails fine i (sym is) (omega arith) fails)
 
   pub binary-more : {count k m : ℕ} {middle after : List ℕ}
-      → Success (binaryForm (tightness + 1)) (EndedIn false (tightness + 1)) p (i + 1) count middle k m after → (start all : ℕ) {written : List ℕ} → all ≡ m + 1
-      → written ≡ putRecord after m class (p .base + i) (m - start + 1) → (answer : Parsed) (final : List ℕ)
+      → Success (binaryForm (tightness + 1)) (EndedIn false (tightness + 1)) p (i + 1) count middle k m after → (start all : ℕ) {written : List ℕ}
+      → (all ≡ m + 1) × (written ≡ putRecord after m class (p .base + i) (m - start + 1)) → (answer : Parsed) (final : List ℕ)
       → ((table : List ℕ) (v : Syntax) (target : Bool) → all ≡ start + size v → written ≡ putSyntax table start v → Uncalled p k v
       → (classAt (p .text) (p .cells) k ≡ assign → target && mayAssign v ≡ false)
       → Extends (operandForm least p k) (binaryForm least) (EndedIn target least) p k start table v answer final)
       → (table : List ℕ) (v : Syntax) (target : Bool) → count ≡ start + size v → middle ≡ putSyntax table start v
       → Extends (operandForm least p i) (binaryForm least) (EndedIn target least) p i start table v answer final
-  binary-more s start all added put answer final rest table v target number before =
+  binary-more s start all put answer final rest table v target number before =
       let right = rw tight at s in
       let once = operator-once fine i (sym is) (omega arith) start table v {least = least} number before (omega arith) right in
       let ended = ended-in target {v = once .syntax} (once .past) in
       extends-further once (λ place. operator-dies fine i (sym is) (omega arith) right)
-      (rest table (once .syntax) target (added ∙ once .count-is) (put ∙ once .cells-are) (ended .uncalled) (ended .unassigned))
+      (rest table (once .syntax) target (put .0 ∙ once .count-is) (put .1 ∙ once .cells-are) (ended .uncalled) (ended .unassigned))
 
 -- the loop of `binary`: where it ends, and its next turn
 module _ {p : Part} (fine : Fine p) {from start i n least class tightness : ℕ} {cells : List ℕ} {Whole : Parsed → List ℕ → Type 0}
@@ -204,9 +200,9 @@ module _ {p : Part} (fine : Fine p) {from start i n least class tightness : ℕ}
       underway .rest _ _ (λ table v target number written uncalled unassigned. binary-fails fine is tight some bound fails)
 
   pub binary-again : 1 ≤ least → least ≤ tightness → {k m all : ℕ} {after written : List ℕ}
-      → Success (binaryForm (tightness + 1)) (EndedIn false (tightness + 1)) p (i + 1) n cells k m after → all ≡ m + 1
-      → written ≡ putRecord after m class (p .base + i) (m - start + 1) → Underway p from start (Operated least p k start all written) Whole k all
-  binary-again some bound s added put = record {
+      → Success (binaryForm (tightness + 1)) (EndedIn false (tightness + 1)) p (i + 1) n cells k m after
+      → (all ≡ m + 1) × (written ≡ putRecord after m class (p .base + i) (m - start + 1)) → Underway p from start (Operated least p k start all written) Whole k all
+  binary-again some bound s put = record {
     further = omega (arith, underway .further, s .few);
     within = s .within;
     some = omega (arith, underway .some, s .count-is);
@@ -214,7 +210,7 @@ module _ {p : Part} (fine : Fine p) {from start i n least class tightness : ℕ}
     rest = λ answer final rest.
         underway .rest answer final
         (λ table v target number before uncalled unassigned.
-        binary-more fine is tight some bound s start _ added put answer final rest table v target number before);
+        binary-more fine is tight some bound s start _ put answer final rest table v target number before);
   }
 
 -- the loop of `chain`: its next turn, and where it ends
@@ -233,42 +229,25 @@ module _ {p : Part} {from start i n : ℕ} {cells : List ℕ} {Whole : Parsed �
   chain-ended fine no-dot no-parens =
       underway .rest _ _ (λ table v number written. extends-done (calls-none fine i start table v number written (underway .within) no-dot no-parens))
 
--- the answer of `link`, taken apart
-module _ {p : Part} {i start count : ℕ} {cells : List ℕ} where
-  pub links-linked : {r : Parsed} {after : List ℕ} → Links p i start count cells r after → {j n : ℕ} → r ≡ Done j n
-      → Linked p i start count cells j n after
-  links-linked (links-on {j = k} {n = m} linked) {j} {n} e =
-      let a : k ≡ j = cc in
-      let b : m ≡ n = cc in
-      rw (a, b) at linked
-  links-linked (links-bad called) e = let z : _≡_ {A = ℕ} 0 1 = cc in absurd (omega arith)
-
-  pub links-called : {r : Parsed} {after : List ℕ} → Links p i start count cells r after → {place : ℕ} → r ≡ Bad place
-      → Called p i start count cells (Bad place) after
-  links-called (links-on linked) e = let z : _≡_ {A = ℕ} 0 1 = cc in absurd (omega arith)
-  links-called (links-bad {place = z} called) {place} e =
-      let a : z ≡ place = cc in
-      rw a at called
-
 -- `link`: a member
 module _ {p : Part} (fine : Fine p) {i class named : ℕ} (is : class ≡ classAt (p .text) (p .cells) i) (member : class ≡ dot)
     (then : named ≡ classAt (p .text) (p .cells) (i + 1)) {start count : ℕ} {cells : List ℕ} where
   pub member-unnamed : (named ≡ name → ⊥) → {place : ℕ} → place ≡ placeAt (p .cells) (p .close) (i + 1) → {final : List ℕ}
       → Links p i start count cells (Bad place) final
   member-unnamed no-name here =
-      rw here (links-bad (λ table v number written. extends-bad (member-fails fine i (sym is ∙ member) (λ names. no-name (then ∙ names)))))
+      rw here (links-bad (λ table v number written. extends-bad (member-fails fine i (read-is is member) (read-is-not then no-name))))
 
-  pub member-linked : named ≡ name → {all mark : ℕ} {written : List ℕ} → mark ≡ p .base + i + 1 → all ≡ count + 1
-      → written ≡ putRecord cells count memberSyntax mark (count - start + 1) → Linked p i start count cells (i + 2) all written
-  member-linked names {mark = mark} marked added put = record {
+  pub member-linked : named ≡ name → {all mark : ℕ} {written : List ℕ} → mark ≡ p .base + i + 1
+      → (all ≡ count + 1) × (written ≡ putRecord cells count memberSyntax mark (count - start + 1)) → Linked p i start count cells (i + 2) all written
+  member-linked names {mark = mark} marked put = record {
     further = omega arith;
-    within = omega (arith, class-within (p .text) (p .cells) (i + 1) (omega arith));
+    within = omega (arith, stands fine (i + 1) (read-is then names) tt .within);
     more = omega arith;
     few = omega arith;
     rest = λ answer final rest table v number before.
-        let once = member-once fine i start table v number before (sym is ∙ member) (sym then ∙ names) mark marked in
-        extends-further once (λ place. member-dies fine i (sym is ∙ member) (sym then ∙ names))
-        (rest table (once .syntax) (added ∙ once .count-is) (put ∙ once .cells-are));
+        let once = member-once fine i start table v number before (read-is is member) (read-is then names) mark marked in
+        extends-further once (λ place. member-dies fine i (read-is is member) (read-is then names))
+        (rest table (once .syntax) (put .0 ∙ once .count-is) (put .1 ∙ once .cells-are));
   }
 
 -- a call
@@ -277,18 +256,17 @@ module _ {p : Part} (fine : Fine p) {i : ℕ} (call : classAt (p .text) (p .cell
   pub call-bad : {place : ℕ} → answered ≡ Bad place → {final : List ℕ} → Links p i start count cells (Bad place) final
   call-bad bad = links-bad (λ table v number written. extends-bad (call-fails fine i call (fills-dies filled bad)))
 
-  pub call-linked : {k m : ℕ} → answered ≡ Done k m → {all : ℕ} {written : List ℕ} → all ≡ m + 1
-      → written ≡ putRecord after m callSyntax (p .base + i) (m - start + 1) → Linked p i start count cells k all written
-  call-linked done added put =
+  pub call-linked : {k m : ℕ} → answered ≡ Done k m → {all : ℕ} {written : List ℕ}
+      → (all ≡ m + 1) × (written ≡ putRecord after m callSyntax (p .base + i) (m - start + 1)) → Linked p i start count cells k all written
+  call-linked done put =
       let argument = fills-filled filled done in
-      let here = class-within (p .text) (p .cells) i (omega arith) in
       record {
         further = omega (arith, argument .few);
-        within = omega (arith, argument .next, fine .at i here .fits);
+        within = omega (arith, argument .next, stands fine i call tt .fits);
         more = omega (arith, argument .count-is);
         few = omega (arith, argument .count-is, argument .few);
         rest = λ answer final rest table v number before.
             let once = call-once fine i start table v number before call argument in
             extends-further once (λ place. call-dies fine i call argument)
-            (rest table (once .syntax) (added ∙ once .count-is) (put ∙ once .cells-are));
+            (rest table (once .syntax) (put .0 ∙ once .count-is) (put .1 ∙ once .cells-are));
       }

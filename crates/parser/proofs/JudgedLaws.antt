@@ -1,16 +1,15 @@
 -- The whole table: what `program` answers by the statements, and what `parse` answers by that.
 use mathlib.Core.Path.{_≡_, refl, sym, ap, subst, _∙_}
 use mathlib.Core.List.{List, [], _∷_, _++_}
-use mathlib.Core.Bool.{Bool, true, false, cond}
-use Prim.Native.Nat.{ℕ, _+_, _-_, _*_, _/_, _≤_, _<_, min}
+use mathlib.Core.Bool.{Bool, false, cond}
+use Prim.Native.Nat.{ℕ, _+_, _-_, _*_, _/_, _≤_, _<_}
 use native.Mathlib.Omega.{arith}
-use borrow.Author.Tests.{leb-true, leb-false, le-leb, lt-leb}
-use lib.Dec.{leb}
+use borrow.Author.Tests.{le-leb, lt-leb}
 use lib.ListN.{length, take, drop, replicate, length-append}
 use lib.Seq.{take-at}
 use Rattle.answers.specs.declared.Answer.{Answer}
 use Rattle.prefix.specs.Trees.{Trees, count}
-use Rattle.prefix.specs.Reading.{Reading, accepted, refused, reading}
+use Rattle.prefix.specs.Reading.{Reading, accepted, refused}
 use Rattle.tables.specs.Records.{treeWidth, mostTrees}
 use Rattle.reader.specs.Records.{records}
 use Rattle.reader.specs.Read
@@ -25,9 +24,9 @@ use Rattle.grammar.proofs.Complete.{complete, complete-to-end}
 use Rattle.grammar.proofs.Counts.{few-parts}
 use Rattle.grammar.proofs.CountTrees.{count-tokens}
 use Rattle.parser.specs.Parts.{Part, part, countOf, Fine, tokensAt}
-use Rattle.parser.specs.Follow.{Fate, stands, died, follow}
+use Rattle.parser.specs.Follow.{Fate, stands, follow}
 use Rattle.parser.specs.Written.{putRecord, putSyntax}
-use Rattle.parser.specs.Says.{Says, AtEnd, Success, Fails, Judged, judged-bad, judged-full, judged-program}
+use Rattle.parser.specs.Says.{Says, AtEnd, Success, Judged, judged-bad, judged-full, judged-program}
 use Rattle.parser.specs.Parse.{noProgram, syntaxFull, syntaxRoom, Parsing, program, denied, endSpot, endToken, fateOf, partsBy, partsOf, judged, fitting, parsed, parsingFor, answerOf, treesAfter, syntaxAfter}
 use Rattle.parser.specs.declared.Parsed.{Parsed}
 use Rattle.parser.specs.declared.Parsed.the-variants.{Done, Bad}
@@ -38,11 +37,6 @@ use Rattle.parser.proofs.ProgramPaths.{program-derives, program-written
 use Rattle.parser.proofs.WrittenCells.{syntax-written, syntax-kept-length}
 use Rattle.parser.proofs.AcceptedReadings.{AcceptedReading, accepted-reading}
 use Rattle.parser.proofs.ReadParts.{reading-fine, reading-tokens}
-
--- the program's record has room among all, and its mark among the tree records
-pub program-room : {p : Part} {table after : List ℕ} {j n : ℕ} → Fine p → Success (statementsForm body) AtEnd p 0 0 table j n after
-    → (n < mostSyntax) × (countOf (p .cells) ≤ mostTrees)
-program-room {p} fine s = omega (arith, fine .few, s .few, s .within, s .count-is)
 
 module _ {p : Part} {table middle : List ℕ} {r : Parsed} (says : Says (statementsForm body) AtEnd p 0 0 table r middle) where
   pub judge-bad : {place : ℕ} {after : List ℕ} → r ≡ Bad place → Judged p table (Answer.Refused noProgram place) after

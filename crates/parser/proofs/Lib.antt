@@ -33,6 +33,7 @@ pub mod WrittenCells
 pub mod Verdicts
 pub mod AcceptedReadings
 pub mod Theorems
+pub mod ReadValues
 pub mod ChainSteps
 pub mod PrimarySteps
 pub mod StatementSteps

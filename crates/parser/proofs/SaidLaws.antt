@@ -17,10 +17,11 @@ use Rattle.parser.specs.Says.{
   Says,
   says-done,
   says-bad,
-  Extended,
-  Extends,
-  extends-done,
-  extends-bad,
+  Called,
+  Linked,
+  Links,
+  links-on,
+  links-bad,
   Filled,
   Fills,
   fills-done,
@@ -54,23 +55,6 @@ module _ {form : Form} {Past : Part → ℕ → Syntax → Type 0} {p : Part} {i
       let a : z ≡ place = cc in
       rw a at fails
 
--- behind what extends an operand
-module _ {left form : Form} {Past : Part → ℕ → Syntax → Type 0} {p : Part} {i start : ℕ} {table : List ℕ} {v : Syntax} where
-  pub extends-extended : {r : Parsed} {after : List ℕ} → Extends left form Past p i start table v r after → {j n : ℕ} → r ≡ Done j n
-      → Extended left form Past p i start table v j n after
-  extends-extended (extends-done {j = k} {n = m} extended) {j} {n} e =
-      let a : k ≡ j = cc in
-      let b : m ≡ n = cc in
-      rw (a, b) at extended
-  extends-extended (extends-bad dies) e = let z : _≡_ {A = ℕ} 0 1 = cc in absurd (omega arith)
-
-  pub extends-dies : {r : Parsed} {after : List ℕ} → Extends left form Past p i start table v r after → {place : ℕ} → r ≡ Bad place
-      → DiesBehind p i place
-  extends-dies (extends-done extended) e = let z : _≡_ {A = ℕ} 0 1 = cc in absurd (omega arith)
-  extends-dies (extends-bad {place = z} dies) {place} e =
-      let a : z ≡ place = cc in
-      rw a at dies
-
 -- behind a group
 module _ {form : Form} {class : ℕ} {control : Control} {p : Part} {i start : ℕ} {table : List ℕ} where
   pub fills-filled : {r : Parsed} {after : List ℕ} → Fills form class control p i start table r after → {j n : ℕ} → r ≡ Done j n
@@ -87,3 +71,20 @@ module _ {form : Form} {class : ℕ} {control : Control} {p : Part} {i start : �
   fills-dies (fills-bad {place = z} dies) {place} e =
       let a : z ≡ place = cc in
       rw a at dies
+
+-- behind a call or a member
+module _ {p : Part} {i start count : ℕ} {cells : List ℕ} where
+  pub links-linked : {r : Parsed} {after : List ℕ} → Links p i start count cells r after → {j n : ℕ} → r ≡ Done j n
+      → Linked p i start count cells j n after
+  links-linked (links-on {j = k} {n = m} linked) {j} {n} e =
+      let a : k ≡ j = cc in
+      let b : m ≡ n = cc in
+      rw (a, b) at linked
+  links-linked (links-bad called) e = let z : _≡_ {A = ℕ} 0 1 = cc in absurd (omega arith)
+
+  pub links-called : {r : Parsed} {after : List ℕ} → Links p i start count cells r after → {place : ℕ} → r ≡ Bad place
+      → Called p i start count cells (Bad place) after
+  links-called (links-on linked) e = let z : _≡_ {A = ℕ} 0 1 = cc in absurd (omega arith)
+  links-called (links-bad {place = z} called) {place} e =
+      let a : z ≡ place = cc in
+      rw a at called

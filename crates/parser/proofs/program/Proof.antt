@@ -7,7 +7,8 @@ use Rattle.parser.proofs.descent.stmts.Reads as stmts-reads
 use Rattle.parser.proofs.records.put.Reads as put-reads
 use native.Mathlib.Omega.{arith}
 use Rattle.parser.proofs.SaidLaws.{says-success}
-use Rattle.parser.proofs.JudgedLaws.{program-room, judge-bad, judge-full, judge-program}
+use Rattle.parser.proofs.ReadValues.{success-room}
+use Rattle.parser.proofs.JudgedLaws.{judge-bad, judge-full, judge-program}
 
 -- src/lib.rt:53:9
 stmts-requires : tie.Need-stmts-requires
@@ -26,8 +27,7 @@ put-requires : tie.Need-put-requires
 put-requires c κs =
     let fine = c .before .before .before .before .before .before .before .before .before .before .before .pre in
     let s = says-success (c .before .before .before .before .before .before .stmts .ensures) (c .before .before .body2 .given .1) in
-    let room = program-room fine s in
-    (omega arith, room .0, room .1)
+    success-room fine s (omega arith) (omega arith) (omega (arith, s .past))
 
 -- src/lib.rt:59:17
 same-length : tie.Need-same-length

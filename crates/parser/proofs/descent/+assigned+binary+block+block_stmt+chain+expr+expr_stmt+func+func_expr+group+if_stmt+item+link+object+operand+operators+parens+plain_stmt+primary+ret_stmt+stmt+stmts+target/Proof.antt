@@ -1,6 +1,6 @@
 -- The parsers call each other, so they are proved together. Each has a measure: 32 times the records left in its part, and a rank
 -- among those that start at one record. Each need is what the code asks at one place; the facts of the callees go into the laws of
--- ChainSteps, PrimarySteps and StatementSteps. The last term ties all of them.
+-- ReadValues, ChainSteps, PrimarySteps and StatementSteps. The last term ties all of them.
 use Prim.Native.Nat.{ℕ, _<_, _+_, _-_, _*_}
 use borrow.Fn.Kinds.{In}
 use borrow.Fn.PlainCycle.{Measures, is, falls, and}
@@ -92,28 +92,29 @@ use mathlib.Core.Bool.{false}
 use mathlib.Core.Logic.{⊎-elim}
 use borrow.Author.Tests.{eqb-true, eqb-false}
 use lib.ListN.{length}
+use native.Mathlib.Nat.{le-refl}
 use native.Mathlib.Omega.{arith}
 use borrow.Author.Needs.{needs}
 use Rattle.parser.specs.Parts.{countOf, classAt, part, isLeaf}
 use Rattle.parser.specs.Says.{Anything, Success, says-done, says-bad, Called, links-on, Operated, scopeOf}
 use Rattle.grammar.specs.Grammar.{statementsForm, precedence as tightness}
-use Rattle.parser.proofs.SaidLaws.{says-success, says-fails, fills-filled, fills-dies}
+use Rattle.parser.proofs.SaidLaws.{says-success, says-fails, fills-filled, fills-dies, links-linked, links-called}
+use Rattle.parser.proofs.ReadValues.{read-is, read-is-not, stands, content-fits, content-fine, success-room, behind-room, filled-room, says-put, says-bad-at}
 use Rattle.parser.proofs.StatementPaths.{statement-function-fails, block-statement-fails, block-statement-whole}
 use Rattle.parser.proofs.IfPaths.{if-unopened, if-condition-fails, if-statement-fails, if-whole}
 use Rattle.parser.proofs.LabelPaths.{labelled-up, labelled-fails}
 use Rattle.parser.proofs.ReturnPaths.{return-bare, return-line-end, return-value-fails, return-unended, return-whole}
 use Rattle.parser.proofs.ExpressionStatementPaths.{expression-statement-fails, expression-statement-unended, expression-statement-whole}
 use Rattle.parser.proofs.StatementsPaths.{statements-none, statements-all}
-use Rattle.parser.proofs.StatementSteps.{read-is, read-is-not, known-within, success-room, filled-room, filled-then-room, put-done, bad-at, inside-as, brace-measure, block-bad, block-done, add-statement, no-body, is-body, add-declaration-bad, add-declaration-done, turn-done, turn-bad}
+use Rattle.parser.proofs.StatementSteps.{block-bad, block-done, add-statement, no-body, is-body, add-declaration-bad, add-declaration-done, turn-done, turn-bad}
 use Rattle.parser.proofs.AssignPaths.{assign-fails}
 use Rattle.parser.proofs.ChainSteps as chains
 use Rattle.parser.proofs.ChainSteps.{Underway}
-use Rattle.parser.proofs.PartLaws.{class-within}
 use Rattle.parser.proofs.PrimaryPaths.{primary-leaf, primary-parens, primary-parens-fails, primary-function, primary-function-fails}
 use Rattle.parser.proofs.ObjectPaths.{object-empty}
 use Rattle.parser.proofs.ParameterPaths.{parameter-taken, parameter-dies}
 use Rattle.parser.proofs.FunctionPaths.{function-unnamed, function-unopened, function-parameter-fails, function-bodiless}
-use Rattle.parser.proofs.PrimarySteps.{stands, says-put, says-bad-at, leaf-is, none-is, content-count, content-fine, group-bad, group-long, group-done, object-nameless, object-colonless, object-bad, object-long, object-done, function-says}
+use Rattle.parser.proofs.PrimarySteps.{leaf-is, none-is, group-bad, group-long, group-done, object-nameless, object-colonless, object-bad, object-long, object-done, function-says}
 
 abbrev μ-assigned : Measures 3 assigned-kinds.ps ℕ
 μ-assigned κs a = 32 * (countOf (a .1 .0 .now) - a .1 .1 .1 .1 .0) + 1
@@ -406,7 +407,7 @@ assigned-add-expr t c = search needs
 assigned-expr-requires : (t : ℕ) → assigned-lts.Need-expr-requires (assigned-claims t) (assigned-at t) assigned.Post
 assigned-expr-requires t c κs =
     let pre = c .before .before .before .before .pre in
-    let here = known-within (pre .1 .0) (c .before .before .before .before .args .at) (pre .1 .1 .3) tt in
+    let here = stands (pre .1 .0) _ (pre .1 .1 .3) tt .within in
     (omega arith, (pre .1 .0, (omega arith, omega arith)))
 
 assigned-enum-known-value : (t : ℕ) → assigned-lts.Need-enum-known-value (assigned-claims t) (assigned-at t) assigned.Post
@@ -421,10 +422,7 @@ assigned-add-put t c = search needs
 assigned-put-requires : (t : ℕ) → assigned-lts.Need-put-requires (assigned-claims t) (assigned-at t) assigned.Post
 assigned-put-requires t c κs =
     let pre = c .before .before .before .before .before .before .before .before .before .before .before .pre in
-    let few = pre .1 .0 .few in
-    let here = known-within (pre .1 .0) (c .before .before .before .before .before .before .before .before .before .before .before .args .at) (pre .1 .1 .3) tt in
-    let value = says-success (c .before .before .before .before .before .before .expr .ensures) (c .before .before .value2 .given .1) in
-    (omega arith, omega arith, omega arith)
+    behind-room (pre .1 .0) _ (says-success (c .before .before .before .before .before .before .expr .ensures) (c .before .before .value2 .given .1)) (pre .1 .1 .1) (pre .1 .1 .2)
 
 assigned-same-length : (t : ℕ) → assigned-lts.Need-same-length (assigned-claims t) (assigned-at t) assigned.Post
 assigned-same-length t c = search needs
@@ -440,7 +438,7 @@ assigned-same-length-2 t c = search needs
 assigned-returns-2 : (t : ℕ) → assigned-lts.Need-returns-2 (assigned-claims t) (assigned-at t) assigned.Post
 assigned-returns-2 t c =
     let pre = c .before .before .before .before .before .before .before .before .before .before .before .before .before .before .pre in
-    chains.assigned-value (pre .1 .0) (pre .1 .1 .3) (says-success (c .before .before .before .before .before .before .before .before .before .expr .ensures) (c .before .before .before .before .before .value2 .given .1)) (c .before .before .put .ensures .0) (c .before .before .put .ensures .1)
+    chains.assigned-value (pre .1 .0) (pre .1 .1 .3) (says-success (c .before .before .before .before .before .before .before .before .before .expr .ensures) (c .before .before .before .before .before .value2 .given .1)) (c .before .before .put .ensures)
 
 abbrev binary-Inv-loop : binary-lts.InvT-loop
 binary-Inv-loop text trees base close at syntax₀ start count least i₀ n₀ class₀ precedence₀ syntax i n class precedence =
@@ -493,11 +491,8 @@ binary-add-put t c = search needs
 
 binary-put-requires : (t : ℕ) → binary-lts.Need-put-requires (binary-claims t) (binary-at t) binary.Post binary-Inv-loop binary-μ-loop
 binary-put-requires t c κs =
-    let pre = c .before .before .before .before .before .before .before .before .before .before .before .before .before .before .before .pre in
-    let few = pre .1 .0 .few in
     let underway = c .before .before .before .before .before .before .before .before .before .loop .inv .0 in
-    let s = says-success (c .before .before .before .before .before .before .operand .ensures) (c .before .before .right2 .given .1) in
-    (omega arith, omega arith, omega arith)
+    behind-room (c .before .before .before .before .before .before .before .before .before .before .before .before .before .before .before .pre .1 .0) _ (says-success (c .before .before .before .before .before .before .operand .ensures) (c .before .before .right2 .given .1)) (underway .few) (underway .some)
 
 binary-class-at-requires-2 : (t : ℕ) → binary-lts.Need-class-at-requires-2 (binary-claims t) (binary-at t) binary.Post binary-Inv-loop binary-μ-loop
 binary-class-at-requires-2 t c κs = search needs
@@ -514,7 +509,7 @@ binary-loop-again : (t : ℕ) → binary-lts.Need-loop-again (binary-claims t) (
 binary-loop-again t c =
     let pre = c .before .before .before .before .before .before .before .before .before .before .before .before .before .before .before .before .before .before .before .before .pre in
     let s = says-success (c .before .before .before .before .before .before .before .before .before .before .before .operand .ensures) (c .before .before .before .before .before .before .before .right2 .given .1) in
-    (chains.binary-again (pre .1 .0) (c .before .before .before .before .before .before .before .before .before .before .before .before .before .before .loop .inv .0) (c .before .before .before .before .before .before .before .before .before .before .before .before .before .before .loop .inv .1 .0) (c .before .before .before .before .before .before .before .before .before .before .before .before .before .before .loop .inv .1 .1) (pre .1 .1 .3) (c .before .before .before .before .before .before .before .before .before .before .before .before .before .loop-test .taken) s (c .before .before .before .before .put .ensures .0) (c .before .before .before .before .put .ensures .1), (c .before .class-at2 .ensures, c .precedence2 .ensures), c .before .before .before .syntax2 .given ∙ c .before .before .before .before .before .before .before .before .before .before .syntax .given ∙ c .before .before .before .before .before .before .before .before .before .before .before .before .before .before .loop .inv .2)
+    (chains.binary-again (pre .1 .0) (c .before .before .before .before .before .before .before .before .before .before .before .before .before .before .loop .inv .0) (c .before .before .before .before .before .before .before .before .before .before .before .before .before .before .loop .inv .1 .0) (c .before .before .before .before .before .before .before .before .before .before .before .before .before .before .loop .inv .1 .1) (pre .1 .1 .3) (c .before .before .before .before .before .before .before .before .before .before .before .before .before .loop-test .taken) s (c .before .before .before .before .put .ensures), (c .before .class-at2 .ensures, c .precedence2 .ensures), c .before .before .before .syntax2 .given ∙ c .before .before .before .before .before .before .before .before .before .before .syntax .given ∙ c .before .before .before .before .before .before .before .before .before .before .before .before .before .before .loop .inv .2)
 
 binary-same-length-2 : (t : ℕ) → binary-lts.Need-same-length-2 (binary-claims t) (binary-at t) binary.Post binary-Inv-loop binary-μ-loop
 binary-same-length-2 t c = c .before .loop .inv .2
@@ -531,19 +526,21 @@ block-closer-at-requires t c κs = search needs
 
 block-inside-requires : (t : ℕ) → block-lts.Need-inside-requires (block-claims t) (block-at t) block.Post
 block-inside-requires t c κs =
-    let f = c .before .before .before .before .before .pre .1 .0 .at (c .before .before .before .before .before .args .at) (known-within (c .before .before .before .before .before .pre .1 .0) (c .before .before .before .before .before .args .at) (c .before .before .before .before .before .pre .1 .1 .1) tt) in (f .some, f .fits)
+    let s = stands (c .before .before .before .before .before .pre .1 .0) _ (c .before .before .before .before .before .pre .1 .1 .1) tt in
+    (s .some, s .fits)
 
 block-add-stmts : (t : ℕ) → block-lts.Need-add-stmts (block-claims t) (block-at t) block.Post
 block-add-stmts t c =
-    omega (arith, c .before .before .before .before .before .before .pre .1 .0 .few, known-within (c .before .before .before .before .before .before .pre .1 .0) (c .before .before .before .before .before .before .args .at) (c .before .before .before .before .before .before .pre .1 .1 .1) tt)
+    omega (arith, stands (c .before .before .before .before .before .before .pre .1 .0) _ (c .before .before .before .before .before .before .pre .1 .1 .1) tt .low)
 
 block-add-stmts-2 : (t : ℕ) → block-lts.Need-add-stmts-2 (block-claims t) (block-at t) block.Post
 block-add-stmts-2 t c =
-    omega (arith, c .before .before .before .before .before .before .pre .1 .0 .few, known-within (c .before .before .before .before .before .before .pre .1 .0) (c .before .before .before .before .before .before .args .at) (c .before .before .before .before .before .before .pre .1 .1 .1) tt)
+    omega (arith, stands (c .before .before .before .before .before .before .pre .1 .0) _ (c .before .before .before .before .before .before .pre .1 .1 .1) tt .low)
 
 block-stmts-requires : (t : ℕ) → block-lts.Need-stmts-requires (block-claims t) (block-at t) block.Post
 block-stmts-requires t c κs =
-    (brace-measure (c .before .before .before .before .before .before .before .pre .1 .0) (c .before .before .before .before .before .before .before .args .at) (c .before .before .before .before .before .before .before .pre .1 .1 .1) (c .before .inside .ensures) (c .before .before .before .before .before .before .before .pre .0), (inside-as (c .before .before .before .before .before .before .before .pre .1 .0) (c .before .before .before .before .before .before .before .args .at) (c .before .before .before .before .before .before .before .pre .1 .1 .1) (c .before .inside .ensures) (c .before .before .closer-at .ensures), omega (arith, c .before .before .before .before .before .before .before .pre .1 .1 .0)))
+    let s = stands (c .before .before .before .before .before .before .before .pre .1 .0) _ (c .before .before .before .before .before .before .before .pre .1 .1 .1) tt in
+    (omega (arith, c .before .before .before .before .before .before .before .pre .0, content-fits (c .before .before .before .before .before .before .before .pre .1 .0) _ (c .before .inside .ensures) (s .within)), (content-fine (c .before .before .before .before .before .before .before .pre .1 .0) _ (c .before .inside .ensures) (c .before .before .closer-at .ensures) (s .within), omega (arith, c .before .before .before .before .before .before .before .pre .1 .1 .0)))
 
 block-enum-known-inner : (t : ℕ) → block-lts.Need-enum-known-inner (block-claims t) (block-at t) block.Post
 block-enum-known-inner t c = search needs
@@ -553,7 +550,8 @@ block-enum-known-inner-2 t c = search needs
 
 block-add-t20 : (t : ℕ) → block-lts.Need-add-t20 (block-claims t) (block-at t) block.Post
 block-add-t20 t c =
-    let h = known-within (c .before .before .before .before .before .before .before .before .before .before .before .before .before .pre .1 .0) (c .before .before .before .before .before .before .before .before .before .before .before .before .before .args .at) (c .before .before .before .before .before .before .before .before .before .before .before .before .before .pre .1 .1 .1) tt in omega (arith, c .before .before .before .before .before .before .before .before .before .before .before .before .before .pre .1 .0 .few, c .before .before .before .before .before .before .before .before .before .before .before .before .before .pre .1 .0 .at (c .before .before .before .before .before .before .before .before .before .before .before .before .before .args .at) h .fits, c .before .before .before .before .before .before .before .before .before .size-at .ensures)
+    let s = stands (c .before .before .before .before .before .before .before .before .before .before .before .before .before .pre .1 .0) _ (c .before .before .before .before .before .before .before .before .before .before .before .before .before .pre .1 .1 .1) tt in
+    omega (arith, c .before .before .before .before .before .before .before .before .before .size-at .ensures)
 
 block-same-length : (t : ℕ) → block-lts.Need-same-length (block-claims t) (block-at t) block.Post
 block-same-length t c = search needs
@@ -580,11 +578,11 @@ block-stmt-enum-known-inner-2 t c = search needs
 
 block-stmt-add-put : (t : ℕ) → block-stmt-lts.Need-add-put (block-stmt-claims t) (block-stmt-at t) block-stmt.Post
 block-stmt-add-put t c =
-    omega (arith, c .before .before .before .before .before .before .before .before .before .before .before .pre .1 .0 .few, known-within (c .before .before .before .before .before .before .before .before .before .before .before .pre .1 .0) (c .before .before .before .before .before .before .before .before .before .before .before .args .at) (c .before .before .before .before .before .before .before .before .before .before .before .pre .1 .1 .1) tt)
+    omega (arith, stands (c .before .before .before .before .before .before .before .before .before .before .before .pre .1 .0) _ (c .before .before .before .before .before .before .before .before .before .before .before .pre .1 .1 .1) tt .low)
 
 block-stmt-put-requires : (t : ℕ) → block-stmt-lts.Need-put-requires (block-stmt-claims t) (block-stmt-at t) block-stmt.Post
 block-stmt-put-requires t c κs =
-    filled-room (c .before .before .before .before .before .before .before .before .before .before .before .pre .1 .0) (known-within (c .before .before .before .before .before .before .before .before .before .before .before .pre .1 .0) (c .before .before .before .before .before .before .before .before .before .before .before .args .at) (c .before .before .before .before .before .before .before .before .before .before .before .pre .1 .1 .1) tt) (fills-filled (c .before .before .before .before .before .before .block .ensures) (c .before .before .inner2 .given .1)) (c .before .before .before .before .before .before .before .before .before .before .before .pre .1 .1 .0)
+    filled-room (stands (c .before .before .before .before .before .before .before .before .before .before .before .pre .1 .0) _ (c .before .before .before .before .before .before .before .before .before .before .before .pre .1 .1 .1) tt) (fills-filled (c .before .before .before .before .before .before .block .ensures) (c .before .before .inner2 .given .1)) (c .before .before .before .before .before .before .before .before .before .before .before .pre .1 .1 .0) (le-refl _)
 
 block-stmt-same-length : (t : ℕ) → block-stmt-lts.Need-same-length (block-stmt-claims t) (block-stmt-at t) block-stmt.Post
 block-stmt-same-length t c = search needs
@@ -598,7 +596,7 @@ block-stmt-same-length-2 t c = search needs
 
 block-stmt-returns-2 : (t : ℕ) → block-stmt-lts.Need-returns-2 (block-stmt-claims t) (block-stmt-at t) block-stmt.Post
 block-stmt-returns-2 t c =
-    put-done (block-statement-whole (c .before .before .before .before .before .before .before .before .before .before .before .before .before .before .pre .1 .0) (c .before .before .before .before .before .before .before .before .before .before .before .before .before .before .args .at) (c .before .before .before .before .before .before .before .before .before .before .before .before .before .before .pre .1 .1 .1) (fills-filled (c .before .before .before .before .before .before .before .before .before .block .ensures) (c .before .before .before .before .before .inner2 .given .1))) (c .before .before .put .ensures)
+    says-put (block-statement-whole (c .before .before .before .before .before .before .before .before .before .before .before .before .before .before .pre .1 .0) (c .before .before .before .before .before .before .before .before .before .before .before .before .before .before .args .at) (c .before .before .before .before .before .before .before .before .before .before .before .before .before .before .pre .1 .1 .1) (fills-filled (c .before .before .before .before .before .before .before .before .before .block .ensures) (c .before .before .before .before .before .inner2 .given .1))) (c .before .before .put .ensures)
 
 abbrev chain-Inv-loop : chain-lts.InvT-loop
 chain-Inv-loop text trees base close at syntax₀ count behind some i₀ n₀ class₀ syntax i n class =
@@ -640,7 +638,7 @@ chain-same-length t c = c .before .before .before .before .syntax2 .given ∙ c 
 
 chain-returns : (t : ℕ) → chain-lts.Need-returns (chain-claims t) (chain-at t) chain.Post chain-Inv-loop chain-μ-loop
 chain-returns t c =
-    chains.chain-all (says-success (c .before .before .before .before .before .before .before .before .before .before .before .before .before .before .before .primary .ensures) (c .before .before .before .before .before .before .before .before .before .before .before .first2 .given .1)) (c .before .before .before .before .before .before .before .before .loop .inv .0 .rest _ _ (chains.links-called (c .before .before .before .before .before .link .ensures) (c .before .one .given .1)))
+    chains.chain-all (says-success (c .before .before .before .before .before .before .before .before .before .before .before .before .before .before .before .primary .ensures) (c .before .before .before .before .before .before .before .before .before .before .before .first2 .given .1)) (c .before .before .before .before .before .before .before .before .loop .inv .0 .rest _ _ (links-called (c .before .before .before .before .before .link .ensures) (c .before .one .given .1)))
 
 chain-enum-known-one-2 : (t : ℕ) → chain-lts.Need-enum-known-one-2 (chain-claims t) (chain-at t) chain.Post chain-Inv-loop chain-μ-loop
 chain-enum-known-one-2 t c = search needs
@@ -650,12 +648,12 @@ chain-class-at-requires-2 t c κs = search needs
 
 chain-loop-less : (t : ℕ) → chain-lts.Need-loop-less (chain-claims t) (chain-at t) chain.Post chain-Inv-loop chain-μ-loop
 chain-loop-less t c =
-    let one = chains.links-linked (c .before .before .before .before .before .before .link .ensures) (c .before .before .one2 .given .1) in
+    let one = links-linked (c .before .before .before .before .before .before .link .ensures) (c .before .before .one2 .given .1) in
     omega (arith, one .further, one .within)
 
 chain-loop-again : (t : ℕ) → chain-lts.Need-loop-again (chain-claims t) (chain-at t) chain.Post chain-Inv-loop chain-μ-loop
 chain-loop-again t c =
-    (chains.chain-again (c .before .before .before .before .before .before .before .before .before .loop .inv .0) (chains.links-linked (c .before .before .before .before .before .before .link .ensures) (c .before .before .one2 .given .1)), c .class-at2 .ensures, c .before .before .before .before .before .syntax2 .given ∙ c .before .before .before .before .before .before .before .before .before .loop .inv .2)
+    (chains.chain-again (c .before .before .before .before .before .before .before .before .before .loop .inv .0) (links-linked (c .before .before .before .before .before .before .link .ensures) (c .before .before .one2 .given .1)), c .class-at2 .ensures, c .before .before .before .before .before .syntax2 .given ∙ c .before .before .before .before .before .before .before .before .before .loop .inv .2)
 
 chain-same-length-2 : (t : ℕ) → chain-lts.Need-same-length-2 (chain-claims t) (chain-at t) chain.Post chain-Inv-loop chain-μ-loop
 chain-same-length-2 t c = search needs
@@ -669,7 +667,7 @@ chain-same-length-3 t c = c .before .before .loop .inv .2 ∙ c .before .before 
 chain-returns-3 : (t : ℕ) → chain-lts.Need-returns-3 (chain-claims t) (chain-at t) chain.Post chain-Inv-loop chain-μ-loop
 chain-returns-3 t c =
     chains.chain-all (says-success (c .before .before .before .before .before .before .before .before .before .primary .ensures) (c .before .before .before .before .before .first2 .given .1))
-    (chains.chain-ended (c .before .before .loop .inv .0) (c .before .before .before .before .before .before .before .before .before .before .before .before .before .before .pre .1 .0) (λ is. c .before .if1 .left (c .before .before .loop .inv .1 ∙ is)) (λ is. eqb-false _ _ (c .if2 .left) (c .before .before .loop .inv .1 ∙ is)))
+    (chains.chain-ended (c .before .before .loop .inv .0) (c .before .before .before .before .before .before .before .before .before .before .before .before .before .before .pre .1 .0) (read-is-not (c .before .before .loop .inv .1) (c .before .if1 .left)) (read-is-not (c .before .before .loop .inv .1) (eqb-false _ _ (c .if2 .left))))
 
 expr-target-requires : (t : ℕ) → expr-lts.Need-target-requires (expr-claims t) (expr-at t) expr.Post
 expr-target-requires t c κs = search needs
@@ -735,7 +733,7 @@ expr-stmt-same-length t c = search needs
 
 expr-stmt-returns : (t : ℕ) → expr-stmt-lts.Need-returns (expr-stmt-claims t) (expr-stmt-at t) expr-stmt.Post
 expr-stmt-returns t c =
-    bad-at (c .place-at .ensures) (expression-statement-unended (c .before .before .before .before .before .before .before .before .before .before .before .before .before .pre .1 .0) (c .before .before .before .before .before .before .before .before .before .before .before .before .before .args .at) (c .before .before .before .before .before .before .before .before .before .before .before .before .before .pre .1 .1 .2) (says-success (c .before .before .before .before .before .before .before .before .expr .ensures) (c .before .before .before .before .value2 .given .1)) (read-is-not (c .before .before .class-at .ensures) (c .before .if1 .taken)))
+    says-bad-at (c .place-at .ensures) (expression-statement-unended (c .before .before .before .before .before .before .before .before .before .before .before .before .before .pre .1 .0) (c .before .before .before .before .before .before .before .before .before .before .before .before .before .args .at) (c .before .before .before .before .before .before .before .before .before .before .before .before .before .pre .1 .1 .2) (says-success (c .before .before .before .before .before .before .before .before .expr .ensures) (c .before .before .before .before .value2 .given .1)) (read-is-not (c .before .before .class-at .ensures) (c .before .if1 .taken)))
 
 expr-stmt-add-put : (t : ℕ) → expr-stmt-lts.Need-add-put (expr-stmt-claims t) (expr-stmt-at t) expr-stmt.Post
 expr-stmt-add-put t c =
@@ -743,7 +741,7 @@ expr-stmt-add-put t c =
 
 expr-stmt-put-requires : (t : ℕ) → expr-stmt-lts.Need-put-requires (expr-stmt-claims t) (expr-stmt-at t) expr-stmt.Post
 expr-stmt-put-requires t c κs =
-    let value = (says-success (c .before .before .before .before .before .before .before .before .expr .ensures) (c .before .before .before .before .value2 .given .1)) in success-room (c .before .before .before .before .before .before .before .before .before .before .before .before .before .pre .1 .0) value (c .before .before .before .before .before .before .before .before .before .before .before .before .before .pre .1 .1 .1) (omega arith) (value .within)
+    success-room (c .before .before .before .before .before .before .before .before .before .before .before .before .before .pre .1 .0) (says-success (c .before .before .before .before .before .before .before .before .expr .ensures) (c .before .before .before .before .value2 .given .1)) (c .before .before .before .before .before .before .before .before .before .before .before .before .before .pre .1 .1 .1) (le-refl _) (le-refl _)
 
 expr-stmt-add-t21 : (t : ℕ) → expr-stmt-lts.Need-add-t21 (expr-stmt-claims t) (expr-stmt-at t) expr-stmt.Post
 expr-stmt-add-t21 t c =
@@ -761,7 +759,7 @@ expr-stmt-same-length-3 t c = search needs
 
 expr-stmt-returns-3 : (t : ℕ) → expr-stmt-lts.Need-returns-3 (expr-stmt-claims t) (expr-stmt-at t) expr-stmt.Post
 expr-stmt-returns-3 t c =
-    put-done (expression-statement-whole (c .before .before .before .before .before .before .before .before .before .before .before .before .before .before .before .before .pre .1 .0) (c .before .before .before .before .before .before .before .before .before .before .before .before .before .before .before .before .args .at) (c .before .before .before .before .before .before .before .before .before .before .before .before .before .before .before .before .pre .1 .1 .2) (says-success (c .before .before .before .before .before .before .before .before .before .before .before .expr .ensures) (c .before .before .before .before .before .before .before .value2 .given .1)) (read-is (c .before .before .before .before .before .class-at .ensures) (c .before .before .before .before .if1 .left))) (c .before .before .put .ensures)
+    says-put (expression-statement-whole (c .before .before .before .before .before .before .before .before .before .before .before .before .before .before .before .before .pre .1 .0) (c .before .before .before .before .before .before .before .before .before .before .before .before .before .before .before .before .args .at) (c .before .before .before .before .before .before .before .before .before .before .before .before .before .before .before .before .pre .1 .1 .2) (says-success (c .before .before .before .before .before .before .before .before .before .before .before .expr .ensures) (c .before .before .before .before .before .before .before .value2 .given .1)) (read-is (c .before .before .before .before .before .class-at .ensures) (c .before .before .before .before .if1 .left))) (c .before .before .put .ensures)
 
 func-class-at-requires : (t : ℕ) → func-lts.Need-class-at-requires (func-claims t) (func-at t) func.Post
 func-class-at-requires t c κs = search needs
@@ -771,7 +769,7 @@ func-place-at-requires t c κs = search needs
 
 func-returns : (t : ℕ) → func-lts.Need-returns (func-claims t) (func-at t) func.Post
 func-returns t c =
-    says-bad-at (c .place-at .ensures) (function-unnamed (c .before .before .before .before .before .before .pre .1 .0) _ (λ is. c .before .if1 .taken (c .before .before .class-at .ensures ∙ is)))
+    says-bad-at (c .place-at .ensures) (function-unnamed (c .before .before .before .before .before .before .pre .1 .0) _ (read-is-not (c .before .before .class-at .ensures) (c .before .if1 .taken)))
 
 func-add-class-at : (t : ℕ) → func-lts.Need-add-class-at (func-claims t) (func-at t) func.Post
 func-add-class-at t c = search needs
@@ -787,14 +785,14 @@ func-place-at-requires-2 t c κs = search needs
 
 func-returns-2 : (t : ℕ) → func-lts.Need-returns-2 (func-claims t) (func-at t) func.Post
 func-returns-2 t c =
-    says-bad-at (c .place-at2 .ensures) (function-unopened (c .before .before .before .before .before .before .before .before .pre .1 .0) _ (sym (c .before .before .before .before .class-at .ensures) ∙ c .before .before .before .if1 .left) (λ is. c .before .if2 .taken (c .before .before .class-at2 .ensures ∙ is)))
+    says-bad-at (c .place-at2 .ensures) (function-unopened (c .before .before .before .before .before .before .before .before .pre .1 .0) _ (read-is (c .before .before .before .before .class-at .ensures) (c .before .before .before .if1 .left)) (read-is-not (c .before .before .class-at2 .ensures) (c .before .if2 .taken)))
 
 func-add-parameter : (t : ℕ) → func-lts.Need-add-parameter (func-claims t) (func-at t) func.Post
 func-add-parameter t c = search needs
 
 func-parameter-requires : (t : ℕ) → func-lts.Need-parameter-requires (func-claims t) (func-at t) func.Post
 func-parameter-requires t c κs =
-    let s = stands (c .before .before .before .before .before .before .before .pre .1 .0) (c .before .before .before .before .before .before .before .args .at + 1) (omega (arith, c .before .class-at2 .ensures, c .if2 .left)) in
+    let s = stands (c .before .before .before .before .before .before .before .pre .1 .0) _ (read-is (c .before .class-at2 .ensures) (c .if2 .left)) tt in
     (s .some, s .fits)
 
 func-enum-known-taken : (t : ℕ) → func-lts.Need-enum-known-taken (func-claims t) (func-at t) func.Post
@@ -811,37 +809,36 @@ func-place-at-requires-3 t c κs = search needs
 
 func-returns-3 : (t : ℕ) → func-lts.Need-returns-3 (func-claims t) (func-at t) func.Post
 func-returns-3 t c =
-    let opened = sym (c .before .before .before .before .before .before .before .before .class-at2 .ensures) ∙ c .before .before .before .before .before .before .before .if2 .left in
-    says-bad-at (c .place-at3 .ensures) (function-bodiless (c .before .before .before .before .before .before .before .before .before .before .before .before .before .before .pre .1 .0) _ (sym (c .before .before .before .before .before .before .before .before .before .before .class-at .ensures) ∙ c .before .before .before .before .before .before .before .before .before .if1 .left) opened (parameter-taken (c .before .before .before .before .before .before .before .before .before .before .before .before .before .before .pre .1 .0) _ _ opened (sym (c .before .before .before .before .before .before .parameter .ensures) ∙ c .before .before .before .before .taken2 .given .1)) (λ is. c .before .if3 .taken (c .before .before .class-at3 .ensures ∙ is)))
+    let opened = read-is (c .before .before .before .before .before .before .before .before .class-at2 .ensures) (c .before .before .before .before .before .before .before .if2 .left) in
+    says-bad-at (c .place-at3 .ensures) (function-bodiless (c .before .before .before .before .before .before .before .before .before .before .before .before .before .before .pre .1 .0) _ (read-is (c .before .before .before .before .before .before .before .before .before .before .class-at .ensures) (c .before .before .before .before .before .before .before .before .before .if1 .left)) opened (parameter-taken (c .before .before .before .before .before .before .before .before .before .before .before .before .before .before .pre .1 .0) _ _ opened (read-is (c .before .before .before .before .before .before .parameter .ensures) (c .before .before .before .before .taken2 .given .1))) (read-is-not (c .before .before .class-at3 .ensures) (c .before .if3 .taken)))
 
 func-block-requires : (t : ℕ) → func-lts.Need-block-requires (func-claims t) (func-at t) func.Post
 func-block-requires t c κs =
-    let opened = sym (c .before .before .before .before .before .before .before .before .class-at2 .ensures) ∙ c .before .before .before .before .before .before .before .if2 .left in
-    let s = stands (c .before .before .before .before .before .before .before .before .before .before .before .before .before .before .pre .1 .0) (c .before .before .before .before .before .before .before .before .before .before .before .before .before .before .args .at + 1) (omega arith) in
-    let f = parameter-taken (c .before .before .before .before .before .before .before .before .before .before .before .before .before .before .pre .1 .0) _ _ opened (sym (c .before .before .before .before .before .before .parameter .ensures) ∙ c .before .before .before .before .taken2 .given .1) in
-    (omega (arith, c .before .before .before .before .before .before .before .before .before .before .before .before .before .before .pre .0, f .next), (c .before .before .before .before .before .before .before .before .before .before .before .before .before .before .pre .1 .0, (omega (arith, c .before .before .before .before .before .before .before .before .before .before .before .before .before .before .pre .1 .1, f .next), sym (c .before .before .class-at3 .ensures) ∙ c .before .if3 .left)))
+    let opened = read-is (c .before .before .before .before .before .before .before .before .class-at2 .ensures) (c .before .before .before .before .before .before .before .if2 .left) in
+    let s = stands (c .before .before .before .before .before .before .before .before .before .before .before .before .before .before .pre .1 .0) _ opened tt in
+    let f = parameter-taken (c .before .before .before .before .before .before .before .before .before .before .before .before .before .before .pre .1 .0) _ _ opened (read-is (c .before .before .before .before .before .before .parameter .ensures) (c .before .before .before .before .taken2 .given .1)) in
+    (omega (arith, c .before .before .before .before .before .before .before .before .before .before .before .before .before .before .pre .0, f .next), (c .before .before .before .before .before .before .before .before .before .before .before .before .before .before .pre .1 .0, (omega (arith, c .before .before .before .before .before .before .before .before .before .before .before .before .before .before .pre .1 .1, f .next), read-is (c .before .before .class-at3 .ensures) (c .before .if3 .left))))
 
 func-returns-4 : (t : ℕ) → func-lts.Need-returns-4 (func-claims t) (func-at t) func.Post
 func-returns-4 t c =
-    let opened = sym (c .before .before .before .before .before .class-at2 .ensures) ∙ c .before .before .before .before .if2 .left in
-    says-bad (function-parameter-fails (c .before .before .before .before .before .before .before .before .before .before .before .pre .1 .0) _ (sym (c .before .before .before .before .before .before .before .class-at .ensures) ∙ c .before .before .before .before .before .before .if1 .left) opened (parameter-dies (c .before .before .before .before .before .before .before .before .before .before .before .pre .1 .0) _ (c .before .before .before .before .before .before .before .before .before .before .before .args .count) opened (sym (c .before .before .before .parameter .ensures) ∙ c .before .taken .given .1)))
+    let opened = read-is (c .before .before .before .before .before .class-at2 .ensures) (c .before .before .before .before .if2 .left) in
+    says-bad (function-parameter-fails (c .before .before .before .before .before .before .before .before .before .before .before .pre .1 .0) _ (read-is (c .before .before .before .before .before .before .before .class-at .ensures) (c .before .before .before .before .before .before .if1 .left)) opened (parameter-dies (c .before .before .before .before .before .before .before .before .before .before .before .pre .1 .0) _ (c .before .before .before .before .before .before .before .before .before .before .before .args .count) opened (read-is (c .before .before .before .parameter .ensures) (c .before .taken .given .1))))
 
 func-same-length : (t : ℕ) → func-lts.Need-same-length (func-claims t) (func-at t) func.Post
 func-same-length t c = search needs
 
 func-returns-5 : (t : ℕ) → func-lts.Need-returns-5 (func-claims t) (func-at t) func.Post
 func-returns-5 t c =
-    let opened = sym (c .before .before .before .before .before .before .before .before .before .before .before .class-at2 .ensures) ∙ c .before .before .before .before .before .before .before .before .before .before .if2 .left in
-    function-says (c .before .before .before .before .before .before .before .before .before .before .before .before .before .before .before .before .before .pre .1 .0) _ (sym (c .before .before .before .before .before .before .before .before .before .before .before .before .before .class-at .ensures) ∙ c .before .before .before .before .before .before .before .before .before .before .before .before .if1 .left) opened (parameter-taken (c .before .before .before .before .before .before .before .before .before .before .before .before .before .before .before .before .before .pre .1 .0) _ _ opened (sym (c .before .before .before .before .before .before .before .before .before .parameter .ensures) ∙ c .before .before .before .before .before .before .before .taken2 .given .1)) (sym (c .before .before .before .before .before .class-at3 .ensures) ∙ c .before .before .before .before .if3 .left) (c .before .before .block .ensures)
+    let opened = read-is (c .before .before .before .before .before .before .before .before .before .before .before .class-at2 .ensures) (c .before .before .before .before .before .before .before .before .before .before .if2 .left) in
+    function-says (c .before .before .before .before .before .before .before .before .before .before .before .before .before .before .before .before .before .pre .1 .0) _ (read-is (c .before .before .before .before .before .before .before .before .before .before .before .before .before .class-at .ensures) (c .before .before .before .before .before .before .before .before .before .before .before .before .if1 .left)) opened (parameter-taken (c .before .before .before .before .before .before .before .before .before .before .before .before .before .before .before .before .before .pre .1 .0) _ _ opened (read-is (c .before .before .before .before .before .before .before .before .before .parameter .ensures) (c .before .before .before .before .before .before .before .taken2 .given .1))) (read-is (c .before .before .before .before .before .class-at3 .ensures) (c .before .before .before .before .if3 .left)) (c .before .before .block .ensures)
 
 func-expr-add-func : (t : ℕ) → func-expr-lts.Need-add-func (func-expr-claims t) (func-expr-at t) func-expr.Post
 func-expr-add-func t c =
-    let s = stands (c .before .before .before .pre .1 .0) (c .before .before .before .args .at) (omega (arith, c .before .before .before .pre .1 .1)) in
-    omega arith
+    omega (arith, stands (c .before .before .before .pre .1 .0) _ (c .before .before .before .pre .1 .1 .1) tt .low)
 
 func-expr-func-requires : (t : ℕ) → func-expr-lts.Need-func-requires (func-expr-claims t) (func-expr-at t) func-expr.Post
 func-expr-func-requires t c κs =
-    let s = stands (c .before .before .before .before .pre .1 .0) (c .before .before .before .before .args .at) (omega (arith, c .before .before .before .before .pre .1 .1)) in
+    let s = stands (c .before .before .before .before .pre .1 .0) _ (c .before .before .before .before .pre .1 .1 .1) tt in
     (omega (arith, c .before .before .before .before .pre .0), (c .before .before .before .before .pre .1 .0, (omega arith, omega (arith, c .before .before .before .before .pre .1 .1))))
 
 func-expr-enum-known-inner : (t : ℕ) → func-expr-lts.Need-enum-known-inner (func-expr-claims t) (func-expr-at t) func-expr.Post
@@ -852,14 +849,11 @@ func-expr-enum-known-inner-2 t c = search needs
 
 func-expr-add-put : (t : ℕ) → func-expr-lts.Need-add-put (func-expr-claims t) (func-expr-at t) func-expr.Post
 func-expr-add-put t c =
-    let s = stands (c .before .before .before .before .before .before .before .before .before .before .before .pre .1 .0) (c .before .before .before .before .before .before .before .before .before .before .before .args .at) (omega (arith, c .before .before .before .before .before .before .before .before .before .before .before .pre .1 .1)) in
-    omega arith
+    omega (arith, stands (c .before .before .before .before .before .before .before .before .before .before .before .pre .1 .0) _ (c .before .before .before .before .before .before .before .before .before .before .before .pre .1 .1 .1) tt .low)
 
 func-expr-put-requires : (t : ℕ) → func-expr-lts.Need-put-requires (func-expr-claims t) (func-expr-at t) func-expr.Post
 func-expr-put-requires t c κs =
-    let s = stands (c .before .before .before .before .before .before .before .before .before .before .before .pre .1 .0) (c .before .before .before .before .before .before .before .before .before .before .before .args .at) (omega (arith, c .before .before .before .before .before .before .before .before .before .before .before .pre .1 .1)) in
-    let f = says-success (c .before .before .before .before .before .before .func .ensures) (c .before .before .inner2 .given .1) in
-    omega (arith, c .before .before .before .before .before .before .before .before .before .before .before .pre .1 .1)
+    behind-room (c .before .before .before .before .before .before .before .before .before .before .before .pre .1 .0) _ (says-success (c .before .before .before .before .before .before .func .ensures) (c .before .before .inner2 .given .1)) (c .before .before .before .before .before .before .before .before .before .before .before .pre .1 .1 .0) (le-refl _)
 
 func-expr-same-length : (t : ℕ) → func-expr-lts.Need-same-length (func-expr-claims t) (func-expr-at t) func-expr.Post
 func-expr-same-length t c = search needs
@@ -873,7 +867,7 @@ func-expr-same-length-2 t c = search needs
 
 func-expr-returns-2 : (t : ℕ) → func-expr-lts.Need-returns-2 (func-expr-claims t) (func-expr-at t) func-expr.Post
 func-expr-returns-2 t c =
-    says-put (c .before .before .put .ensures .0) (c .before .before .put .ensures .1) (primary-function (c .before .before .before .before .before .before .before .before .before .before .before .before .before .before .pre .1 .0) _ _ _ (c .before .before .before .before .before .before .before .before .before .before .before .before .before .before .pre .1 .1 .1) (says-success (c .before .before .before .before .before .before .before .before .before .func .ensures) (c .before .before .before .before .before .inner2 .given .1)))
+    says-put (primary-function (c .before .before .before .before .before .before .before .before .before .before .before .before .before .before .pre .1 .0) _ _ _ (c .before .before .before .before .before .before .before .before .before .before .before .before .before .before .pre .1 .1 .1) (says-success (c .before .before .before .before .before .before .before .before .before .func .ensures) (c .before .before .before .before .before .inner2 .given .1))) (c .before .before .put .ensures)
 
 group-size-at-requires : (t : ℕ) → group-lts.Need-size-at-requires (group-claims t) (group-at t) group.Post
 group-size-at-requires t c κs = search needs
@@ -883,24 +877,21 @@ group-closer-at-requires t c κs = search needs
 
 group-inside-requires : (t : ℕ) → group-lts.Need-inside-requires (group-claims t) (group-at t) group.Post
 group-inside-requires t c κs =
-    let s = stands (c .before .before .before .before .before .pre .1 .0) (c .before .before .before .before .before .args .at) (omega (arith, c .before .before .before .before .before .pre .1 .1)) in
+    let s = stands (c .before .before .before .before .before .pre .1 .0) _ (c .before .before .before .before .before .pre .1 .1 .1) tt in
     (s .some, s .fits)
 
 group-add-expr : (t : ℕ) → group-lts.Need-add-expr (group-claims t) (group-at t) group.Post
 group-add-expr t c =
-    let s = stands (c .before .before .before .before .before .before .pre .1 .0) (c .before .before .before .before .before .before .args .at) (omega (arith, c .before .before .before .before .before .before .pre .1 .1)) in
-    omega arith
+    omega (arith, stands (c .before .before .before .before .before .before .pre .1 .0) _ (c .before .before .before .before .before .before .pre .1 .1 .1) tt .low)
 
 group-add-expr-2 : (t : ℕ) → group-lts.Need-add-expr-2 (group-claims t) (group-at t) group.Post
 group-add-expr-2 t c =
-    let s = stands (c .before .before .before .before .before .before .pre .1 .0) (c .before .before .before .before .before .before .args .at) (omega (arith, c .before .before .before .before .before .before .pre .1 .1)) in
-    omega arith
+    omega (arith, stands (c .before .before .before .before .before .before .pre .1 .0) _ (c .before .before .before .before .before .before .pre .1 .1 .1) tt .low)
 
 group-expr-requires : (t : ℕ) → group-lts.Need-expr-requires (group-claims t) (group-at t) group.Post
 group-expr-requires t c κs =
-    let s = stands (c .before .before .before .before .before .before .before .pre .1 .0) (c .before .before .before .before .before .before .before .args .at) (omega (arith, c .before .before .before .before .before .before .before .pre .1 .1)) in
-    let n = content-count (c .before .before .before .before .before .before .before .pre .1 .0) (c .before .before .before .before .before .before .before .args .at) (c .before .inside .ensures) (s .within) in
-    (omega (arith, c .before .before .before .before .before .before .before .pre .0), (content-fine (c .before .before .before .before .before .before .before .pre .1 .0) (c .before .before .before .before .before .before .before .args .at) (c .before .inside .ensures) (c .before .before .closer-at .ensures) (s .within), (omega arith, omega (arith, c .before .before .before .before .before .before .before .pre .1 .1))))
+    let s = stands (c .before .before .before .before .before .before .before .pre .1 .0) _ (c .before .before .before .before .before .before .before .pre .1 .1 .1) tt in
+    (omega (arith, c .before .before .before .before .before .before .before .pre .0, content-fits (c .before .before .before .before .before .before .before .pre .1 .0) _ (c .before .inside .ensures) (s .within)), (content-fine (c .before .before .before .before .before .before .before .pre .1 .0) _ (c .before .inside .ensures) (c .before .before .closer-at .ensures) (s .within), (omega arith, omega (arith, c .before .before .before .before .before .before .before .pre .1 .1))))
 
 group-enum-known-inner : (t : ℕ) → group-lts.Need-enum-known-inner (group-claims t) (group-at t) group.Post
 group-enum-known-inner t c = search needs
@@ -910,10 +901,9 @@ group-enum-known-inner-2 t c = search needs
 
 group-add-if1 : (t : ℕ) → group-lts.Need-add-if1 (group-claims t) (group-at t) group.Post
 group-add-if1 t c =
-    let s = stands (c .before .before .before .before .before .before .before .before .before .before .before .before .before .pre .1 .0) (c .before .before .before .before .before .before .before .before .before .before .before .before .before .args .at) (omega (arith, c .before .before .before .before .before .before .before .before .before .before .before .before .before .pre .1 .1)) in
-    let n = content-count (c .before .before .before .before .before .before .before .before .before .before .before .before .before .pre .1 .0) (c .before .before .before .before .before .before .before .before .before .before .before .before .before .args .at) (c .before .before .before .before .before .before .before .inside .ensures) (s .within) in
+    let s = stands (c .before .before .before .before .before .before .before .before .before .before .before .before .before .pre .1 .0) _ (c .before .before .before .before .before .before .before .before .before .before .before .before .before .pre .1 .1 .1) tt in
     let f = says-success (c .before .before .before .before .before .expr .ensures) (c .before .inner2 .given .1) in
-    omega arith
+    omega (arith, content-fits (c .before .before .before .before .before .before .before .before .before .before .before .before .before .pre .1 .0) _ (c .before .before .before .before .before .before .before .inside .ensures) (s .within))
 
 group-place-at-requires : (t : ℕ) → group-lts.Need-place-at-requires (group-claims t) (group-at t) group.Post
 group-place-at-requires t c κs = search needs
@@ -927,7 +917,7 @@ group-returns t c =
 
 group-add-t20 : (t : ℕ) → group-lts.Need-add-t20 (group-claims t) (group-at t) group.Post
 group-add-t20 t c =
-    let s = stands (c .before .before .before .before .before .before .before .before .before .before .before .before .before .before .pre .1 .0) (c .before .before .before .before .before .before .before .before .before .before .before .before .before .before .args .at) (omega (arith, c .before .before .before .before .before .before .before .before .before .before .before .before .before .before .pre .1 .1)) in
+    let s = stands (c .before .before .before .before .before .before .before .before .before .before .before .before .before .before .pre .1 .0) _ (c .before .before .before .before .before .before .before .before .before .before .before .before .before .before .pre .1 .1 .1) tt in
     omega (arith, c .before .before .before .before .before .before .before .before .before .before .size-at .ensures)
 
 group-same-length-2 : (t : ℕ) → group-lts.Need-same-length-2 (group-claims t) (group-at t) group.Post
@@ -946,29 +936,29 @@ group-returns-3 t c =
 
 if-stmt-add-class-at : (t : ℕ) → if-stmt-lts.Need-add-class-at (if-stmt-claims t) (if-stmt-at t) if-stmt.Post
 if-stmt-add-class-at t c =
-    omega (arith, c .before .before .before .pre .1 .0 .few, known-within (c .before .before .before .pre .1 .0) (c .before .before .before .args .at) (c .before .before .before .pre .1 .1 .1) tt)
+    omega (arith, stands (c .before .before .before .pre .1 .0) _ (c .before .before .before .pre .1 .1 .1) tt .low)
 
 if-stmt-class-at-requires : (t : ℕ) → if-stmt-lts.Need-class-at-requires (if-stmt-claims t) (if-stmt-at t) if-stmt.Post
 if-stmt-class-at-requires t c κs = search needs
 
 if-stmt-add-place-at : (t : ℕ) → if-stmt-lts.Need-add-place-at (if-stmt-claims t) (if-stmt-at t) if-stmt.Post
 if-stmt-add-place-at t c =
-    omega (arith, c .before .before .before .before .before .pre .1 .0 .few, known-within (c .before .before .before .before .before .pre .1 .0) (c .before .before .before .before .before .args .at) (c .before .before .before .before .before .pre .1 .1 .1) tt)
+    omega (arith, stands (c .before .before .before .before .before .pre .1 .0) _ (c .before .before .before .before .before .pre .1 .1 .1) tt .low)
 
 if-stmt-place-at-requires : (t : ℕ) → if-stmt-lts.Need-place-at-requires (if-stmt-claims t) (if-stmt-at t) if-stmt.Post
 if-stmt-place-at-requires t c κs = search needs
 
 if-stmt-returns : (t : ℕ) → if-stmt-lts.Need-returns (if-stmt-claims t) (if-stmt-at t) if-stmt.Post
 if-stmt-returns t c =
-    bad-at (c .place-at .ensures) (if-unopened (c .before .before .before .before .before .before .pre .1 .0) (c .before .before .before .before .before .before .args .at) (c .before .before .before .before .before .before .pre .1 .1 .1) (read-is-not (c .before .before .class-at .ensures) (c .before .if1 .taken)))
+    says-bad-at (c .place-at .ensures) (if-unopened (c .before .before .before .before .before .before .pre .1 .0) (c .before .before .before .before .before .before .args .at) (c .before .before .before .before .before .before .pre .1 .1 .1) (read-is-not (c .before .before .class-at .ensures) (c .before .if1 .taken)))
 
 if-stmt-add-group : (t : ℕ) → if-stmt-lts.Need-add-group (if-stmt-claims t) (if-stmt-at t) if-stmt.Post
 if-stmt-add-group t c =
-    omega (arith, c .before .before .before .before .before .pre .1 .0 .few, known-within (c .before .before .before .before .before .pre .1 .0) (c .before .before .before .before .before .args .at) (c .before .before .before .before .before .pre .1 .1 .1) tt)
+    omega (arith, stands (c .before .before .before .before .before .pre .1 .0) _ (c .before .before .before .before .before .pre .1 .1 .1) tt .low)
 
 if-stmt-group-requires : (t : ℕ) → if-stmt-lts.Need-group-requires (if-stmt-claims t) (if-stmt-at t) if-stmt.Post
 if-stmt-group-requires t c κs =
-    (omega (arith, c .before .before .before .before .before .before .pre .0, known-within (c .before .before .before .before .before .before .pre .1 .0) (c .before .before .before .before .before .before .args .at) (c .before .before .before .before .before .before .pre .1 .1 .1) tt), (c .before .before .before .before .before .before .pre .1 .0, (omega (arith, c .before .before .before .before .before .before .pre .1 .1 .0), (read-is (c .before .before .class-at .ensures) (c .before .if1 .left)))))
+    (omega (arith, c .before .before .before .before .before .before .pre .0, stands (c .before .before .before .before .before .before .pre .1 .0) _ (c .before .before .before .before .before .before .pre .1 .1 .1) tt .within), (c .before .before .before .before .before .before .pre .1 .0, (omega (arith, c .before .before .before .before .before .before .pre .1 .1 .0), (read-is (c .before .before .class-at .ensures) (c .before .if1 .left)))))
 
 if-stmt-enum-known-condition : (t : ℕ) → if-stmt-lts.Need-enum-known-condition (if-stmt-claims t) (if-stmt-at t) if-stmt.Post
 if-stmt-enum-known-condition t c = search needs
@@ -978,9 +968,9 @@ if-stmt-enum-known-condition-2 t c = search needs
 
 if-stmt-stmt-requires : (t : ℕ) → if-stmt-lts.Need-stmt-requires (if-stmt-claims t) (if-stmt-at t) if-stmt.Post
 if-stmt-stmt-requires t c κs =
-    let condition = (fills-filled (c .before .before .before .before .before .before .group .ensures) (c .before .before .condition2 .given .1)) in
-    let f = c .before .before .before .before .before .before .before .before .before .before .before .before .before .pre .1 .0 .at (c .before .before .before .before .before .before .before .before .before .before .before .before .before .args .at + 1) (known-within (c .before .before .before .before .before .before .before .before .before .before .before .before .before .pre .1 .0) (c .before .before .before .before .before .before .before .before .before .before .before .before .before .args .at + 1) (read-is (c .before .before .before .before .before .before .before .before .before .class-at .ensures) (c .before .before .before .before .before .before .before .before .if1 .left)) tt) in
-    (omega (arith, c .before .before .before .before .before .before .before .before .before .before .before .before .before .pre .0, known-within (c .before .before .before .before .before .before .before .before .before .before .before .before .before .pre .1 .0) (c .before .before .before .before .before .before .before .before .before .before .before .before .before .args .at) (c .before .before .before .before .before .before .before .before .before .before .before .before .before .pre .1 .1 .1) tt, condition .few), (c .before .before .before .before .before .before .before .before .before .before .before .before .before .pre .1 .0, (omega (arith, f .fits, condition .next), omega (arith, c .before .before .before .before .before .before .before .before .before .before .before .before .before .pre .1 .1 .0, condition .count-is, condition .few))))
+    let condition = fills-filled (c .before .before .before .before .before .before .group .ensures) (c .before .before .condition2 .given .1) in
+    let s = stands (c .before .before .before .before .before .before .before .before .before .before .before .before .before .pre .1 .0) _ (read-is (c .before .before .before .before .before .before .before .before .before .class-at .ensures) (c .before .before .before .before .before .before .before .before .if1 .left)) tt in
+    (omega (arith, c .before .before .before .before .before .before .before .before .before .before .before .before .before .pre .0, s .within, condition .few), (c .before .before .before .before .before .before .before .before .before .before .before .before .before .pre .1 .0, (omega (arith, s .fits, condition .next), omega (arith, c .before .before .before .before .before .before .before .before .before .before .before .before .before .pre .1 .1 .0, condition .count-is, condition .few))))
 
 if-stmt-enum-known-inner : (t : ℕ) → if-stmt-lts.Need-enum-known-inner (if-stmt-claims t) (if-stmt-at t) if-stmt.Post
 if-stmt-enum-known-inner t c = search needs
@@ -990,11 +980,13 @@ if-stmt-enum-known-inner-2 t c = search needs
 
 if-stmt-add-put : (t : ℕ) → if-stmt-lts.Need-add-put (if-stmt-claims t) (if-stmt-at t) if-stmt.Post
 if-stmt-add-put t c =
-    omega (arith, c .before .before .before .before .before .before .before .before .before .before .before .before .before .before .before .before .before .before .before .before .pre .1 .0 .few, known-within (c .before .before .before .before .before .before .before .before .before .before .before .before .before .before .before .before .before .before .before .before .pre .1 .0) (c .before .before .before .before .before .before .before .before .before .before .before .before .before .before .before .before .before .before .before .before .args .at) (c .before .before .before .before .before .before .before .before .before .before .before .before .before .before .before .before .before .before .before .before .pre .1 .1 .1) tt)
+    omega (arith, stands (c .before .before .before .before .before .before .before .before .before .before .before .before .before .before .before .before .before .before .before .before .pre .1 .0) _ (c .before .before .before .before .before .before .before .before .before .before .before .before .before .before .before .before .before .before .before .before .pre .1 .1 .1) tt .low)
 
 if-stmt-put-requires : (t : ℕ) → if-stmt-lts.Need-put-requires (if-stmt-claims t) (if-stmt-at t) if-stmt.Post
 if-stmt-put-requires t c κs =
-    filled-then-room (c .before .before .before .before .before .before .before .before .before .before .before .before .before .before .before .before .before .before .before .before .pre .1 .0) (c .before .before .before .before .before .before .before .before .before .before .before .before .before .before .before .before .before .before .before .before .args .at) (known-within (c .before .before .before .before .before .before .before .before .before .before .before .before .before .before .before .before .before .before .before .before .pre .1 .0) (c .before .before .before .before .before .before .before .before .before .before .before .before .before .before .before .before .before .before .before .before .args .at) (c .before .before .before .before .before .before .before .before .before .before .before .before .before .before .before .before .before .before .before .before .pre .1 .1 .1) tt) (fills-filled (c .before .before .before .before .before .before .before .before .before .before .before .before .before .group .ensures) (c .before .before .before .before .before .before .before .before .before .condition2 .given .1)) (says-success (c .before .before .before .before .before .before .stmt .ensures) (c .before .before .inner2 .given .1)) (c .before .before .before .before .before .before .before .before .before .before .before .before .before .before .before .before .before .before .before .before .pre .1 .1 .0)
+    let condition = fills-filled (c .before .before .before .before .before .before .before .before .before .before .before .before .before .group .ensures) (c .before .before .before .before .before .before .before .before .before .condition2 .given .1) in
+    let inner = says-success (c .before .before .before .before .before .before .stmt .ensures) (c .before .before .inner2 .given .1) in
+    omega (arith, c .before .before .before .before .before .before .before .before .before .before .before .before .before .before .before .before .before .before .before .before .pre .1 .0 .few, c .before .before .before .before .before .before .before .before .before .before .before .before .before .before .before .before .before .before .before .before .pre .1 .1 .0)
 
 if-stmt-same-length : (t : ℕ) → if-stmt-lts.Need-same-length (if-stmt-claims t) (if-stmt-at t) if-stmt.Post
 if-stmt-same-length t c = search needs
@@ -1015,7 +1007,7 @@ if-stmt-same-length-3 t c = search needs
 
 if-stmt-returns-4 : (t : ℕ) → if-stmt-lts.Need-returns-4 (if-stmt-claims t) (if-stmt-at t) if-stmt.Post
 if-stmt-returns-4 t c =
-    put-done (if-whole (c .before .before .before .before .before .before .before .before .before .before .before .before .before .before .before .before .before .before .before .before .before .before .before .pre .1 .0) (c .before .before .before .before .before .before .before .before .before .before .before .before .before .before .before .before .before .before .before .before .before .before .before .args .at) (c .before .before .before .before .before .before .before .before .before .before .before .before .before .before .before .before .before .before .before .before .before .before .before .pre .1 .1 .1) (read-is (c .before .before .before .before .before .before .before .before .before .before .before .before .before .before .before .before .before .before .before .class-at .ensures) (c .before .before .before .before .before .before .before .before .before .before .before .before .before .before .before .before .before .before .if1 .left)) (fills-filled (c .before .before .before .before .before .before .before .before .before .before .before .before .before .before .before .before .group .ensures) (c .before .before .before .before .before .before .before .before .before .before .before .before .condition2 .given .1)) (says-success (c .before .before .before .before .before .before .before .before .before .stmt .ensures) (c .before .before .before .before .before .inner2 .given .1))) (c .before .before .put .ensures)
+    says-put (if-whole (c .before .before .before .before .before .before .before .before .before .before .before .before .before .before .before .before .before .before .before .before .before .before .before .pre .1 .0) (c .before .before .before .before .before .before .before .before .before .before .before .before .before .before .before .before .before .before .before .before .before .before .before .args .at) (c .before .before .before .before .before .before .before .before .before .before .before .before .before .before .before .before .before .before .before .before .before .before .before .pre .1 .1 .1) (read-is (c .before .before .before .before .before .before .before .before .before .before .before .before .before .before .before .before .before .before .before .class-at .ensures) (c .before .before .before .before .before .before .before .before .before .before .before .before .before .before .before .before .before .before .if1 .left)) (fills-filled (c .before .before .before .before .before .before .before .before .before .before .before .before .before .before .before .before .group .ensures) (c .before .before .before .before .before .before .before .before .before .before .before .before .condition2 .given .1)) (says-success (c .before .before .before .before .before .before .before .before .before .stmt .ensures) (c .before .before .before .before .before .inner2 .given .1))) (c .before .before .put .ensures)
 
 item-stmt-requires : (t : ℕ) → item-lts.Need-stmt-requires (item-claims t) (item-at t) item.Post
 item-stmt-requires t c κs =
@@ -1060,7 +1052,7 @@ item-add-put t c = search needs
 
 item-put-requires : (t : ℕ) → item-lts.Need-put-requires (item-claims t) (item-at t) item.Post
 item-put-requires t c κs =
-    success-room (c .before .before .before .before .before .before .before .before .before .before .before .before .before .before .pre .1 .0) (says-success (c .before .before .before .before .before .before .func .ensures) (c .before .before .inner2 .given .1)) (omega (arith, c .before .before .before .before .before .before .before .before .before .before .before .before .before .before .pre .1 .1 .1)) (omega arith) (omega (arith, c .before .before .before .before .before .before .before .before .before .before .before .before .before .before .pre .1 .1 .0))
+    behind-room (c .before .before .before .before .before .before .before .before .before .before .before .before .before .before .pre .1 .0) _ (says-success (c .before .before .before .before .before .before .func .ensures) (c .before .before .inner2 .given .1)) (c .before .before .before .before .before .before .before .before .before .before .before .before .before .before .pre .1 .1 .1) (le-refl _)
 
 item-same-length-3 : (t : ℕ) → item-lts.Need-same-length-3 (item-claims t) (item-at t) item.Post
 item-same-length-3 t c = search needs
@@ -1101,9 +1093,8 @@ link-add-put-2 t c = search needs
 link-put-requires : (t : ℕ) → link-lts.Need-put-requires (link-claims t) (link-at t) link.Post
 link-put-requires t c κs =
     let pre = c .before .before .before .before .before .before .before .pre in
-    let few = pre .1 .0 .few in
-    let here = chains.class-here _ _ _ (c .before .before .class-at .ensures) (c .before .if2 .left) (omega arith) in
-    (omega arith, omega arith, omega arith)
+    let here = stands (pre .1 .0) _ (read-is (c .before .before .class-at .ensures) (c .before .if2 .left)) tt in
+    omega arith
 
 link-add-t18 : (t : ℕ) → link-lts.Need-add-t18 (link-claims t) (link-at t) link.Post
 link-add-t18 t c = search needs
@@ -1113,12 +1104,12 @@ link-same-length t c = search needs
 
 link-returns-2 : (t : ℕ) → link-lts.Need-returns-2 (link-claims t) (link-at t) link.Post
 link-returns-2 t c =
-    links-on (chains.member-linked (c .before .before .before .before .before .before .before .before .before .before .pre .1 .0) (c .before .before .before .before .before .before .before .before .before .before .pre .1 .1 .3) (c .before .before .before .before .before .before .if1 .taken) (c .before .before .before .before .before .class-at .ensures) (c .before .before .before .before .if2 .left) refl (c .before .before .put .ensures .0) (c .before .before .put .ensures .1))
+    links-on (chains.member-linked (c .before .before .before .before .before .before .before .before .before .before .pre .1 .0) (c .before .before .before .before .before .before .before .before .before .before .pre .1 .1 .3) (c .before .before .before .before .before .before .if1 .taken) (c .before .before .before .before .before .class-at .ensures) (c .before .before .before .before .if2 .left) refl (c .before .before .put .ensures))
 
 link-group-requires : (t : ℕ) → link-lts.Need-group-requires (link-claims t) (link-at t) link.Post
 link-group-requires t c κs =
     let pre = c .before .before .before .before .before .pre in
-    (omega arith, (pre .1 .0, (pre .1 .1 .1, sym (pre .1 .1 .3) ∙ pre .1 .1 .4 (c .before .if1 .left))))
+    (omega arith, (pre .1 .0, (pre .1 .1 .1, read-is (pre .1 .1 .3) (pre .1 .1 .4 (c .before .if1 .left)))))
 
 link-enum-known-inner : (t : ℕ) → link-lts.Need-enum-known-inner (link-claims t) (link-at t) link.Post
 link-enum-known-inner t c = search needs
@@ -1132,11 +1123,7 @@ link-add-put-3 t c = search needs
 link-put-requires-2 : (t : ℕ) → link-lts.Need-put-requires-2 (link-claims t) (link-at t) link.Post
 link-put-requires-2 t c κs =
     let pre = c .before .before .before .before .before .before .before .before .before .before .before .before .pre in
-    let few = pre .1 .0 .few in
-    let here = known-within (pre .1 .0) (c .before .before .before .before .before .before .before .before .before .before .before .before .args .at) (sym (pre .1 .1 .3) ∙ pre .1 .1 .4 (c .before .before .before .before .before .before .before .before .if1 .left)) tt in
-    let fits = pre .1 .0 .at _ here .fits in
-    let argument = fills-filled (c .before .before .before .before .before .before .group .ensures) (c .before .before .inner2 .given .1) in
-    (omega arith, omega arith, omega arith)
+    filled-room (stands (pre .1 .0) _ (read-is (pre .1 .1 .3) (pre .1 .1 .4 (c .before .before .before .before .before .before .before .before .if1 .left))) tt) (fills-filled (c .before .before .before .before .before .before .group .ensures) (c .before .before .inner2 .given .1)) (pre .1 .1 .1) (pre .1 .1 .2)
 
 link-same-length-2 : (t : ℕ) → link-lts.Need-same-length-2 (link-claims t) (link-at t) link.Post
 link-same-length-2 t c = search needs
@@ -1144,7 +1131,7 @@ link-same-length-2 t c = search needs
 link-returns-3 : (t : ℕ) → link-lts.Need-returns-3 (link-claims t) (link-at t) link.Post
 link-returns-3 t c =
     let pre = c .before .before .before .before .before .before .before .before .before .before .before .pre in
-    chains.call-bad (pre .1 .0) (sym (pre .1 .1 .3) ∙ pre .1 .1 .4 (c .before .before .before .before .before .before .before .if1 .left)) (c .before .before .before .before .before .group .ensures) (c .before .inner .given .1)
+    chains.call-bad (pre .1 .0) (read-is (pre .1 .1 .3) (pre .1 .1 .4 (c .before .before .before .before .before .before .before .if1 .left))) (c .before .before .before .before .before .group .ensures) (c .before .inner .given .1)
 
 link-same-length-3 : (t : ℕ) → link-lts.Need-same-length-3 (link-claims t) (link-at t) link.Post
 link-same-length-3 t c = search needs
@@ -1152,24 +1139,23 @@ link-same-length-3 t c = search needs
 link-returns-4 : (t : ℕ) → link-lts.Need-returns-4 (link-claims t) (link-at t) link.Post
 link-returns-4 t c =
     let pre = c .before .before .before .before .before .before .before .before .before .before .before .before .before .before .before .pre in
-    links-on (chains.call-linked (pre .1 .0) (sym (pre .1 .1 .3) ∙ pre .1 .1 .4 (c .before .before .before .before .before .before .before .before .before .before .before .if1 .left)) (c .before .before .before .before .before .before .before .before .before .group .ensures) (c .before .before .before .before .before .inner2 .given .1) (c .before .before .put2 .ensures .0) (c .before .before .put2 .ensures .1))
+    links-on (chains.call-linked (pre .1 .0) (read-is (pre .1 .1 .3) (pre .1 .1 .4 (c .before .before .before .before .before .before .before .before .before .before .before .if1 .left))) (c .before .before .before .before .before .before .before .before .before .group .ensures) (c .before .before .before .before .before .inner2 .given .1) (c .before .before .put2 .ensures))
 
 object-size-at-requires : (t : ℕ) → object-lts.Need-size-at-requires (object-claims t) (object-at t) object.Post
 object-size-at-requires t c κs = search needs
 
 object-add-put : (t : ℕ) → object-lts.Need-add-put (object-claims t) (object-at t) object.Post
 object-add-put t c =
-    let s = stands (c .before .before .before .before .before .before .pre .1 .0) (c .before .before .before .before .before .before .args .at) (omega (arith, c .before .before .before .before .before .before .pre .1 .1)) in
-    omega arith
+    omega (arith, stands (c .before .before .before .before .before .before .pre .1 .0) _ (c .before .before .before .before .before .before .pre .1 .1 .1) tt .low)
 
 object-put-requires : (t : ℕ) → object-lts.Need-put-requires (object-claims t) (object-at t) object.Post
 object-put-requires t c κs =
-    let s = stands (c .before .before .before .before .before .before .pre .1 .0) (c .before .before .before .before .before .before .args .at) (omega (arith, c .before .before .before .before .before .before .pre .1 .1)) in
+    let s = stands (c .before .before .before .before .before .before .pre .1 .0) _ (c .before .before .before .before .before .before .pre .1 .1 .1) tt in
     omega (arith, c .before .before .before .before .before .before .pre .1 .1)
 
 object-add-t22 : (t : ℕ) → object-lts.Need-add-t22 (object-claims t) (object-at t) object.Post
 object-add-t22 t c =
-    let s = stands (c .before .before .before .before .before .before .before .before .before .pre .1 .0) (c .before .before .before .before .before .before .before .before .before .args .at) (omega (arith, c .before .before .before .before .before .before .before .before .before .pre .1 .1)) in
+    let s = stands (c .before .before .before .before .before .before .before .before .before .pre .1 .0) _ (c .before .before .before .before .before .before .before .before .before .pre .1 .1 .1) tt in
     omega (arith, c .before .before .before .before .before .size-at .ensures)
 
 object-same-length : (t : ℕ) → object-lts.Need-same-length (object-claims t) (object-at t) object.Post
@@ -1177,14 +1163,14 @@ object-same-length t c = search needs
 
 object-returns : (t : ℕ) → object-lts.Need-returns (object-claims t) (object-at t) object.Post
 object-returns t c =
-    says-put (c .before .before .put .ensures .0) (c .before .before .put .ensures .1) (object-empty (c .before .before .before .before .before .before .before .before .before .pre .1 .0) _ (c .before .before .before .before .before .before .before .before .before .pre .1 .1 .1) _ _ (sym (c .before .before .before .before .before .size-at .ensures) ∙ c .before .before .before .before .if1 .taken) (omega (arith, c .before .before .before .before .before .size-at .ensures)))
+    says-put (object-empty (c .before .before .before .before .before .before .before .before .before .pre .1 .0) _ (c .before .before .before .before .before .before .before .before .before .pre .1 .1 .1) _ _ (read-is (c .before .before .before .before .before .size-at .ensures) (c .before .before .before .before .if1 .taken)) (omega (arith, c .before .before .before .before .before .size-at .ensures))) (c .before .before .put .ensures)
 
 object-closer-at-requires : (t : ℕ) → object-lts.Need-closer-at-requires (object-claims t) (object-at t) object.Post
 object-closer-at-requires t c κs = search needs
 
 object-inside-requires : (t : ℕ) → object-lts.Need-inside-requires (object-claims t) (object-at t) object.Post
 object-inside-requires t c κs =
-    let s = stands (c .before .before .before .before .before .before .pre .1 .0) (c .before .before .before .before .before .before .args .at) (omega (arith, c .before .before .before .before .before .before .pre .1 .1)) in
+    let s = stands (c .before .before .before .before .before .before .pre .1 .0) _ (c .before .before .before .before .before .before .pre .1 .1 .1) tt in
     (s .some, s .fits)
 
 object-class-at-requires : (t : ℕ) → object-lts.Need-class-at-requires (object-claims t) (object-at t) object.Post
@@ -1195,7 +1181,7 @@ object-place-at-requires t c κs = search needs
 
 object-returns-2 : (t : ℕ) → object-lts.Need-returns-2 (object-claims t) (object-at t) object.Post
 object-returns-2 t c =
-    object-nameless (c .before .before .before .before .before .before .before .before .before .before .pre .1 .0) _ (c .before .before .before .inside .ensures) (c .before .before .before .before .closer-at .ensures) (c .before .before .before .before .before .before .size-at .ensures) (c .before .before .before .before .before .before .before .before .before .before .pre .1 .1 .1) (c .before .before .before .before .before .if1 .left) (λ is. c .before .if2 .taken (c .before .before .class-at .ensures ∙ is)) (c .place-at .ensures)
+    object-nameless (c .before .before .before .before .before .before .before .before .before .before .pre .1 .0) _ (c .before .before .before .inside .ensures) (c .before .before .before .before .closer-at .ensures) (c .before .before .before .before .before .before .size-at .ensures) (c .before .before .before .before .before .before .before .before .before .before .pre .1 .1 .1) (c .before .before .before .before .before .if1 .left) (read-is-not (c .before .before .class-at .ensures) (c .before .if2 .taken)) (c .place-at .ensures)
 
 object-class-at-requires-2 : (t : ℕ) → object-lts.Need-class-at-requires-2 (object-claims t) (object-at t) object.Post
 object-class-at-requires-2 t c κs = search needs
@@ -1205,24 +1191,22 @@ object-place-at-requires-2 t c κs = search needs
 
 object-returns-3 : (t : ℕ) → object-lts.Need-returns-3 (object-claims t) (object-at t) object.Post
 object-returns-3 t c =
-    object-colonless (c .before .before .before .before .before .before .before .before .before .before .before .before .pre .1 .0) _ (c .before .before .before .before .before .inside .ensures) (c .before .before .before .before .before .before .closer-at .ensures) (c .before .before .before .before .before .before .before .before .size-at .ensures) (c .before .before .before .before .before .before .before .before .before .before .before .before .pre .1 .1 .1) (sym (c .before .before .before .before .class-at .ensures) ∙ c .before .before .before .if2 .left) (λ is. c .before .if3 .taken (c .before .before .class-at2 .ensures ∙ is)) (c .place-at2 .ensures)
+    object-colonless (c .before .before .before .before .before .before .before .before .before .before .before .before .pre .1 .0) _ (c .before .before .before .before .before .inside .ensures) (c .before .before .before .before .before .before .closer-at .ensures) (c .before .before .before .before .before .before .before .before .size-at .ensures) (c .before .before .before .before .before .before .before .before .before .before .before .before .pre .1 .1 .1) (read-is (c .before .before .before .before .class-at .ensures) (c .before .before .before .if2 .left)) (read-is-not (c .before .before .class-at2 .ensures) (c .before .if3 .taken)) (c .place-at2 .ensures)
 
 object-add-expr : (t : ℕ) → object-lts.Need-add-expr (object-claims t) (object-at t) object.Post
 object-add-expr t c =
-    let s = stands (c .before .before .before .before .before .before .before .before .before .before .before .pre .1 .0) (c .before .before .before .before .before .before .before .before .before .before .before .args .at) (omega (arith, c .before .before .before .before .before .before .before .before .before .before .before .pre .1 .1)) in
-    omega arith
+    omega (arith, stands (c .before .before .before .before .before .before .before .before .before .before .before .pre .1 .0) _ (c .before .before .before .before .before .before .before .before .before .before .before .pre .1 .1 .1) tt .low)
 
 object-add-expr-2 : (t : ℕ) → object-lts.Need-add-expr-2 (object-claims t) (object-at t) object.Post
 object-add-expr-2 t c =
-    let s = stands (c .before .before .before .before .before .before .before .before .before .before .before .pre .1 .0) (c .before .before .before .before .before .before .before .before .before .before .before .args .at) (omega (arith, c .before .before .before .before .before .before .before .before .before .before .before .pre .1 .1)) in
-    omega arith
+    omega (arith, stands (c .before .before .before .before .before .before .before .before .before .before .before .pre .1 .0) _ (c .before .before .before .before .before .before .before .before .before .before .before .pre .1 .1 .1) tt .low)
 
 object-expr-requires : (t : ℕ) → object-lts.Need-expr-requires (object-claims t) (object-at t) object.Post
 object-expr-requires t c κs =
-    let s = stands (c .before .before .before .before .before .before .before .before .before .before .before .before .pre .1 .0) (c .before .before .before .before .before .before .before .before .before .before .before .before .args .at) (omega (arith, c .before .before .before .before .before .before .before .before .before .before .before .before .pre .1 .1)) in
-    let n = content-count (c .before .before .before .before .before .before .before .before .before .before .before .before .pre .1 .0) (c .before .before .before .before .before .before .before .before .before .before .before .before .args .at) (c .before .before .before .before .before .inside .ensures) (s .within) in
-    let two = class-within (c .before .before .before .before .before .before .before .before .before .before .before .before .args .text .now) (c .before .before .before .before .before .inside .result .now) 1 (omega (arith, c .before .before .class-at2 .ensures, c .before .if3 .left)) in
-    (omega (arith, c .before .before .before .before .before .before .before .before .before .before .before .before .pre .0), (content-fine (c .before .before .before .before .before .before .before .before .before .before .before .before .pre .1 .0) (c .before .before .before .before .before .before .before .before .before .before .before .before .args .at) (c .before .before .before .before .before .inside .ensures) (c .before .before .before .before .before .before .closer-at .ensures) (s .within), (omega arith, omega (arith, c .before .before .before .before .before .before .before .before .before .before .before .before .pre .1 .1))))
+    let s = stands (c .before .before .before .before .before .before .before .before .before .before .before .before .pre .1 .0) _ (c .before .before .before .before .before .before .before .before .before .before .before .before .pre .1 .1 .1) tt in
+    let fine = content-fine (c .before .before .before .before .before .before .before .before .before .before .before .before .pre .1 .0) _ (c .before .before .before .before .before .inside .ensures) (c .before .before .before .before .before .before .closer-at .ensures) (s .within) in
+    let two = stands fine _ (read-is (c .before .before .class-at2 .ensures) (c .before .if3 .left)) tt .within in
+    (omega (arith, c .before .before .before .before .before .before .before .before .before .before .before .before .pre .0, content-fits (c .before .before .before .before .before .before .before .before .before .before .before .before .pre .1 .0) _ (c .before .before .before .before .before .inside .ensures) (s .within)), (fine, (omega arith, omega (arith, c .before .before .before .before .before .before .before .before .before .before .before .before .pre .1 .1))))
 
 object-enum-known-value : (t : ℕ) → object-lts.Need-enum-known-value (object-claims t) (object-at t) object.Post
 object-enum-known-value t c = search needs
@@ -1232,10 +1216,9 @@ object-enum-known-value-2 t c = search needs
 
 object-add-if4 : (t : ℕ) → object-lts.Need-add-if4 (object-claims t) (object-at t) object.Post
 object-add-if4 t c =
-    let s = stands (c .before .before .before .before .before .before .before .before .before .before .before .before .before .before .before .before .before .before .pre .1 .0) (c .before .before .before .before .before .before .before .before .before .before .before .before .before .before .before .before .before .before .args .at) (omega (arith, c .before .before .before .before .before .before .before .before .before .before .before .before .before .before .before .before .before .before .pre .1 .1)) in
-    let n = content-count (c .before .before .before .before .before .before .before .before .before .before .before .before .before .before .before .before .before .before .pre .1 .0) (c .before .before .before .before .before .before .before .before .before .before .before .before .before .before .before .before .before .before .args .at) (c .before .before .before .before .before .before .before .before .before .before .before .inside .ensures) (s .within) in
+    let s = stands (c .before .before .before .before .before .before .before .before .before .before .before .before .before .before .before .before .before .before .pre .1 .0) _ (c .before .before .before .before .before .before .before .before .before .before .before .before .before .before .before .before .before .before .pre .1 .1 .1) tt in
     let f = says-success (c .before .before .before .before .before .expr .ensures) (c .before .value2 .given .1) in
-    omega arith
+    omega (arith, content-fits (c .before .before .before .before .before .before .before .before .before .before .before .before .before .before .before .before .before .before .pre .1 .0) _ (c .before .before .before .before .before .before .before .before .before .before .before .inside .ensures) (s .within))
 
 object-place-at-requires-3 : (t : ℕ) → object-lts.Need-place-at-requires-3 (object-claims t) (object-at t) object.Post
 object-place-at-requires-3 t c κs = search needs
@@ -1245,23 +1228,21 @@ object-same-length-2 t c = search needs
 
 object-returns-4 : (t : ℕ) → object-lts.Need-returns-4 (object-claims t) (object-at t) object.Post
 object-returns-4 t c =
-    object-long (c .before .before .before .before .before .before .before .before .before .before .before .before .before .before .before .before .before .before .before .before .pre .1 .0) _ (c .before .before .before .before .before .before .before .before .before .before .before .before .before .inside .ensures) (c .before .before .before .before .before .before .before .before .before .before .before .before .before .before .closer-at .ensures) (c .before .before .before .before .before .before .before .before .before .before .before .before .before .before .before .before .size-at .ensures) (c .before .before .before .before .before .before .before .before .before .before .before .before .before .before .before .before .before .before .before .before .pre .1 .1 .1) (sym (c .before .before .before .before .before .before .before .before .before .before .before .before .class-at .ensures) ∙ c .before .before .before .before .before .before .before .before .before .before .before .if2 .left) (sym (c .before .before .before .before .before .before .before .before .before .before .class-at2 .ensures) ∙ c .before .before .before .before .before .before .before .before .before .if3 .left) (c .before .before .before .before .before .before .before .expr .ensures) (c .before .before .before .value2 .given .1) (c .place-at3 .ensures) (c .before .if4 .taken)
+    object-long (c .before .before .before .before .before .before .before .before .before .before .before .before .before .before .before .before .before .before .before .before .pre .1 .0) _ (c .before .before .before .before .before .before .before .before .before .before .before .before .before .inside .ensures) (c .before .before .before .before .before .before .before .before .before .before .before .before .before .before .closer-at .ensures) (c .before .before .before .before .before .before .before .before .before .before .before .before .before .before .before .before .size-at .ensures) (c .before .before .before .before .before .before .before .before .before .before .before .before .before .before .before .before .before .before .before .before .pre .1 .1 .1) (read-is (c .before .before .before .before .before .before .before .before .before .before .before .before .class-at .ensures) (c .before .before .before .before .before .before .before .before .before .before .before .if2 .left)) (read-is (c .before .before .before .before .before .before .before .before .before .before .class-at2 .ensures) (c .before .before .before .before .before .before .before .before .before .if3 .left)) (c .before .before .before .before .before .before .before .expr .ensures) (c .before .before .before .value2 .given .1) (c .place-at3 .ensures) (c .before .if4 .taken)
 
 object-add-put-2 : (t : ℕ) → object-lts.Need-add-put-2 (object-claims t) (object-at t) object.Post
 object-add-put-2 t c =
-    let s = stands (c .before .before .before .before .before .before .before .before .before .before .before .before .before .before .before .before .before .before .before .before .pre .1 .0) (c .before .before .before .before .before .before .before .before .before .before .before .before .before .before .before .before .before .before .before .before .args .at) (omega (arith, c .before .before .before .before .before .before .before .before .before .before .before .before .before .before .before .before .before .before .before .before .pre .1 .1)) in
-    omega arith
+    omega (arith, stands (c .before .before .before .before .before .before .before .before .before .before .before .before .before .before .before .before .before .before .before .before .pre .1 .0) _ (c .before .before .before .before .before .before .before .before .before .before .before .before .before .before .before .before .before .before .before .before .pre .1 .1 .1) tt .low)
 
 object-put-requires-2 : (t : ℕ) → object-lts.Need-put-requires-2 (object-claims t) (object-at t) object.Post
 object-put-requires-2 t c κs =
-    let s = stands (c .before .before .before .before .before .before .before .before .before .before .before .before .before .before .before .before .before .before .before .before .pre .1 .0) (c .before .before .before .before .before .before .before .before .before .before .before .before .before .before .before .before .before .before .before .before .args .at) (omega (arith, c .before .before .before .before .before .before .before .before .before .before .before .before .before .before .before .before .before .before .before .before .pre .1 .1)) in
-    let n = content-count (c .before .before .before .before .before .before .before .before .before .before .before .before .before .before .before .before .before .before .before .before .pre .1 .0) (c .before .before .before .before .before .before .before .before .before .before .before .before .before .before .before .before .before .before .before .before .args .at) (c .before .before .before .before .before .before .before .before .before .before .before .before .before .inside .ensures) (s .within) in
+    let s = stands (c .before .before .before .before .before .before .before .before .before .before .before .before .before .before .before .before .before .before .before .before .pre .1 .0) _ (c .before .before .before .before .before .before .before .before .before .before .before .before .before .before .before .before .before .before .before .before .pre .1 .1 .1) tt in
     let f = says-success (c .before .before .before .before .before .before .before .expr .ensures) (c .before .before .before .value2 .given .1) in
-    omega (arith, c .before .before .before .before .before .before .before .before .before .before .before .before .before .before .before .before .before .before .before .before .pre .1 .1)
+    omega (arith, c .before .before .before .before .before .before .before .before .before .before .before .before .before .before .before .before .before .before .before .before .pre .1 .1, content-fits (c .before .before .before .before .before .before .before .before .before .before .before .before .before .before .before .before .before .before .before .before .pre .1 .0) _ (c .before .before .before .before .before .before .before .before .before .before .before .before .before .inside .ensures) (s .within))
 
 object-add-t30 : (t : ℕ) → object-lts.Need-add-t30 (object-claims t) (object-at t) object.Post
 object-add-t30 t c =
-    let s = stands (c .before .before .before .before .before .before .before .before .before .before .before .before .before .before .before .before .before .before .before .before .before .before .before .pre .1 .0) (c .before .before .before .before .before .before .before .before .before .before .before .before .before .before .before .before .before .before .before .before .before .before .before .args .at) (omega (arith, c .before .before .before .before .before .before .before .before .before .before .before .before .before .before .before .before .before .before .before .before .before .before .before .pre .1 .1)) in
+    let s = stands (c .before .before .before .before .before .before .before .before .before .before .before .before .before .before .before .before .before .before .before .before .before .before .before .pre .1 .0) _ (c .before .before .before .before .before .before .before .before .before .before .before .before .before .before .before .before .before .before .before .before .before .before .before .pre .1 .1 .1) tt in
     omega (arith, c .before .before .before .before .before .before .before .before .before .before .before .before .before .before .before .before .before .before .before .size-at .ensures)
 
 object-same-length-3 : (t : ℕ) → object-lts.Need-same-length-3 (object-claims t) (object-at t) object.Post
@@ -1269,14 +1250,14 @@ object-same-length-3 t c = search needs
 
 object-returns-5 : (t : ℕ) → object-lts.Need-returns-5 (object-claims t) (object-at t) object.Post
 object-returns-5 t c =
-    object-bad (c .before .before .before .before .before .before .before .before .before .before .before .before .before .before .before .before .before .before .pre .1 .0) _ (c .before .before .before .before .before .before .before .before .before .before .before .inside .ensures) (c .before .before .before .before .before .before .before .before .before .before .before .before .closer-at .ensures) (c .before .before .before .before .before .before .before .before .before .before .before .before .before .before .size-at .ensures) (c .before .before .before .before .before .before .before .before .before .before .before .before .before .before .before .before .before .before .pre .1 .1 .1) (sym (c .before .before .before .before .before .before .before .before .before .before .class-at .ensures) ∙ c .before .before .before .before .before .before .before .before .before .if2 .left) (sym (c .before .before .before .before .before .before .before .before .class-at2 .ensures) ∙ c .before .before .before .before .before .before .before .if3 .left) (c .before .before .before .before .before .expr .ensures) (c .before .value .given .1)
+    object-bad (c .before .before .before .before .before .before .before .before .before .before .before .before .before .before .before .before .before .before .pre .1 .0) _ (c .before .before .before .before .before .before .before .before .before .before .before .inside .ensures) (c .before .before .before .before .before .before .before .before .before .before .before .before .closer-at .ensures) (c .before .before .before .before .before .before .before .before .before .before .before .before .before .before .size-at .ensures) (c .before .before .before .before .before .before .before .before .before .before .before .before .before .before .before .before .before .before .pre .1 .1 .1) (read-is (c .before .before .before .before .before .before .before .before .before .before .class-at .ensures) (c .before .before .before .before .before .before .before .before .before .if2 .left)) (read-is (c .before .before .before .before .before .before .before .before .class-at2 .ensures) (c .before .before .before .before .before .before .before .if3 .left)) (c .before .before .before .before .before .expr .ensures) (c .before .value .given .1)
 
 object-same-length-4 : (t : ℕ) → object-lts.Need-same-length-4 (object-claims t) (object-at t) object.Post
 object-same-length-4 t c = search needs
 
 object-returns-6 : (t : ℕ) → object-lts.Need-returns-6 (object-claims t) (object-at t) object.Post
 object-returns-6 t c =
-    object-done (c .before .before .before .before .before .before .before .before .before .before .before .before .before .before .before .before .before .before .before .before .before .before .before .pre .1 .0) _ (c .before .before .before .before .before .before .before .before .before .before .before .before .before .before .before .before .inside .ensures) (c .before .before .before .before .before .before .before .before .before .before .before .before .before .before .before .before .before .closer-at .ensures) (c .before .before .before .before .before .before .before .before .before .before .before .before .before .before .before .before .before .before .before .size-at .ensures) (c .before .before .before .before .before .before .before .before .before .before .before .before .before .before .before .before .before .before .before .before .before .before .before .pre .1 .1 .1) (sym (c .before .before .before .before .before .before .before .before .before .before .before .before .before .before .before .class-at .ensures) ∙ c .before .before .before .before .before .before .before .before .before .before .before .before .before .before .if2 .left) (sym (c .before .before .before .before .before .before .before .before .before .before .before .before .before .class-at2 .ensures) ∙ c .before .before .before .before .before .before .before .before .before .before .before .before .if3 .left) (c .before .before .before .before .before .before .before .before .before .before .expr .ensures) (c .before .before .before .before .before .before .value2 .given .1) (c .before .before .before .before .if4 .left) refl (c .before .before .put2 .ensures .0) (c .before .before .put2 .ensures .1)
+    object-done (c .before .before .before .before .before .before .before .before .before .before .before .before .before .before .before .before .before .before .before .before .before .before .before .pre .1 .0) _ (c .before .before .before .before .before .before .before .before .before .before .before .before .before .before .before .before .inside .ensures) (c .before .before .before .before .before .before .before .before .before .before .before .before .before .before .before .before .before .closer-at .ensures) (c .before .before .before .before .before .before .before .before .before .before .before .before .before .before .before .before .before .before .before .size-at .ensures) (c .before .before .before .before .before .before .before .before .before .before .before .before .before .before .before .before .before .before .before .before .before .before .before .pre .1 .1 .1) (read-is (c .before .before .before .before .before .before .before .before .before .before .before .before .before .before .before .class-at .ensures) (c .before .before .before .before .before .before .before .before .before .before .before .before .before .before .if2 .left)) (read-is (c .before .before .before .before .before .before .before .before .before .before .before .before .before .class-at2 .ensures) (c .before .before .before .before .before .before .before .before .before .before .before .before .if3 .left)) (c .before .before .before .before .before .before .before .before .before .before .expr .ensures) (c .before .before .before .before .before .before .value2 .given .1) (c .before .before .before .before .if4 .left) refl (c .before .before .put2 .ensures)
 
 operand-chain-requires : (t : ℕ) → operand-lts.Need-chain-requires (operand-claims t) (operand-at t) operand.Post
 operand-chain-requires t c κs = search needs
@@ -1330,14 +1311,11 @@ parens-enum-known-inner-2 t c = search needs
 
 parens-add-put : (t : ℕ) → parens-lts.Need-add-put (parens-claims t) (parens-at t) parens.Post
 parens-add-put t c =
-    let s = stands (c .before .before .before .before .before .before .before .before .before .before .before .pre .1 .0) (c .before .before .before .before .before .before .before .before .before .before .before .args .at) (omega (arith, c .before .before .before .before .before .before .before .before .before .before .before .pre .1 .1)) in
-    omega arith
+    omega (arith, stands (c .before .before .before .before .before .before .before .before .before .before .before .pre .1 .0) _ (c .before .before .before .before .before .before .before .before .before .before .before .pre .1 .1 .1) tt .low)
 
 parens-put-requires : (t : ℕ) → parens-lts.Need-put-requires (parens-claims t) (parens-at t) parens.Post
 parens-put-requires t c κs =
-    let s = stands (c .before .before .before .before .before .before .before .before .before .before .before .pre .1 .0) (c .before .before .before .before .before .before .before .before .before .before .before .args .at) (omega (arith, c .before .before .before .before .before .before .before .before .before .before .before .pre .1 .1)) in
-    let f = fills-filled (c .before .before .before .before .before .before .group .ensures) (c .before .before .inner2 .given .1) in
-    omega (arith, c .before .before .before .before .before .before .before .before .before .before .before .pre .1 .1)
+    filled-room (stands (c .before .before .before .before .before .before .before .before .before .before .before .pre .1 .0) _ (c .before .before .before .before .before .before .before .before .before .before .before .pre .1 .1 .1) tt) (fills-filled (c .before .before .before .before .before .before .group .ensures) (c .before .before .inner2 .given .1)) (c .before .before .before .before .before .before .before .before .before .before .before .pre .1 .1 .0) (le-refl _)
 
 parens-same-length : (t : ℕ) → parens-lts.Need-same-length (parens-claims t) (parens-at t) parens.Post
 parens-same-length t c = search needs
@@ -1351,7 +1329,7 @@ parens-same-length-2 t c = search needs
 
 parens-returns-2 : (t : ℕ) → parens-lts.Need-returns-2 (parens-claims t) (parens-at t) parens.Post
 parens-returns-2 t c =
-    says-put (c .before .before .put .ensures .0) (c .before .before .put .ensures .1) (primary-parens (c .before .before .before .before .before .before .before .before .before .before .before .before .before .before .pre .1 .0) _ _ _ (c .before .before .before .before .before .before .before .before .before .before .before .before .before .before .pre .1 .1 .1) (fills-filled (c .before .before .before .before .before .before .before .before .before .group .ensures) (c .before .before .before .before .before .inner2 .given .1)))
+    says-put (primary-parens (c .before .before .before .before .before .before .before .before .before .before .before .before .before .before .pre .1 .0) _ _ _ (c .before .before .before .before .before .before .before .before .before .before .before .before .before .before .pre .1 .1 .1) (fills-filled (c .before .before .before .before .before .before .before .before .before .group .ensures) (c .before .before .before .before .before .inner2 .given .1))) (c .before .before .put .ensures)
 
 plain-stmt-class-at-requires : (t : ℕ) → plain-stmt-lts.Need-class-at-requires (plain-stmt-claims t) (plain-stmt-at t) plain-stmt.Post
 plain-stmt-class-at-requires t c κs = search needs
@@ -1387,7 +1365,7 @@ plain-stmt-place-at-requires : (t : ℕ) → plain-stmt-lts.Need-place-at-requir
 plain-stmt-place-at-requires t c κs = search needs
 
 plain-stmt-returns-4 : (t : ℕ) → plain-stmt-lts.Need-returns-4 (plain-stmt-claims t) (plain-stmt-at t) plain-stmt.Post
-plain-stmt-returns-4 t c = bad-at (c .place-at .ensures) (statement-function-fails (c .before .before .before .before .before .before .before .before .before .pre .1 .0) (c .before .before .before .before .before .before .before .before .before .args .at) (read-is (c .before .before .before .before .before .class-at .ensures) (c .before .if4 .taken)))
+plain-stmt-returns-4 t c = says-bad-at (c .place-at .ensures) (statement-function-fails (c .before .before .before .before .before .before .before .before .before .pre .1 .0) (c .before .before .before .before .before .before .before .before .before .args .at) (read-is (c .before .before .before .before .before .class-at .ensures) (c .before .if4 .taken)))
 
 plain-stmt-expr-stmt-requires : (t : ℕ) → plain-stmt-lts.Need-expr-stmt-requires (plain-stmt-claims t) (plain-stmt-at t) plain-stmt.Post
 plain-stmt-expr-stmt-requires t c κs =
@@ -1420,7 +1398,7 @@ primary-class-at-requires t c κs = search needs
 
 primary-parens-requires : (t : ℕ) → primary-lts.Need-parens-requires (primary-claims t) (primary-at t) primary.Post
 primary-parens-requires t c κs =
-    (omega (arith, c .before .before .before .before .before .before .pre .0), (c .before .before .before .before .before .before .pre .1 .0, (c .before .before .before .before .before .before .pre .1 .1 .1, sym (c .before .before .class-at .ensures) ∙ c .before .if1 .taken)))
+    (omega (arith, c .before .before .before .before .before .before .pre .0), (c .before .before .before .before .before .before .pre .1 .0, (c .before .before .before .before .before .before .pre .1 .1 .1, read-is (c .before .before .class-at .ensures) (c .before .if1 .taken))))
 
 primary-same-length : (t : ℕ) → primary-lts.Need-same-length (primary-claims t) (primary-at t) primary.Post
 primary-same-length t c = search needs
@@ -1430,7 +1408,7 @@ primary-returns t c = search needs
 
 primary-object-requires : (t : ℕ) → primary-lts.Need-object-requires (primary-claims t) (primary-at t) primary.Post
 primary-object-requires t c κs =
-    (omega (arith, c .before .before .before .before .before .before .before .pre .0), (c .before .before .before .before .before .before .before .pre .1 .0, (c .before .before .before .before .before .before .before .pre .1 .1 .1, sym (c .before .before .before .class-at .ensures) ∙ c .before .if2 .taken)))
+    (omega (arith, c .before .before .before .before .before .before .before .pre .0), (c .before .before .before .before .before .before .before .pre .1 .0, (c .before .before .before .before .before .before .before .pre .1 .1 .1, read-is (c .before .before .before .class-at .ensures) (c .before .if2 .taken))))
 
 primary-same-length-2 : (t : ℕ) → primary-lts.Need-same-length-2 (primary-claims t) (primary-at t) primary.Post
 primary-same-length-2 t c = search needs
@@ -1440,7 +1418,7 @@ primary-returns-2 t c = search needs
 
 primary-func-expr-requires : (t : ℕ) → primary-lts.Need-func-expr-requires (primary-claims t) (primary-at t) primary.Post
 primary-func-expr-requires t c κs =
-    (omega (arith, c .before .before .before .before .before .before .before .before .pre .0), (c .before .before .before .before .before .before .before .before .pre .1 .0, (c .before .before .before .before .before .before .before .before .pre .1 .1 .1, sym (c .before .before .before .before .class-at .ensures) ∙ c .before .if3 .taken)))
+    (omega (arith, c .before .before .before .before .before .before .before .before .pre .0), (c .before .before .before .before .before .before .before .before .pre .1 .0, (c .before .before .before .before .before .before .before .before .pre .1 .1 .1, read-is (c .before .before .before .before .class-at .ensures) (c .before .if3 .taken))))
 
 primary-same-length-3 : (t : ℕ) → primary-lts.Need-same-length-3 (primary-claims t) (primary-at t) primary.Post
 primary-same-length-3 t c = search needs
@@ -1465,66 +1443,68 @@ primary-same-length-4 t c = search needs
 
 primary-returns-4 : (t : ℕ) → primary-lts.Need-returns-4 (primary-claims t) (primary-at t) primary.Post
 primary-returns-4 t c =
-    says-put (c .before .before .put .ensures .0) (c .before .before .put .ensures .1) (primary-leaf (c .before .before .before .before .before .before .before .before .before .before .before .before .before .pre .1 .0) _ _ _ (sym (c .before .before .before .before .before .before .before .before .before .class-at .ensures)) (leaf-is _ (sym (c .before .before .before .before .before .is-leaf .ensures) ∙ c .before .before .before .before .if4 .taken)))
+    says-put (primary-leaf (c .before .before .before .before .before .before .before .before .before .before .before .before .before .pre .1 .0) _ _ _ (sym (c .before .before .before .before .before .before .before .before .before .class-at .ensures)) (leaf-is _ (read-is (c .before .before .before .before .before .is-leaf .ensures) (c .before .before .before .before .if4 .taken)))) (c .before .before .put .ensures)
 
 primary-place-at-requires : (t : ℕ) → primary-lts.Need-place-at-requires (primary-claims t) (primary-at t) primary.Post
 primary-place-at-requires t c κs = search needs
 
 primary-returns-5 : (t : ℕ) → primary-lts.Need-returns-5 (primary-claims t) (primary-at t) primary.Post
 primary-returns-5 t c =
-    says-bad-at (c .place-at .ensures) (none-is (c .before .before .before .before .before .before .before .before .before .before .pre .1 .0) _ (ap isLeaf (sym (c .before .before .before .before .before .before .class-at .ensures)) ∙ (sym (c .before .before .is-leaf .ensures) ∙ c .before .if4 .left)) (λ is. c .before .before .before .before .before .if1 .left (c .before .before .before .before .before .before .class-at .ensures ∙ is)) (λ is. c .before .before .before .before .if2 .left (c .before .before .before .before .before .before .class-at .ensures ∙ is)) (λ is. c .before .before .before .if3 .left (c .before .before .before .before .before .before .class-at .ensures ∙ is)))
+    says-bad-at (c .place-at .ensures) (none-is (c .before .before .before .before .before .before .before .before .before .before .pre .1 .0) _ (ap isLeaf (sym (c .before .before .before .before .before .before .class-at .ensures)) ∙ (read-is (c .before .before .is-leaf .ensures) (c .before .if4 .left))) (read-is-not (c .before .before .before .before .before .before .class-at .ensures) (c .before .before .before .before .before .if1 .left)) (read-is-not (c .before .before .before .before .before .before .class-at .ensures) (c .before .before .before .before .if2 .left)) (read-is-not (c .before .before .before .before .before .before .class-at .ensures) (c .before .before .before .if3 .left)))
 
 ret-stmt-add-class-at : (t : ℕ) → ret-stmt-lts.Need-add-class-at (ret-stmt-claims t) (ret-stmt-at t) ret-stmt.Post
 ret-stmt-add-class-at t c =
-    omega (arith, c .before .before .before .pre .1 .0 .few, known-within (c .before .before .before .pre .1 .0) (c .before .before .before .args .at) (c .before .before .before .pre .1 .1 .1) tt)
+    omega (arith, stands (c .before .before .before .pre .1 .0) _ (c .before .before .before .pre .1 .1 .1) tt .low)
 
 ret-stmt-class-at-requires : (t : ℕ) → ret-stmt-lts.Need-class-at-requires (ret-stmt-claims t) (ret-stmt-at t) ret-stmt.Post
 ret-stmt-class-at-requires t c κs = search needs
 
 ret-stmt-add-put : (t : ℕ) → ret-stmt-lts.Need-add-put (ret-stmt-claims t) (ret-stmt-at t) ret-stmt.Post
 ret-stmt-add-put t c =
-    omega (arith, c .before .before .before .before .before .before .pre .1 .0 .few, known-within (c .before .before .before .before .before .before .pre .1 .0) (c .before .before .before .before .before .before .args .at) (c .before .before .before .before .before .before .pre .1 .1 .1) tt)
+    omega (arith, stands (c .before .before .before .before .before .before .pre .1 .0) _ (c .before .before .before .before .before .before .pre .1 .1 .1) tt .low)
 
 ret-stmt-put-requires : (t : ℕ) → ret-stmt-lts.Need-put-requires (ret-stmt-claims t) (ret-stmt-at t) ret-stmt.Post
 ret-stmt-put-requires t c κs =
-    (omega arith, omega (arith, c .before .before .before .before .before .before .pre .1 .1 .0, c .before .before .before .before .before .before .pre .1 .0 .few, known-within (c .before .before .before .before .before .before .pre .1 .0) (c .before .before .before .before .before .before .args .at) (c .before .before .before .before .before .before .pre .1 .1 .1) tt), omega (arith, c .before .before .before .before .before .before .pre .1 .0 .few, known-within (c .before .before .before .before .before .before .pre .1 .0) (c .before .before .before .before .before .before .args .at) (c .before .before .before .before .before .before .pre .1 .1 .1) tt))
+    let s = stands (c .before .before .before .before .before .before .pre .1 .0) _ (c .before .before .before .before .before .before .pre .1 .1 .1) tt in
+    omega (arith, c .before .before .before .before .before .before .pre .1 .1 .0)
 
 ret-stmt-add-t20 : (t : ℕ) → ret-stmt-lts.Need-add-t20 (ret-stmt-claims t) (ret-stmt-at t) ret-stmt.Post
 ret-stmt-add-t20 t c =
-    omega (arith, c .before .before .before .before .before .before .before .before .before .pre .1 .0 .few, known-within (c .before .before .before .before .before .before .before .before .before .pre .1 .0) (c .before .before .before .before .before .before .before .before .before .args .at) (c .before .before .before .before .before .before .before .before .before .pre .1 .1 .1) tt)
+    omega (arith, stands (c .before .before .before .before .before .before .before .before .before .pre .1 .0) _ (c .before .before .before .before .before .before .before .before .before .pre .1 .1 .1) tt .low)
 
 ret-stmt-same-length : (t : ℕ) → ret-stmt-lts.Need-same-length (ret-stmt-claims t) (ret-stmt-at t) ret-stmt.Post
 ret-stmt-same-length t c = search needs
 
 ret-stmt-returns : (t : ℕ) → ret-stmt-lts.Need-returns (ret-stmt-claims t) (ret-stmt-at t) ret-stmt.Post
 ret-stmt-returns t c =
-    put-done (return-bare (c .before .before .before .before .before .before .before .before .before .pre .1 .0) (c .before .before .before .before .before .before .before .before .before .args .at) (c .before .before .before .before .before .before .before .before .before .pre .1 .1 .1) (read-is (c .before .before .before .before .before .class-at .ensures) (c .before .before .before .before .if1 .taken)) _ _) (c .before .before .put .ensures)
+    says-put (return-bare (c .before .before .before .before .before .before .before .before .before .pre .1 .0) (c .before .before .before .before .before .before .before .before .before .args .at) (c .before .before .before .before .before .before .before .before .before .pre .1 .1 .1) (read-is (c .before .before .before .before .before .class-at .ensures) (c .before .before .before .before .if1 .taken)) _ _) (c .before .before .put .ensures)
 
 ret-stmt-add-line-at : (t : ℕ) → ret-stmt-lts.Need-add-line-at (ret-stmt-claims t) (ret-stmt-at t) ret-stmt.Post
 ret-stmt-add-line-at t c =
-    omega (arith, c .before .before .before .before .before .pre .1 .0 .few, known-within (c .before .before .before .before .before .pre .1 .0) (c .before .before .before .before .before .args .at) (c .before .before .before .before .before .pre .1 .1 .1) tt)
+    omega (arith, stands (c .before .before .before .before .before .pre .1 .0) _ (c .before .before .before .before .before .pre .1 .1 .1) tt .low)
 
 ret-stmt-line-at-requires : (t : ℕ) → ret-stmt-lts.Need-line-at-requires (ret-stmt-claims t) (ret-stmt-at t) ret-stmt.Post
 ret-stmt-line-at-requires t c κs = search needs
 
 ret-stmt-add-place-at : (t : ℕ) → ret-stmt-lts.Need-add-place-at (ret-stmt-claims t) (ret-stmt-at t) ret-stmt.Post
 ret-stmt-add-place-at t c =
-    omega (arith, c .before .before .before .before .before .before .before .pre .1 .0 .few, known-within (c .before .before .before .before .before .before .before .pre .1 .0) (c .before .before .before .before .before .before .before .args .at) (c .before .before .before .before .before .before .before .pre .1 .1 .1) tt)
+    omega (arith, stands (c .before .before .before .before .before .before .before .pre .1 .0) _ (c .before .before .before .before .before .before .before .pre .1 .1 .1) tt .low)
 
 ret-stmt-place-at-requires : (t : ℕ) → ret-stmt-lts.Need-place-at-requires (ret-stmt-claims t) (ret-stmt-at t) ret-stmt.Post
 ret-stmt-place-at-requires t c κs = search needs
 
 ret-stmt-returns-2 : (t : ℕ) → ret-stmt-lts.Need-returns-2 (ret-stmt-claims t) (ret-stmt-at t) ret-stmt.Post
 ret-stmt-returns-2 t c =
-    bad-at (c .place-at .ensures) (return-line-end (c .before .before .before .before .before .before .before .before .pre .1 .0) (c .before .before .before .before .before .before .before .before .args .at) (c .before .before .before .before .before .before .before .before .pre .1 .1 .1) (read-is-not (c .before .before .before .before .class-at .ensures) (c .before .before .before .if1 .left)) (read-is (c .before .before .line-at .ensures) (c .before .if2 .taken)))
+    says-bad-at (c .place-at .ensures) (return-line-end (c .before .before .before .before .before .before .before .before .pre .1 .0) (c .before .before .before .before .before .before .before .before .args .at) (c .before .before .before .before .before .before .before .before .pre .1 .1 .1) (read-is-not (c .before .before .before .before .class-at .ensures) (c .before .before .before .if1 .left)) (read-is (c .before .before .line-at .ensures) (c .before .if2 .taken)))
 
 ret-stmt-add-expr : (t : ℕ) → ret-stmt-lts.Need-add-expr (ret-stmt-claims t) (ret-stmt-at t) ret-stmt.Post
 ret-stmt-add-expr t c =
-    omega (arith, c .before .before .before .before .before .before .before .pre .1 .0 .few, known-within (c .before .before .before .before .before .before .before .pre .1 .0) (c .before .before .before .before .before .before .before .args .at) (c .before .before .before .before .before .before .before .pre .1 .1 .1) tt)
+    omega (arith, stands (c .before .before .before .before .before .before .before .pre .1 .0) _ (c .before .before .before .before .before .before .before .pre .1 .1 .1) tt .low)
 
 ret-stmt-expr-requires : (t : ℕ) → ret-stmt-lts.Need-expr-requires (ret-stmt-claims t) (ret-stmt-at t) ret-stmt.Post
 ret-stmt-expr-requires t c κs =
-    (omega (arith, c .before .before .before .before .before .before .before .before .pre .0, known-within (c .before .before .before .before .before .before .before .before .pre .1 .0) (c .before .before .before .before .before .before .before .before .args .at) (c .before .before .before .before .before .before .before .before .pre .1 .1 .1) tt), (c .before .before .before .before .before .before .before .before .pre .1 .0, (omega (arith, known-within (c .before .before .before .before .before .before .before .before .pre .1 .0) (c .before .before .before .before .before .before .before .before .args .at) (c .before .before .before .before .before .before .before .before .pre .1 .1 .1) tt), omega (arith, c .before .before .before .before .before .before .before .before .pre .1 .1 .0))))
+    let s = stands (c .before .before .before .before .before .before .before .before .pre .1 .0) _ (c .before .before .before .before .before .before .before .before .pre .1 .1 .1) tt in
+    (omega (arith, c .before .before .before .before .before .before .before .before .pre .0), (c .before .before .before .before .before .before .before .before .pre .1 .0, (omega arith, omega (arith, c .before .before .before .before .before .before .before .before .pre .1 .1 .0))))
 
 ret-stmt-enum-known-value : (t : ℕ) → ret-stmt-lts.Need-enum-known-value (ret-stmt-claims t) (ret-stmt-at t) ret-stmt.Post
 ret-stmt-enum-known-value t c = search needs
@@ -1543,15 +1523,15 @@ ret-stmt-same-length-2 t c = search needs
 
 ret-stmt-returns-3 : (t : ℕ) → ret-stmt-lts.Need-returns-3 (ret-stmt-claims t) (ret-stmt-at t) ret-stmt.Post
 ret-stmt-returns-3 t c =
-    bad-at (c .place-at2 .ensures) (return-unended (c .before .before .before .before .before .before .before .before .before .before .before .before .before .before .before .before .before .pre .1 .0) (c .before .before .before .before .before .before .before .before .before .before .before .before .before .before .before .before .before .args .at) (c .before .before .before .before .before .before .before .before .before .before .before .before .before .before .before .before .before .pre .1 .1 .1) (read-is-not (c .before .before .before .before .before .before .before .before .before .before .before .before .before .class-at .ensures) (c .before .before .before .before .before .before .before .before .before .before .before .before .if1 .left)) (read-is (c .before .before .before .before .before .before .before .before .before .before .before .line-at .ensures) (c .before .before .before .before .before .before .before .before .before .before .if2 .left)) (says-success (c .before .before .before .before .before .before .before .before .expr .ensures) (c .before .before .before .before .value2 .given .1)) (read-is-not (c .before .before .class-at2 .ensures) (c .before .if3 .taken)))
+    says-bad-at (c .place-at2 .ensures) (return-unended (c .before .before .before .before .before .before .before .before .before .before .before .before .before .before .before .before .before .pre .1 .0) (c .before .before .before .before .before .before .before .before .before .before .before .before .before .before .before .before .before .args .at) (c .before .before .before .before .before .before .before .before .before .before .before .before .before .before .before .before .before .pre .1 .1 .1) (read-is-not (c .before .before .before .before .before .before .before .before .before .before .before .before .before .class-at .ensures) (c .before .before .before .before .before .before .before .before .before .before .before .before .if1 .left)) (read-is (c .before .before .before .before .before .before .before .before .before .before .before .line-at .ensures) (c .before .before .before .before .before .before .before .before .before .before .if2 .left)) (says-success (c .before .before .before .before .before .before .before .before .expr .ensures) (c .before .before .before .before .value2 .given .1)) (read-is-not (c .before .before .class-at2 .ensures) (c .before .if3 .taken)))
 
 ret-stmt-add-put-2 : (t : ℕ) → ret-stmt-lts.Need-add-put-2 (ret-stmt-claims t) (ret-stmt-at t) ret-stmt.Post
 ret-stmt-add-put-2 t c =
-    omega (arith, c .before .before .before .before .before .before .before .before .before .before .before .before .before .before .before .before .before .pre .1 .0 .few, known-within (c .before .before .before .before .before .before .before .before .before .before .before .before .before .before .before .before .before .pre .1 .0) (c .before .before .before .before .before .before .before .before .before .before .before .before .before .before .before .before .before .args .at) (c .before .before .before .before .before .before .before .before .before .before .before .before .before .before .before .before .before .pre .1 .1 .1) tt)
+    omega (arith, stands (c .before .before .before .before .before .before .before .before .before .before .before .before .before .before .before .before .before .pre .1 .0) _ (c .before .before .before .before .before .before .before .before .before .before .before .before .before .before .before .before .before .pre .1 .1 .1) tt .low)
 
 ret-stmt-put-requires-2 : (t : ℕ) → ret-stmt-lts.Need-put-requires-2 (ret-stmt-claims t) (ret-stmt-at t) ret-stmt.Post
 ret-stmt-put-requires-2 t c κs =
-    success-room (c .before .before .before .before .before .before .before .before .before .before .before .before .before .before .before .before .before .pre .1 .0) (says-success (c .before .before .before .before .before .before .before .before .expr .ensures) (c .before .before .before .before .value2 .given .1)) (omega (arith, c .before .before .before .before .before .before .before .before .before .before .before .before .before .before .before .before .before .pre .1 .1 .0)) (omega arith) (omega (arith, known-within (c .before .before .before .before .before .before .before .before .before .before .before .before .before .before .before .before .before .pre .1 .0) (c .before .before .before .before .before .before .before .before .before .before .before .before .before .before .before .before .before .args .at) (c .before .before .before .before .before .before .before .before .before .before .before .before .before .before .before .before .before .pre .1 .1 .1) tt))
+    behind-room (c .before .before .before .before .before .before .before .before .before .before .before .before .before .before .before .before .before .pre .1 .0) _ (says-success (c .before .before .before .before .before .before .before .before .expr .ensures) (c .before .before .before .before .value2 .given .1)) (c .before .before .before .before .before .before .before .before .before .before .before .before .before .before .before .before .before .pre .1 .1 .0) (le-refl _)
 
 ret-stmt-add-t31 : (t : ℕ) → ret-stmt-lts.Need-add-t31 (ret-stmt-claims t) (ret-stmt-at t) ret-stmt.Post
 ret-stmt-add-t31 t c =
@@ -1569,7 +1549,7 @@ ret-stmt-same-length-4 t c = search needs
 
 ret-stmt-returns-5 : (t : ℕ) → ret-stmt-lts.Need-returns-5 (ret-stmt-claims t) (ret-stmt-at t) ret-stmt.Post
 ret-stmt-returns-5 t c =
-    put-done (return-whole (c .before .before .before .before .before .before .before .before .before .before .before .before .before .before .before .before .before .before .before .before .pre .1 .0) (c .before .before .before .before .before .before .before .before .before .before .before .before .before .before .before .before .before .before .before .before .args .at) (c .before .before .before .before .before .before .before .before .before .before .before .before .before .before .before .before .before .before .before .before .pre .1 .1 .1) (read-is-not (c .before .before .before .before .before .before .before .before .before .before .before .before .before .before .before .before .class-at .ensures) (c .before .before .before .before .before .before .before .before .before .before .before .before .before .before .before .if1 .left)) (read-is (c .before .before .before .before .before .before .before .before .before .before .before .before .before .before .line-at .ensures) (c .before .before .before .before .before .before .before .before .before .before .before .before .before .if2 .left)) (says-success (c .before .before .before .before .before .before .before .before .before .before .before .expr .ensures) (c .before .before .before .before .before .before .before .value2 .given .1)) (read-is (c .before .before .before .before .before .class-at2 .ensures) (c .before .before .before .before .if3 .left))) (c .before .before .put2 .ensures)
+    says-put (return-whole (c .before .before .before .before .before .before .before .before .before .before .before .before .before .before .before .before .before .before .before .before .pre .1 .0) (c .before .before .before .before .before .before .before .before .before .before .before .before .before .before .before .before .before .before .before .before .args .at) (c .before .before .before .before .before .before .before .before .before .before .before .before .before .before .before .before .before .before .before .before .pre .1 .1 .1) (read-is-not (c .before .before .before .before .before .before .before .before .before .before .before .before .before .before .before .before .class-at .ensures) (c .before .before .before .before .before .before .before .before .before .before .before .before .before .before .before .if1 .left)) (read-is (c .before .before .before .before .before .before .before .before .before .before .before .before .before .before .line-at .ensures) (c .before .before .before .before .before .before .before .before .before .before .before .before .before .if2 .left)) (says-success (c .before .before .before .before .before .before .before .before .before .before .before .expr .ensures) (c .before .before .before .before .before .before .before .value2 .given .1)) (read-is (c .before .before .before .before .before .class-at2 .ensures) (c .before .before .before .before .if3 .left))) (c .before .before .put2 .ensures)
 
 stmt-behind-requires : (t : ℕ) → stmt-lts.Need-behind-requires (stmt-claims t) (stmt-at t) stmt.Post
 stmt-behind-requires t c κs = search needs
