@@ -6,11 +6,9 @@ use Prim.Native.Nat.{ℕ}
 use borrow.Author.Tests.{eq-eqb, ne-eqb}
 use native.Mathlib.Omega.{arith}
 use lib.Dec.{eqb}
-use lib.ListN.{getD, drop}
+use lib.ListN.{getD}
 use Rattle.text.specs.Quoted.{byte}
-use Rattle.gaps.specs.Gaps.{gap}
 use Rattle.elements.specs.Elements.{elementAt, slashAfter, slashMet, patternKind}
-use Rattle.gaps.specs.declared.Gap.{Gap}
 use Rattle.elements.specs.declared.Element.{Element}
 use Rattle.elements.specs.declared.Next.{Next}
 use Rattle.elements.proofs.OwnBytes.{found-gap}

@@ -8,16 +8,15 @@ use Rattle.elements.specs.Elements.{elementAt}
 use Rattle.elements.specs.declared.Element.{Element}
 use Rattle.elements.specs.declared.Next.{Next}
 use Rattle.grammar.specs.Cuts.{isCloser, marked, Cuts, cut-end, cut-element, cut-slash}
-use Rattle.grammar.specs.Tokens.{Token, token, classOf, tokenOf, tokensFrom, tokens}
-use Rattle.grammar.specs.Syntax.{Syntax}
+use Rattle.grammar.specs.Tokens.{Token, classOf, tokenOf, tokensFrom, tokens}
 use Rattle.grammar.specs.Grammar.{Program}
-use Rattle.grammar.specs.Derivations.{Derivation, SameElements, no-elements, same-element, BeginsProgram}
+use Rattle.grammar.specs.Derivations.{SameElements, no-elements, same-element, BeginsProgram}
 use Rattle.grammar.specs.Machine.{State, dead, live, Control, Frame, Held, finished, take, run, start}
 use Rattle.grammar.proofs.ReadCuts.{CutsInto}
 use Rattle.grammar.proofs.Spelling.{spelled, placedFrom, spelled-cuts, behindAll, placed-append}
 use Rattle.grammar.proofs.Respelled.{Pieces, piece-more}
-use Rattle.grammar.proofs.CompletedTexts.{Completed, completed}
-use Rattle.grammar.proofs.Viable.{Viable, viable, refused}
+use Rattle.grammar.proofs.CompletedTexts.{completed}
+use Rattle.grammar.proofs.Viable.{viable, refused}
 use Rattle.grammar.proofs.Unfinished.{unfinished}
 use Rattle.grammar.proofs.TokenLaws.{tokens-before-end}
 

@@ -1,21 +1,20 @@
 -- The spelling of a completion: each of its classes has an element of its own.
-use mathlib.Core.Path.{_≡_, refl, sym, ap, subst, _∙_}
-use mathlib.Core.List.{List, [], _∷_, _++_}
-use mathlib.Core.Bool.{Bool, true, false, cond}
+use mathlib.Core.Path.{_≡_, refl, subst}
+use mathlib.Core.List.{List, [], _∷_}
+use mathlib.Core.Bool.{false, cond}
 use Prim.Native.Nat.{ℕ, _+_, _-_}
-use lib.ListN.{length, take, drop}
-use Rattle.text.specs.Quoted.{byte, bytes}
+use Rattle.text.specs.Quoted.{bytes}
 use Rattle.text.specs.Bytes.{blank, lineEnd, illegal, letter, digit, nameByte}
 use Rattle.text.specs.Runs
 use Rattle.words.specs.Words.{placeIn, wordNumber, taken}
 use Rattle.signs.specs.Signs.{longestSign, longestOf}
-use Rattle.gaps.specs.Gaps.{gap, afterSlash, inLine, inBlock}
+use Rattle.gaps.specs.Gaps.{gap}
 use Rattle.literals.specs.Strings.{quote}
 use Rattle.elements.specs.Elements.{elementAt, elementFrom, named, delimiter}
 use Rattle.elements.specs.declared.Element.{Element}
 use Rattle.elements.specs.declared.Next.{Next}
 use Rattle.grammar.specs.Cuts.{isCloser, marked}
-use Rattle.grammar.specs.Tokens.{Token, token, classOf, tokenOf, tokensFrom}
+use Rattle.grammar.specs.Tokens.{classOf, tokensFrom}
 use Rattle.grammar.proofs.Completion.{
   Spelled,
   spelled-name,

@@ -1,12 +1,12 @@
 -- The tree records of a derivation, counted over its elements and over its tokens; and the program's own mark.
 use mathlib.Core.Path.{_≡_, refl, ap}
 use mathlib.Core.List.{List, [], _∷_, List·Memᴰ·not-nil}
-use mathlib.Core.Bool.{Bool, cond}
+use mathlib.Core.Bool.{cond}
 use Prim.Native.Nat.{ℕ, _+_}
 use native.Mathlib.Omega.{arith}
 use Rattle.elements.specs.declared.Element.{Element}
 use Rattle.grammar.specs.Cuts.{isCloser}
-use Rattle.grammar.specs.Tokens.{Token, classOf, tokensFrom}
+use Rattle.grammar.specs.Tokens.{Token, tokensFrom}
 use Rattle.grammar.specs.Syntax.{Syntax, nil, programTree}
 use Rattle.grammar.specs.Derivations.{countTrees}
 use Rattle.grammar.proofs.Counts.{countTreeTokens}

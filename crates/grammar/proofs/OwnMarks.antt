@@ -4,22 +4,7 @@ use mathlib.Core.Path.{_≡_, refl, subst}
 use mathlib.Core.List.{List, [], List·Memᴰ}
 use Prim.Native.Nat.{ℕ, _+_, _≤_, _<_}
 use native.Mathlib.Omega.{arith}
-use Rattle.grammar.specs.Tokens.{
-  Token,
-  token,
-  name,
-  assign,
-  colon,
-  semicolon,
-  dot,
-  openParen,
-  closeParen,
-  openBrace,
-  closeBrace,
-  returnWord,
-  functionWord,
-  ifWord,
-}
+use Rattle.grammar.specs.Tokens.{Token, name, assign, colon, semicolon, dot, openParen, closeParen, openBrace, closeBrace, returnWord, functionWord, ifWord}
 use Rattle.grammar.specs.Syntax.{Syntax, nil, node}
 use Rattle.grammar.specs.Grammar.{
   Form,

@@ -1,5 +1,5 @@
 -- The prefix rule reads a program as its derivation cuts it.
-use mathlib.Core.Path.{_≡_, refl, sym, ap, subst, _∙_}
+use mathlib.Core.Path.{_≡_, refl, sym, subst, _∙_}
 use mathlib.Core.List.{List, [], _∷_, _++_, append-assoc, append-nil}
 use mathlib.Core.Bool.{Bool, true, false, cond}
 use Prim.Native.Nat.{ℕ, zero, suc, _+_, _≤_, _<_}
@@ -7,26 +7,26 @@ use native.Mathlib.Omega.{arith}
 use lib.ListN.{length}
 use Rattle.text.specs.Runs
 use Rattle.signs.specs.Signs.{longestSign, longestOf}
-use Rattle.elements.specs.Elements.{elementAt, slashMet, patternKind, delimiterKind}
+use Rattle.elements.specs.Elements.{elementAt, slashMet}
 use Rattle.elements.specs.declared.Element.{Element}
 use Rattle.elements.specs.declared.Next.{Next}
 use Rattle.elements.proofs.Bounds.{Placed, found-placed}
 use Rattle.elements.proofs.Delimiters.{delimiter-byte, delimiter-which}
-use Rattle.elements.proofs.Slashes.{Divide, Divided, slash-divides, either-slash, divide-found, pattern-found}
+use Rattle.elements.proofs.Slashes.{Divide, slash-divides, either-slash, divide-found, pattern-found}
 use Rattle.prefix.specs.Trees.{Trees, none, count}
 use Rattle.prefix.specs.Levels.{Levels, text, treesOf, slashOpens, depth, number}
-use Rattle.prefix.specs.Reading.{Limits, more, step, Reading, accepted, ending, readOn, reading, unlimited, unlimitedReading}
+use Rattle.prefix.specs.Reading.{Limits, accepted, readOn, reading, unlimited, unlimitedReading}
 use Rattle.prefix.proofs.ReadingLaws.{read-end, read-more}
 use Rattle.prefix.proofs.StepCases.{step-taken}
 use Rattle.prefix.proofs.Sizes.{Grown, taken-grown}
 use Rattle.grammar.specs.Cuts.{marked, isCloser, Cuts, cut-end, cut-element, cut-slash}
-use Rattle.grammar.specs.Tokens.{Token, classOf, tokenOf, tokensFrom, pattern, divide}
+use Rattle.grammar.specs.Tokens.{classOf, tokenOf, tokensFrom, pattern, divide}
 use Rattle.grammar.specs.Grammar.{body}
 use Rattle.grammar.specs.TreeElements.{elementsOf}
 use Rattle.grammar.specs.Machine.{State, live, Control, take, run, start, Frame, statementDue}
 use Rattle.grammar.proofs.SoFar.{elementsSoFar, step-elements}
 use Rattle.grammar.proofs.InStep.{whole-text, InStep, in-step, start-in-step, at-end, live-before}
-use Rattle.grammar.proofs.Kept.{Kept, kept, Stepped, stepped}
+use Rattle.grammar.proofs.Kept.{Kept, kept, stepped}
 
 -- where nothing is left, nothing is left under either slash answer
 end-either : (bytes : List ℕ) (place : ℕ) → elementAt bytes place false ≡ Next.End → (answer : Bool) → elementAt bytes place answer ≡ Next.End

@@ -4,11 +4,11 @@ use mathlib.Core.List.{List, [], _∷_}
 use mathlib.Core.Bool.{Bool, true, false, false≢true}
 use Prim.Native.Nat.{ℕ}
 use native.Mathlib.Omega.{arith}
-use Rattle.elements.specs.Elements.{elementAt, slashMet, patternKind, signKind}
+use Rattle.elements.specs.Elements.{elementAt, slashMet}
 use Rattle.elements.specs.declared.Element.{Element}
 use Rattle.elements.specs.declared.Next.{Next}
-use Rattle.elements.proofs.Slashes.{divide-found, pattern-found, slash-divides}
-use Rattle.grammar.specs.Cuts.{marked, Cuts, cut-end, cut-element, cut-slash}
+use Rattle.elements.proofs.Slashes.{divide-found, pattern-found}
+use Rattle.grammar.specs.Cuts.{Cuts, cut-end, cut-element, cut-slash}
 
 abbrev kindOfFirst : List Element → ℕ
 kindOfFirst [] = 0

@@ -1,21 +1,20 @@
 -- The elements of levels so far, closers included: a step adds its element to them.
 use mathlib.Core.Path.{_≡_, refl, sym, ap, _∙_}
 use mathlib.Core.List.{List, [], _∷_, _++_, append-assoc}
-use mathlib.Core.Bool.{Bool, true, false, false≢true, cond, _&&_, _||_}
+use mathlib.Core.Bool.{Bool, true, false, false≢true, cond, _||_}
 use Prim.Native.Nat.{ℕ, _+_, _-_}
 use native.Mathlib.Omega.{arith}
-use borrow.Author.Tests.{eqb-true, eqb-false, eq-eqb, ne-eqb}
+use borrow.Author.Tests.{eqb-true, ne-eqb}
 use lib.Dec.{eqb, leb}
-use Rattle.text.specs.Quoted.{bytes}
 use Rattle.text.specs.Runs
 use Rattle.signs.specs.Signs.{longestSign, longestOf}
-use Rattle.elements.specs.Elements.{numberOfSign, delimiter, delimiterKind, isSign}
+use Rattle.elements.specs.Elements.{delimiter, delimiterKind, isSign}
 use Rattle.elements.specs.declared.Element.{Element}
 use Rattle.elements.proofs.Choices.{cond-both, cond-known}
-use Rattle.prefix.specs.Trees.{Trees, none, leaf, group, parenKind, objectKind, blockKind}
+use Rattle.prefix.specs.Trees.{Trees, leaf, group, parenKind, objectKind, blockKind}
 use Rattle.prefix.specs.Levels.{Levels, text, inside, braceOpens, depth, number, onTop}
 use Rattle.prefix.specs.Reading.{Limits, Step, stop, more, addLeaf, openGroup, closes, closeGroup, delimit, step}
-use Rattle.grammar.specs.Cuts.{isCloser, marked}
+use Rattle.grammar.specs.Cuts.{marked}
 use Rattle.grammar.specs.TreeElements.{openerOf, closerOf, elementsOf}
 
 abbrev pub elementsSoFar : Levels → List Element

@@ -1,11 +1,11 @@
 -- A text can be made of elements that were found elsewhere: each is written as its bytes, behind a blank or a line end.
-use mathlib.Core.Path.{_≡_, refl, sym, ap, subst, _∙_}
-use mathlib.Core.List.{List, [], _∷_, _++_, append-assoc, append-nil}
+use mathlib.Core.Path.{_≡_, refl, ap, _∙_}
+use mathlib.Core.List.{List, [], _∷_, _++_, append-assoc}
 use mathlib.Core.Bool.{Bool, true, false, cond, _||_}
-use Prim.Native.Nat.{ℕ, zero, suc, _+_, _-_, _≤_, _<_}
+use Prim.Native.Nat.{ℕ, _+_, _-_}
 use native.Mathlib.Omega.{arith}
-use lib.ListN.{length, take, drop, length-append, length-drop}
-use lib.Seq.{take-at, drop-append-seam, length-take-le}
+use lib.ListN.{length, drop, length-append, length-drop}
+use lib.Seq.{length-take-le}
 use Rattle.text.specs.Bytes.{blank, lineEnd}
 use Rattle.elements.specs.Elements.{elementAt}
 use Rattle.elements.specs.Parts.{partOf}
@@ -14,7 +14,7 @@ use Rattle.elements.specs.declared.Next.{Next}
 use Rattle.elements.proofs.Bounds.{Placed, found-placed, past-end}
 use Rattle.elements.proofs.Separators.{lined, blank-first, line-end-first}
 use Rattle.elements.proofs.OwnBytes.{own-bytes}
-use Rattle.grammar.specs.Cuts.{marked, isCloser, cut-end}
+use Rattle.grammar.specs.Cuts.{marked, cut-end}
 use Rattle.grammar.proofs.ReadCuts.{CutsInto, cut-more}
 
 -- an element of a text, and whether a line end is to lie before it

@@ -1,22 +1,22 @@
 -- The theorems of derivations.
-use mathlib.Core.Path.{_≡_, refl, sym, ap, subst, _∙_}
+use mathlib.Core.Path.{_≡_, sym, ap, subst, _∙_}
 use mathlib.Core.List.{List, [], _∷_, _++_, append-assoc, List·Memᴰ}
-use mathlib.Core.Bool.{Bool, false}
+use mathlib.Core.Bool.{false}
 use Prim.Native.Nat.{ℕ, _+_, _≤_, _<_}
 use native.Mathlib.Omega.{arith}
 use Rattle.elements.specs.declared.Element.{Element}
 use Rattle.prefix.specs.Trees.{Trees}
-use Rattle.prefix.specs.Reading.{Limits, accepted, reading, unlimited, unlimitedReading}
-use Rattle.grammar.specs.Tokens.{Token, tokens}
-use Rattle.grammar.specs.Syntax.{Syntax, size}
+use Rattle.prefix.specs.Reading.{Limits, accepted, reading, unlimitedReading}
+use Rattle.grammar.specs.Tokens.{tokens}
+use Rattle.grammar.specs.Syntax.{size}
 use Rattle.grammar.specs.Grammar.{body, Program}
 use Rattle.grammar.specs.Derivations.{Derivation, syntaxTree, countTrees, BeginsProgram}
 use Rattle.grammar.specs.TreeElements.{elementsOf}
-use Rattle.grammar.specs.Machine.{State, dead, live, Control, Frame, frame, Held, doneOf, statementDue, run, start}
+use Rattle.grammar.specs.Machine.{dead, live, Control, Frame, frame, Held, doneOf, statementDue, run, start}
 use Rattle.grammar.proofs.Complete.{complete, one-tree}
 use Rattle.grammar.proofs.Sound.{sound}
 use Rattle.grammar.proofs.Programs.{program-read}
-use Rattle.grammar.proofs.ReadCuts.{CutsInto, reading-cuts}
+use Rattle.grammar.proofs.ReadCuts.{reading-cuts}
 use Rattle.grammar.proofs.SameChoice.{same-choice}
 use Rattle.grammar.proofs.Counts.{few-parts}
 use Rattle.grammar.proofs.Ranges.{marksOf, Distinct}

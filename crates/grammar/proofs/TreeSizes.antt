@@ -1,14 +1,14 @@
 -- The records and the depth of trees, counted over their elements.
 use mathlib.Core.Path.{_≡_, refl, sym, ap, _∙_}
 use mathlib.Core.List.{List, [], _∷_, _++_, append-assoc, append-nil}
-use mathlib.Core.Bool.{Bool, true, false, cond, _&&_, _||_}
+use mathlib.Core.Bool.{Bool, true, false, cond, _||_}
 use Prim.Native.Nat.{ℕ, _+_, _-_, _≤_, max}
 use native.Mathlib.Omega.{arith}
 use borrow.Author.Tests.{ne-eqb}
 use lib.Dec.{eqb}
 use Rattle.text.specs.Runs
 use Rattle.signs.specs.Signs.{longestSign, longestOf}
-use Rattle.elements.specs.Elements.{delimiterKind, isSign}
+use Rattle.elements.specs.Elements.{isSign}
 use Rattle.elements.specs.declared.Element.{Element}
 use Rattle.prefix.specs.Trees.{Trees, none, leaf, group, count, deepest, parenKind}
 use Rattle.reader.proofs.Formed.{Formed}

@@ -6,7 +6,7 @@ use Prim.Native.Nat.{ℕ}
 use native.Mathlib.Omega.{arith}
 use Rattle.grammar.specs.Tokens.{Token, token, Spot, name, colon, semicolon, openParen, closeParen, openBrace, closeBrace, returnWord}
 use Rattle.grammar.specs.Syntax.{Syntax}
-use Rattle.grammar.specs.Grammar.{Scope, body, Program}
+use Rattle.grammar.specs.Grammar.{Scope, Program}
 use Rattle.grammar.specs.Machine.{
   endOfText,
   Pending,

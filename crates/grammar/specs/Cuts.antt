@@ -1,7 +1,7 @@
 -- Document 01, Grammar: "A slash is met where an element would start with it and no comment starts there. It is taken as a
 -- regular expression or as the longest sign at that place. A choice is one such answer for each slash met, left to right;
 -- which slashes are met later depends on the earlier answers."
-use Prim.Native.Nat.{ℕ, _+_}
+use Prim.Native.Nat.{ℕ}
 use mathlib.Core.Path.{_≡_}
 use mathlib.Core.Bool.{Bool, true, false, cond, _&&_, _||_}
 use mathlib.Core.List.{List, [], _∷_}

@@ -3,7 +3,7 @@
 -- included. A derivation settles no slash by the prefix rule. A text with a derivation is a program."
 use Prim.Native.Nat.{ℕ, _+_, _-_, _/_, _≤_, max}
 use mathlib.Core.Path.{_≡_}
-use mathlib.Core.Bool.{Bool, true, false, cond, _&&_, _||_}
+use mathlib.Core.Bool.{Bool, cond, _&&_, _||_}
 use mathlib.Core.List.{List, [], _∷_, _++_}
 use lib.Dec.{eqb}
 use lib.ListN.{length}

@@ -1,29 +1,10 @@
 -- The token machine: it takes tokens one at a time, and builds the syntax tree as it goes. Machinery: it is shown to accept what
 -- has a derivation, and nothing else.
-use Prim.Native.Nat.{ℕ, _+_}
+use Prim.Native.Nat.{ℕ}
 use mathlib.Core.Bool.{Bool, true, false, cond}
 use mathlib.Core.List.{List, [], _∷_}
 use lib.Dec.{eqb, leb}
-use Rattle.grammar.specs.Tokens.{
-  Token,
-  token,
-  Spot,
-  name,
-  number,
-  string,
-  pattern,
-  assign,
-  colon,
-  semicolon,
-  dot,
-  openParen,
-  closeParen,
-  openBrace,
-  closeBrace,
-  returnWord,
-  functionWord,
-  ifWord,
-}
+use Rattle.grammar.specs.Tokens.{Token, token, name, number, string, pattern, assign, colon, semicolon, dot, openParen, closeParen, openBrace, closeBrace, returnWord, functionWord, ifWord}
 use Rattle.grammar.specs.Syntax.{
   Syntax,
   nil,

@@ -1,13 +1,13 @@
 -- Laws of `patternRest` at a place of the text: one for each way that a byte is taken.
-use mathlib.Core.Path.{_≡_, refl}
-use mathlib.Core.List.{List, [], _∷_}
+use mathlib.Core.Path.{_≡_}
+use mathlib.Core.List.{List}
 use mathlib.Core.Bool.{Bool, true, false, not}
 use Prim.Native.Nat.{ℕ, _+_, _<_, _≤_}
 use borrow.Author.Tests.{eq-eqb, ne-eqb}
 use lib.Dec.{eqb}
 use lib.ListN.{length, getD, drop, drop-of-length-le}
 use Rattle.text.specs.Quoted.{byte}
-use Rattle.text.specs.Bytes.{lineEnd, illegal, nameByte}
+use Rattle.text.specs.Bytes.{nameByte}
 use Rattle.text.specs.Inside.{insideOf}
 use Rattle.text.specs.Runs.{run}
 use Rattle.text.proofs.Lists.{drop-at}

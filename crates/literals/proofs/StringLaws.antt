@@ -1,12 +1,11 @@
 -- Laws of `stringRest` at a place of the text: one for each way that a byte is taken.
-use mathlib.Core.Path.{_≡_, refl}
-use mathlib.Core.List.{List, [], _∷_}
+use mathlib.Core.Path.{_≡_}
+use mathlib.Core.List.{List}
 use mathlib.Core.Bool.{Bool, true, false}
 use Prim.Native.Nat.{ℕ, _+_, _<_, _≤_}
 use borrow.Author.Tests.{eq-eqb, ne-eqb}
 use lib.Dec.{eqb}
 use lib.ListN.{length, getD, drop, drop-of-length-le}
-use Rattle.text.specs.Bytes.{lineEnd, illegal}
 use Rattle.text.specs.Inside.{insideOf}
 use Rattle.text.proofs.Lists.{drop-at}
 use Rattle.text.proofs.Laws.{inside-passed, inside-line, inside-illegal}

@@ -1,7 +1,7 @@
 -- Document 01, Elements: "Strings: `'` or `"` to the same quote. A backslash takes the next byte, line ends excepted."
 use Prim.Native.Nat.{ℕ, _+_}
 use mathlib.Core.List.{List, [], _∷_}
-use mathlib.Core.Bool.{Bool, true, false, cond, _||_}
+use mathlib.Core.Bool.{Bool, false, cond, _||_}
 use lib.Dec.{eqb}
 use Rattle.text.specs.Quoted.{byte}
 use Rattle.text.specs.Bytes.{lineEnd, illegal}

@@ -1,5 +1,4 @@
 -- The readings that document 01 marks (M) hold of the definitions.
-use mathlib.Core.Bool.{Bool}
 use lib.Dec.{T}
 use Rattle.text.specs.Bytes.{blank, lineEnd, illegal, letter, digit, nameByte}
 use Rattle.text.specs.Runs

@@ -2,8 +2,7 @@
 use Prim.Native.Nat.{ℕ}
 use Prim.Native.String.{String}
 use mathlib.Core.Bool.{Bool, true, _&&_}
-use mathlib.Core.List.{List, [], _∷_, _++_}
-use lib.Dec.{eqb}
+use mathlib.Core.List.{List, [], _∷_}
 use Rattle.text.specs.Quoted.{bytes}
 use Rattle.text.specs.Runs.{same}
 use Rattle.prefix.specs.Reading.{Reading, accepted, refused}

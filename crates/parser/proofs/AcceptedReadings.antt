@@ -1,6 +1,6 @@
 -- What an accepted reading of `read` has: few bytes, few records and few groups, counted over its trees and over their elements; and
 -- the numbers of a refused one.
-use mathlib.Core.Path.{_≡_, refl, sym, ap, _∙_}
+use mathlib.Core.Path.{_≡_, refl}
 use mathlib.Core.List.{List}
 use mathlib.Core.Bool.{Bool, true, false, cond}
 use Prim.Native.Nat.{ℕ, _≤_}
@@ -11,7 +11,7 @@ use lib.ListN.{length}
 use Rattle.elements.proofs.Bounds.{fault-number}
 use Rattle.prefix.specs.Trees.{Trees, count, deepest}
 use Rattle.prefix.specs.Levels.{Levels, text, inside, slashOpens}
-use Rattle.prefix.specs.Reading.{Limits, Reading, accepted, refused, ending, reading, deep, treesFull, wrongCloser}
+use Rattle.prefix.specs.Reading.{Limits, Reading, accepted, refused, ending, reading}
 use Rattle.prefix.proofs.Induction.{reading-tells}
 use Rattle.prefix.proofs.StepCases.{Stopped, at-depth, at-room, at-closer, step-reason}
 use Rattle.prefix.proofs.Sizes.{accepted-fits}

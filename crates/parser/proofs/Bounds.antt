@@ -1,5 +1,5 @@
 -- The count of an accepted parsing, and the place of a refused one, are small.
-use mathlib.Core.Path.{_≡_, refl, sym, ap, _∙_}
+use mathlib.Core.Path.{_≡_, ap}
 use mathlib.Core.List.{List, [], _∷_, _++_}
 use mathlib.Core.Bool.{Bool, false}
 use Prim.Native.Nat.{ℕ, _≤_}
@@ -12,9 +12,8 @@ use Rattle.reader.specs.Read.{mostBytes, readLimits}
 use Rattle.reader.proofs.Theorems.{refused-place}
 use Rattle.grammar.specs.Cuts.{marked, Cuts, cut-end, cut-element, cut-slash}
 use Rattle.grammar.specs.Syntax.{size}
-use Rattle.grammar.specs.TreeElements.{elementsOf}
 use Rattle.grammar.proofs.ReadCuts.{reading-cuts}
-use Rattle.parser.specs.Parse.{Parsing, program, denied, parsingFor, answerOf}
+use Rattle.parser.specs.Parse.{Parsing, parsingFor, answerOf}
 use Rattle.parser.proofs.AcceptedReadings.{accepted-reading}
 use Rattle.parser.proofs.Verdicts.{Refuses, at-element, at-end}
 use Rattle.parser.proofs.Theorems.{Verdict, as-read, no-program, syntax-full, accepts, verdict}

@@ -1,17 +1,15 @@
 -- Demand 3: what `parse` answers, over derivations. Its contract is an equation with `parsingFor`.
 use mathlib.Core.Path.{_≡_, refl, sym, ap, subst, _∙_}
-use mathlib.Core.List.{List, [], _++_}
+use mathlib.Core.List.{List, _++_}
 use mathlib.Core.Bool.{Bool, true, false, cond}
-use Prim.Native.Nat.{ℕ, _+_, _*_, _/_, _≤_, _<_}
+use Prim.Native.Nat.{ℕ, _*_, _/_, _≤_, _<_}
 use native.Mathlib.Omega.{arith}
 use borrow.Author.Tests.{leb-true, leb-false, le-leb}
 use lib.Dec.{leb}
 use lib.ListN.{length, drop}
-use Rattle.elements.specs.declared.Element.{Element}
 use Rattle.answers.specs.declared.Answer.{Answer}
 use Rattle.prefix.specs.Trees.{Trees, count, deepest}
-use Rattle.prefix.specs.Reading.{Limits, Reading, accepted, refused, reading, unlimited, unlimitedReading}
-use Rattle.prefix.proofs.LimitLaws.{accepted-unlimited}
+use Rattle.prefix.specs.Reading.{Reading, accepted, refused, unlimited}
 use Rattle.reader.specs.Read.{readLimits, readingFor, tableAfter}
 use Rattle.reader.proofs.Theorems.{read-fits}
 use Rattle.reader.proofs.Formed.{Formed, reading-formed}

@@ -1,31 +1,30 @@
 -- What the token machine says of the elements of an accepted reading: a derivation of the text, or the first element with which
 -- those so far begin no program.
 use mathlib.Core.Path.{_≡_, refl, sym, ap, subst, _∙_}
-use mathlib.Core.List.{List, [], _∷_, _++_, append-assoc, append-nil}
-use mathlib.Core.Bool.{Bool, true, false, cond}
+use mathlib.Core.List.{List, [], _∷_, _++_, append-nil}
+use mathlib.Core.Bool.{false, cond}
 use Prim.Native.Nat.{ℕ, _+_}
 use native.Mathlib.Omega.{arith}
 use lib.ListN.{length}
 use Rattle.elements.specs.declared.Element.{Element}
-use Rattle.prefix.specs.Trees.{Trees, count}
-use Rattle.prefix.specs.Reading.{Limits, accepted, reading, unlimitedReading}
+use Rattle.prefix.specs.Trees.{Trees}
+use Rattle.prefix.specs.Reading.{Limits, accepted, reading}
 use Rattle.prefix.proofs.LimitLaws.{accepted-unlimited}
 use Rattle.grammar.specs.Cuts.{isCloser}
-use Rattle.grammar.specs.Tokens.{Token, token, Spot, classOf, tokenOf, tokensFrom, tokens}
-use Rattle.grammar.specs.Syntax.{Syntax, nil}
+use Rattle.grammar.specs.Tokens.{Token, token, Spot, tokenOf, tokensFrom, tokens}
+use Rattle.grammar.specs.Syntax.{nil}
 use Rattle.grammar.specs.Grammar.{body, Program}
 use Rattle.grammar.specs.Derivations.{Derivation, BeginsProgram}
 use Rattle.grammar.specs.TreeElements.{elementsOf}
-use Rattle.grammar.specs.Machine.{endOfText, State, dead, live, Control, finished, Frame, frame, empty, Held, doneOf, statementDue, take, run, start}
+use Rattle.grammar.specs.Machine.{State, dead, live, Control, finished, Frame, frame, empty, doneOf, statementDue, take, run, start}
 use Rattle.grammar.proofs.Complete.{complete, complete-to-end, run-append}
 use Rattle.grammar.proofs.Sound.{sound-to-end}
-use Rattle.grammar.proofs.Viable.{refused-at-end}
 use Rattle.grammar.proofs.ReadCuts.{reading-cuts}
 use Rattle.grammar.proofs.Begins.{begins, still-going}
 use Rattle.grammar.proofs.Theorems.{no-program-differs, first-refused}
-use Rattle.parser.specs.Follow.{Fate, stands, died, follow, behindsOf}
+use Rattle.parser.specs.Follow.{Fate, stands, died, follow}
 use Rattle.parser.specs.Parse.{endSpot, endToken, fateOf, partsBy, partsOf}
-use Rattle.parser.proofs.FollowLaws.{run-followed, Tied, tied-live, tied-dead, StandsAt, tied-stands, tied-died, DiesAt, died-there}
+use Rattle.parser.proofs.FollowLaws.{run-followed, Tied, tied-live, tied-stands, DiesAt, died-there}
 
 -- a token among those of elements and one behind them: that of an element, with the elements before it, or the last
 data Where (mark : ℕ) (es : List Element) (end : Token) (before : List Token) (class : ℕ) (spot : Spot) : Type 0 where

@@ -1,12 +1,12 @@
 -- One turn of a reading: by what stands at the place, and what the step makes of it.
-use mathlib.Core.Path.{_≡_, refl, sym, ap, _∙_}
+use mathlib.Core.Path.{_≡_, ap, _∙_}
 use mathlib.Core.List.{List}
 use Prim.Native.Nat.{ℕ, suc}
 use Rattle.elements.specs.Elements.{elementAt}
 use Rattle.elements.specs.declared.Element.{Element}
 use Rattle.elements.specs.declared.Next.{Next}
 use Rattle.prefix.specs.Levels.{Levels, slashOpens}
-use Rattle.prefix.specs.Reading.{Limits, Step, stop, more, step, Reading, refused, ending, Turn, over, on, stepped, met, turn, readOn}
+use Rattle.prefix.specs.Reading.{Limits, stop, more, step, Reading, refused, ending, Turn, over, on, stepped, met, turn, readOn}
 
 module _ (bytes : List ℕ) (limits : Limits) (fuel : ℕ) (levels : Levels) (place : ℕ) where
   pub taken : (t : Turn) → turn bytes limits levels place ≡ t

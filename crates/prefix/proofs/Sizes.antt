@@ -4,9 +4,9 @@ use mathlib.Core.List.{List}
 use Prim.Native.Nat.{ℕ, _+_, max, _≤_, _<_}
 use native.Mathlib.Omega.{arith}
 use Rattle.elements.specs.declared.Element.{Element}
-use Rattle.prefix.specs.Trees.{Trees, none, leaf, group, count, deepest}
+use Rattle.prefix.specs.Trees.{Trees, leaf, group, count, deepest}
 use Rattle.prefix.specs.Levels.{Levels, text, inside, depth, number, onTop}
-use Rattle.prefix.specs.Reading.{Limits, Reading, accepted, readOn, reading}
+use Rattle.prefix.specs.Reading.{Limits, accepted, readOn, reading}
 use Rattle.prefix.proofs.Induction.{Accepts, read-on-accepts, reading-accepts}
 use Rattle.prefix.proofs.StateLaws.{depth-on-top, number-on-top}
 use Rattle.prefix.proofs.StepCases.{Taken, leaf-taken, open-taken, close-taken, step-taken}

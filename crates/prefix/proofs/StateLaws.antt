@@ -10,11 +10,11 @@ use lib.Seq.{getD-set-same, getD-set-other}
 use Rattle.elements.specs.declared.Element.{Element}
 use Rattle.prefix.specs.Trees.{Trees, none, leaf, group, count}
 use Rattle.prefix.specs.Rule.{backwards}
-use Rattle.prefix.specs.Levels.{Levels, text, inside, kindOf, depth, number, onTop, slashOpens, braceOpens}
+use Rattle.prefix.specs.Levels.{Levels, text, inside, depth, number, onTop, slashOpens, braceOpens}
 use Rattle.prefix.specs.Reading.{Limits, addLeaf, openGroup, closes, closeGroup, deep, wrongCloser, treesFull}
-use Rattle.prefix.specs.Summary.{summary, nothing, wordFor, wordOf}
+use Rattle.prefix.specs.Summary.{summary, wordOf}
 use Rattle.prefix.specs.Words.{slashByWord, braceByWord, leafWord, groupWord}
-use Rattle.prefix.specs.Held.{Stack, Held, Closes, closed, Follows, leaf-added, group-opened, group-closed, stopped}
+use Rattle.prefix.specs.Held.{Stack, Held, closed, Follows, leaf-added, group-opened, group-closed, stopped}
 use Rattle.prefix.specs.declared.State.{State}
 use Rattle.prefix.specs.declared.Advanced.{Advanced}
 use Rattle.prefix.proofs.WordLaws.{slash-opens-right, brace-opens-right, leaf-added-word, group-added-word, kind-of-word}

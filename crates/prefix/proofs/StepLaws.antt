@@ -1,14 +1,13 @@
 -- The step of a reading by the kind of its element.
-use mathlib.Core.Path.{_≡_, refl, sym, _∙_}
-use mathlib.Core.Bool.{Bool, true, false}
-use Prim.Native.Nat.{ℕ}
+use mathlib.Core.Path.{_≡_}
+use mathlib.Core.Bool.{true, false}
 use borrow.Author.Tests.{eq-eqb, ne-eqb}
 use Rattle.text.specs.Runs.{same}
 use Rattle.signs.specs.Signs.{longestSign, longestOf}
 use Rattle.elements.specs.declared.Element.{Element}
 use Rattle.prefix.specs.Trees.{parenKind, objectKind, blockKind}
 use Rattle.prefix.specs.Levels.{Levels, braceOpens}
-use Rattle.prefix.specs.Reading.{Limits, Step, addLeaf, openGroup, closeGroup, step}
+use Rattle.prefix.specs.Reading.{Limits, addLeaf, openGroup, closeGroup, step}
 
 module _ (limits : Limits) (levels : Levels) (e : Element) where
   pub step-leaf : (e .kind ≡ 0 → ⊥) → step limits levels e ≡ addLeaf limits levels e

@@ -1,11 +1,10 @@
 -- The summary answers what the rule answers.
-use mathlib.Core.Path.{_≡_, refl, ap, sym, _∙_}
+use mathlib.Core.Path.{_≡_, refl, ap, _∙_}
 use mathlib.Core.Bool.{Bool, true, false, not, cond}
 use mathlib.Core.List.{List, [], _∷_}
-use Prim.Native.Nat.{ℕ}
 use lib.Dec.{T, eqb}
 use Rattle.text.proofs.Range.{alike, alike→eq}
-use Rattle.prefix.specs.Rule.{Class, name, literal, operator, colon, other, returnWord, functionWord, ifWord, parens, object, block, rank, Before, tree, endsWith, rest, objectAfter, opensObject, opensPattern}
+use Rattle.prefix.specs.Rule.{Class, name, literal, operator, colon, other, returnWord, functionWord, ifWord, parens, object, block, rank, Before, tree, endsWith, objectAfter, opensObject, opensPattern}
 use Rattle.prefix.specs.Summary.{Summary, braceBy, slashBy, addName, addParens, addBlock, add, summary}
 use Rattle.prefix.proofs.Finite.{bothBools, at-bool, allClasses, at-class, allSummaries, at-summary}
 

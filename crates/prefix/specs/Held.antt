@@ -6,7 +6,7 @@ use lib.ListN.{length, getD}
 use Rattle.elements.specs.declared.Element.{Element}
 use Rattle.prefix.specs.Trees.{Trees, none, leaf, group}
 use Rattle.prefix.specs.Levels.{Levels, text, inside, depth, number, onTop}
-use Rattle.prefix.specs.Reading.{Limits, Step, stop, more}
+use Rattle.prefix.specs.Reading.{Step, stop, more}
 use Rattle.prefix.specs.Summary.{wordOf}
 use Rattle.prefix.specs.declared.State.{State}
 use Rattle.prefix.specs.declared.Advanced.{Advanced}

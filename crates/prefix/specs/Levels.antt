@@ -1,7 +1,7 @@
 -- Document 01, Prefix rule: "The whole text is a statement level. The inside of `( )` is an expression level. The inside
 -- of a brace is an expression level if it is an object, else a statement level."
 use Prim.Native.Nat.{ℕ, _+_}
-use mathlib.Core.Bool.{Bool, false, _||_}
+use mathlib.Core.Bool.{Bool, _||_}
 use lib.Dec.{eqb}
 use Rattle.prefix.specs.Trees.{Trees, count, parenKind, objectKind}
 use Rattle.prefix.specs.Rule.{backwards, opensObject, opensPattern}

@@ -1,6 +1,6 @@
 -- Document 01, Refused texts: "Elements are then taken left to right, .. and the first fault met answers; an element's own
 -- faults and 9 precede 12." A text to trees, element by element.
-use Prim.Native.Nat.{ℕ, zero, suc, _+_}
+use Prim.Native.Nat.{ℕ, zero, suc}
 use mathlib.Core.Bool.{Bool, cond, _||_}
 use mathlib.Core.List.{List}
 use lib.Dec.{eqb, leb}
@@ -9,7 +9,7 @@ use Rattle.elements.specs.Elements.{elementAt, delimiterKind, isSign}
 use Rattle.elements.specs.declared.Element.{Element}
 use Rattle.elements.specs.declared.Next.{Next}
 use Rattle.prefix.specs.Trees.{Trees, none, leaf, group, parenKind, objectKind, blockKind}
-use Rattle.prefix.specs.Levels.{Levels, text, inside, kindOf, slashOpens, braceOpens, depth, number, onTop}
+use Rattle.prefix.specs.Levels.{Levels, text, inside, slashOpens, braceOpens, depth, number, onTop}
 
 -- Document 01, Refused texts, row 9, deep: "opener inside 100 open groups"; place: the opener
 abbrev pub deep : ℕ

@@ -4,7 +4,7 @@ use mathlib.Core.Bool.{Bool, true, false, not, cond, _||_}
 use lib.Dec.{eqb, ltb}
 use Rattle.elements.specs.Elements.{nameKind, wordKind, signKind, isWord, isSign}
 use Rattle.elements.specs.declared.Element.{Element}
-use Rattle.prefix.specs.Trees.{parenKind, objectKind, blockKind}
+use Rattle.prefix.specs.Trees.{parenKind, objectKind}
 use Rattle.prefix.specs.Levels.{isExpression}
 
 -- the word with another summary

@@ -5,7 +5,7 @@ ghost use Prim.Native.Nat.{ℕ, _/_, _≤_};
 ghost use lib.ListN.{length};
 ghost use Rattle.prefix.specs.Trees.{none};
 ghost use Rattle.prefix.specs.Levels.{Levels, text, slashOpens};
-ghost use Rattle.prefix.specs.Reading.{Limits, addLeaf, openGroup, closes, closeGroup, step};
+ghost use Rattle.prefix.specs.Reading.{addLeaf, openGroup, closes, closeGroup, step};
 ghost use Rattle.prefix.specs.Held.{Held, Follows};
 
 mod rule;

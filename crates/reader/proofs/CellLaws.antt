@@ -8,7 +8,6 @@ use native.Mathlib.Nat.{suc-add}
 use native.Mathlib.Numerals.{add-one, add-two, add-three, add-four}
 use lib.ListN.{length, getD, take, drop, set, length-append, length-take, length-drop}
 use lib.Seq.{take-at, drop-append-add, drop-drop, getD-append-add, sets-eq}
-use Rattle.elements.specs.declared.Element.{Element}
 use Rattle.prefix.specs.Trees.{Trees, none, leaf, group, count}
 use Rattle.prefix.specs.Levels.{Levels, text, inside, number, onTop}
 use Rattle.tables.specs.Records.{treeWidth, treeRecord}

@@ -1,10 +1,9 @@
 -- The kinds of the trees of a reading, and where its groups open.
-use mathlib.Core.Path.{_≡_, refl, sym, ap, subst, _∙_}
-use mathlib.Core.List.{List, [], _∷_, _++_, append-assoc}
-use mathlib.Core.Bool.{Bool, cond}
-use Prim.Native.Nat.{ℕ, _+_, _-_, _*_, _≤_, _<_}
+use mathlib.Core.Path.{_≡_, refl}
+use mathlib.Core.List.{List, _++_}
+use Prim.Native.Nat.{ℕ, _+_, _≤_}
 use native.Mathlib.Omega.{arith}
-use lib.ListN.{length, take, drop, length-append}
+use lib.ListN.{length, length-append}
 use lib.Seq.{take-append-le, drop-append-le, take-length, drop-length}
 use Rattle.elements.specs.Elements.{elementAt}
 use Rattle.elements.specs.declared.Element.{Element}
@@ -13,10 +12,9 @@ use Rattle.elements.proofs.Bounds.{found-placed, fault-placed}
 use Rattle.elements.proofs.FoundKinds.{found-kind}
 use Rattle.prefix.specs.Trees.{Trees, none, leaf, group, count}
 use Rattle.prefix.specs.Levels.{Levels, text, inside, slashOpens, onTop}
-use Rattle.prefix.specs.Reading.{Limits, Step, stop, more, step, Reading, accepted, refused, ending, reading}
+use Rattle.prefix.specs.Reading.{Limits, Reading, accepted, refused, ending, reading}
 use Rattle.prefix.proofs.Induction.{reading-tells}
 use Rattle.prefix.proofs.StepCases.{Taken, leaf-taken, open-taken, close-taken, step-taken, step-stopped}
-use Rattle.tables.specs.Records.{treeWidth, treeRecord}
 use Rattle.reader.specs.Records.{records}
 use Rattle.reader.specs.Nested.{contentCells, Nested}
 use Rattle.reader.proofs.CellLaws.{records-length}

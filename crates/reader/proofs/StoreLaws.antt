@@ -1,25 +1,23 @@
 -- What each answer of `advance` makes of the table.
-use mathlib.Core.Path.{_≡_, refl, sym, ap, subst, _∙_}
-use mathlib.Core.List.{List, [], _∷_, _++_, append-assoc, append-nil}
+use mathlib.Core.Path.{_≡_, refl, _∙_}
+use mathlib.Core.List.{List, _++_}
 use mathlib.Core.Bool.{Bool}
-use Prim.Native.Nat.{ℕ, _+_, _-_, _*_, _/_, _<_, _≤_}
+use Prim.Native.Nat.{ℕ, _+_, _-_, _*_, _<_}
 use native.Mathlib.Omega.{arith}
-use lib.ListN.{length, getD, take, drop, set, length-set}
-use Rattle.answers.specs.declared.Answer.{Answer}
+use lib.ListN.{length, take, drop, set, length-set}
 use Rattle.elements.specs.declared.Element.{Element}
 use Rattle.prefix.specs.Trees.{Trees, none, leaf, group, count}
-use Rattle.prefix.specs.Levels.{Levels, text, inside, depth, number, onTop}
-use Rattle.prefix.specs.Reading.{Limits, Step, stop, more, step, ending, accepted, refused, unclosed}
+use Rattle.prefix.specs.Levels.{Levels, inside, number, onTop}
+use Rattle.prefix.specs.Reading.{Step}
 use Rattle.prefix.specs.Held.{Held, Closes, closed, Follows, leaf-added, group-opened, group-closed, stopped}
 use Rattle.prefix.specs.declared.State.{State}
 use Rattle.prefix.specs.declared.Advanced.{Advanced}
 use Rattle.prefix.proofs.StateLaws.{number-on-top}
-use Rattle.tables.specs.Records.{treeWidth, mostTrees, treeRecord}
+use Rattle.tables.specs.Records.{treeWidth, treeRecord}
 use Rattle.reader.specs.Records.{records}
-use Rattle.reader.specs.Read.{answerOf}
-use Rattle.reader.specs.Table.{cells, recordIndex, Holds, Some, Turned, goes-on, ends}
+use Rattle.reader.specs.Table.{cells, recordIndex, Holds, Turned, goes-on, ends}
 use Rattle.reader.specs.declared.Stored.{Stored}
-use Rattle.reader.proofs.CellLaws.{cells-length, cells-on-top, put-cells, put-length, finish-cells, first-cell}
+use Rattle.reader.proofs.CellLaws.{cells-length, cells-on-top, put-cells, put-length, finish-cells}
 
 -- the group that a closer ends has its record among those so far
 pub closes-index : {m : ℕ} {e : Element} {levels outer : Levels} → Closes recordIndex e m levels outer → m < number levels

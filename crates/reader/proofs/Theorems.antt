@@ -1,5 +1,5 @@
 -- The theorems of reading.
-use mathlib.Core.Path.{_≡_, refl, sym, _∙_}
+use mathlib.Core.Path.{_≡_, refl}
 use mathlib.Core.List.{List}
 use mathlib.Core.Bool.{Bool, true, false, cond}
 use Prim.Native.Nat.{ℕ, _*_, _≤_, _<_}
@@ -8,7 +8,7 @@ use borrow.Author.Tests.{leb-true}
 use lib.Dec.{leb}
 use lib.ListN.{length}
 use Rattle.prefix.specs.Trees.{Trees, count, deepest}
-use Rattle.prefix.specs.Reading.{Limits, Reading, accepted, refused, reading, unlimitedReading, deep, treesFull}
+use Rattle.prefix.specs.Reading.{Limits, accepted, refused, reading, unlimitedReading, deep, treesFull}
 use Rattle.prefix.proofs.Sizes.{accepted-fits}
 use Rattle.prefix.proofs.LimitLaws.{Within, reading-within}
 use Rattle.tables.specs.Records.{treeWidth, roomFor}

@@ -1,21 +1,17 @@
 -- A respaced text has at most twice the bytes of its text, and one more.
-use mathlib.Core.Path.{_≡_, refl, sym, ap, _∙_}
 use mathlib.Core.List.{List, [], _∷_, _++_}
 use mathlib.Core.Bool.{Bool, true, false}
-use Prim.Native.Nat.{ℕ, _+_, _-_, _*_, _<_, _≤_}
+use Prim.Native.Nat.{ℕ, _+_, _-_, _*_, _≤_}
 use native.Mathlib.Omega.{arith}
 use lib.ListN.{length, length-append}
-use Rattle.elements.specs.Elements.{elementAt}
 use Rattle.elements.specs.declared.Element.{Element}
-use Rattle.elements.specs.declared.Next.{Next}
 use Rattle.elements.proofs.Bounds.{Placed, found-placed}
-use Rattle.prefix.specs.Trees.{Trees, none, leaf, group}
-use Rattle.prefix.specs.Levels.{Levels, text, inside, slashOpens, onTop}
+use Rattle.prefix.specs.Levels.{Levels, text, inside, slashOpens}
 use Rattle.prefix.specs.Reading.{Limits, Reading, accepted, refused, ending, reading}
 use Rattle.prefix.proofs.Induction.{reading-tells}
 use Rattle.prefix.proofs.StepCases.{Taken, leaf-taken, open-taken, close-taken, step-taken}
 use Rattle.elements.specs.Parts.{bytesOf}
-use Rattle.respacer.specs.Respaced.{separator, addElement, addCloser, addTrees, respaced, space, lineFeed}
+use Rattle.respacer.specs.Respaced.{separator, addElement, addCloser, addTrees, space}
 use Rattle.respacer.specs.Written.{writtenOf}
 use Rattle.respacer.proofs.OverLaws.{bytes-length}
 use Rattle.respacer.proofs.WriteLaws.{written-leaf, written-group}

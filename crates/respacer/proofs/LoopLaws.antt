@@ -23,7 +23,7 @@ use Rattle.reader.specs.Table.{openerPlace, Takes, at-end, at-fault, at-element
 use Rattle.reader.specs.declared.Turn.{Turn}
 use Rattle.respacer.specs.Respaced.{addTrees, respaced}
 use Rattle.respacer.specs.Respace.{respaceLimits, wholeReading, outputFull, Respacing, fitted, respacingFor, answerOf, outputAfter}
-use Rattle.respacer.specs.Written.{over, Writes, Turned, goes-on, ends, Told}
+use Rattle.respacer.specs.Written.{Writes, Turned, goes-on, ends, Told}
 use Rattle.respacer.specs.declared.Wrote.{Wrote}
 use Rattle.respacer.proofs.OverLaws.{over-nothing, over-fits}
 

@@ -1,14 +1,14 @@
 -- What is written lies over the old output: a byte more, and the bytes of an element one by one.
 use mathlib.Core.Path.{_≡_, refl, sym, ap, _∙_}
 use mathlib.Core.List.{List, [], _∷_, _++_, append-assoc, append-nil}
-use mathlib.Core.Bool.{Bool, true, false}
+use mathlib.Core.Bool.{true, false}
 use Prim.Native.Nat.{ℕ, suc, _+_, _-_, _<_, _≤_}
 use native.Mathlib.Omega.{arith}
 use native.Mathlib.Numerals.{add-one}
 use lib.ListN.{length, getD, take, drop, set, length-append, length-take, length-drop, drop-of-length-le}
 use lib.Seq.{take-nil, take-all, take-append-le, drop-cons, set-append-seam, take-suc, getD-drop, length-take-le}
 use Rattle.elements.specs.Parts.{bytesOf}
-use Rattle.respacer.specs.Respaced.{separator, addElement, addCloser, lineFeed, space}
+use Rattle.respacer.specs.Respaced.{addElement, addCloser, lineFeed, space}
 use Rattle.respacer.specs.Written.{over}
 
 pub over-nothing : (old : List ℕ) → old ≡ over [] old

@@ -1,5 +1,5 @@
 -- The theorems of respacing.
-use mathlib.Core.Path.{_≡_, refl, sym, _∙_}
+use mathlib.Core.Path.{_≡_, refl}
 use mathlib.Core.List.{List, [], _∷_}
 use mathlib.Core.Bool.{Bool, true, false, cond}
 use Prim.Native.Nat.{ℕ, _+_, _*_, _≤_, _<_}
@@ -15,7 +15,7 @@ use Rattle.reader.specs.Read.{longText, mostBytes, mostGroups}
 use Rattle.reader.proofs.Formed.{reading-within-text}
 use Rattle.reader.proofs.LengthFirst.{first-fits, first-full, first-deep}
 use Rattle.respacer.specs.Respaced.{lineFeed, addTrees, respaced}
-use Rattle.respacer.specs.Respace.{respaceLimits, wholeReading, outputFull, Respacing, written, denied, fitted, respacingFor, answerOf}
+use Rattle.respacer.specs.Respace.{respaceLimits, wholeReading, outputFull, written, denied, fitted, respacingFor, answerOf}
 use Rattle.respacer.proofs.Lengths.{reading-short}
 
 -- A text that is respaced has at most 262,144 bytes, and its respaced text at most twice as many and one.

@@ -9,14 +9,13 @@ use Rattle.answers.specs.declared.Answer.{Answer}
 use Rattle.elements.specs.declared.Element.{Element}
 use Rattle.prefix.specs.Trees.{Trees, none, leaf, group}
 use Rattle.prefix.specs.Levels.{Levels, text, inside, depth, onTop}
-use Rattle.prefix.specs.Reading.{Step, more, ending, unclosed}
+use Rattle.prefix.specs.Reading.{Step, ending, unclosed}
 use Rattle.prefix.specs.Held.{Held, Closes, closed, Follows, leaf-added, group-opened, group-closed, stopped}
 use Rattle.prefix.specs.declared.State.{State}
 use Rattle.prefix.specs.declared.Advanced.{Advanced}
 use Rattle.tables.specs.Records.{mostTrees}
 use Rattle.reader.specs.Table.{openerPlace}
 use Rattle.respacer.specs.Respaced.{lineFeed, addElement, addCloser, addTrees}
-use Rattle.respacer.specs.Respace.{written}
 use Rattle.respacer.specs.Written.{over, writtenOf, Writes, Turned, goes-on, ends, Told}
 use Rattle.respacer.specs.declared.Wrote.{Wrote}
 use Rattle.respacer.proofs.OverLaws.{byte-length}

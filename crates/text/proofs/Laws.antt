@@ -1,5 +1,5 @@
 -- Laws of runs and of the comparison of two texts, at a place.
-use mathlib.Core.Path.{_≡_, refl, ap, _∙_}
+use mathlib.Core.Path.{_≡_, refl, ap}
 use mathlib.Core.List.{List, [], _∷_, _++_}
 use mathlib.Core.Bool.{Bool, true, false, and-false, cond}
 use Prim.Native.Nat.{ℕ, suc, zero, _+_, _<_, _≤_}

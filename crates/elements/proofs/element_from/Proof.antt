@@ -1,7 +1,7 @@
 -- By the first byte.
 use borrow.Author.Needs.{needs}
 use native.Mathlib.Omega.{arith}
-use mathlib.Core.Path.{_≡_, sym, ap, _∙_}
+use mathlib.Core.Path.{sym, ap, _∙_}
 use Rattle.elements.specs.Elements.{literal}
 use Rattle.elements.proofs.ElementLaws.{from-past, from-letter, from-digit, from-quote, from-pattern, from-dot, from-sign}
 use borrow.Author.Needs.{needs}

@@ -1,6 +1,6 @@
 -- Test for test; past the text's end no digit stands.
 use borrow.Author.Needs.{needs}
-use mathlib.Core.Path.{_≡_, sym, ap, _∙_}
+use mathlib.Core.Path.{ap, _∙_}
 use borrow.Author.Tests.{ne-eqb, eq-eqb}
 use Rattle.text.specs.Bytes.{digit}
 use borrow.Author.Needs.{needs}

@@ -1,6 +1,6 @@
 -- By cases on the literal that was cut.
 use borrow.Author.Needs.{needs}
-use mathlib.Core.Path.{_≡_, sym, ap}
+use mathlib.Core.Path.{sym, ap}
 use Rattle.elements.specs.Elements.{literal}
 use borrow.Author.Needs.{needs}
 use Rattle.elements.proofs.literal_element.Statement.{statement}

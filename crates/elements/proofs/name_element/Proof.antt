@@ -1,7 +1,7 @@
 -- `name_element` is `named`: the run of name bytes is the name, and its number among the reserved words settles it.
 use borrow.Author.Needs.{needs}
 use native.Mathlib.Omega.{arith}
-use mathlib.Core.Path.{_≡_, sym, _∙_}
+use mathlib.Core.Path.{sym, _∙_}
 use Rattle.text.specs.Bytes.{nameByte}
 use Rattle.text.proofs.Laws.{run-within}
 use Rattle.elements.proofs.ElementLaws.{named-name, named-word, named-barred}

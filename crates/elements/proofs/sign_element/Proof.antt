@@ -1,7 +1,7 @@
 -- `sign_element` is `signOrStray`: what the longest sign is settles it.
 use borrow.Author.Needs.{needs}
 use native.Mathlib.Omega.{arith}
-use mathlib.Core.Path.{_≡_, sym, _∙_}
+use mathlib.Core.Path.{sym, _∙_}
 use borrow.Author.Tests.{not-true, not-false}
 use lib.ListN.{drop, length-drop}
 use Rattle.signs.proofs.Laws.{longest-fits}

@@ -1,8 +1,7 @@
 -- `reader::read`, with its answer packed.
 use borrow.Author.Needs.{needs}
-use mathlib.Core.Path.{_≡_, ap, _∙_}
+use mathlib.Core.Path.{ap, _∙_}
 use lib.ListN.{length}
-use Rattle.answers.specs.Answers.{valueOf}
 use Rattle.exports.specs.Packed.{packed}
 use Rattle.exports.proofs.Laws.{count-small}
 use borrow.Author.Needs.{needs}

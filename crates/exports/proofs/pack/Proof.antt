@@ -1,8 +1,7 @@
 -- By cases; a place below 2^32 does not reach the upper half.
 use borrow.Author.Needs.{needs}
 use native.Mathlib.Omega.{arith}
-use mathlib.Core.Path.{_≡_, sym, ap}
-use Rattle.answers.specs.Answers.{valueOf}
+use mathlib.Core.Path.{sym, ap}
 use Rattle.exports.specs.Packed.{packed}
 use borrow.Author.Needs.{needs}
 use Rattle.exports.proofs.pack.Statement.{statement}

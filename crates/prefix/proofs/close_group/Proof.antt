@@ -1,6 +1,5 @@
 -- The innermost group, if the closer has its shape.
 use borrow.Author.Needs.{needs}
-use native.Mathlib.Omega.{arith}
 use mathlib.Core.Path.{sym, _∙_}
 use borrow.Author.Tests.{not-true, not-false}
 use Rattle.prefix.proofs.StateLaws.{close-none, close-other, close-done, not-deeper}

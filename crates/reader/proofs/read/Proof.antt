@@ -1,6 +1,6 @@
 -- Length first; then what `fill` answers, with the table cleared where it is refused.
 use borrow.Author.Needs.{needs}
-use mathlib.Core.Path.{_≡_, refl, sym, ap, _∙_}
+use mathlib.Core.Path.{sym, ap, _∙_}
 use lib.ListN.{length, replicate}
 use Rattle.reader.specs.Read.{readingFor}
 use Rattle.reader.proofs.ReadLaws.{read-accepted, read-refused, read-long}

@@ -1,10 +1,9 @@
 -- A blank, and the closer.
 use borrow.Author.Needs.{needs}
 use native.Mathlib.Omega.{arith}
-use mathlib.Core.Path.{_≡_, refl, sym, _∙_}
 use mathlib.Core.List.{List, [], _∷_, _++_}
 use Prim.Native.Nat.{ℕ}
-use Rattle.respacer.specs.Respaced.{space, addCloser}
+use Rattle.respacer.specs.Respaced.{space}
 use Rattle.respacer.proofs.OverLaws.{byte-length, closer-blank, element-put}
 use borrow.Author.Needs.{needs}
 use Rattle.respacer.proofs.put_closer.Statement.{statement}

@@ -1,10 +1,10 @@
 -- What comes before the element, and its bytes.
 use borrow.Author.Needs.{needs}
 use native.Mathlib.Omega.{arith}
-use mathlib.Core.Path.{_≡_, refl, sym, _∙_}
+use mathlib.Core.Path.{sym, _∙_}
 use mathlib.Core.List.{List, [], _∷_, _++_}
 use Prim.Native.Nat.{ℕ}
-use Rattle.respacer.specs.Respaced.{lineFeed, space, addElement}
+use Rattle.respacer.specs.Respaced.{lineFeed, space}
 use Rattle.respacer.proofs.OverLaws.{byte-length, element-line, element-first, element-blank, element-put}
 use borrow.Author.Needs.{needs}
 use Rattle.respacer.proofs.put_element.Statement.{statement}

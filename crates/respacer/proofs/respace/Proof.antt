@@ -1,10 +1,8 @@
 -- Length first; then what the whole text writes, with the output cleared where it is refused.
 use borrow.Author.Needs.{needs}
 use native.Mathlib.Omega.{arith}
-use mathlib.Core.Path.{_≡_, sym, ap, _∙_}
-use lib.ListN.{length, replicate}
-use Rattle.respacer.specs.Respace.{wholeReading}
-use Rattle.respacer.specs.Written.{Told}
+use mathlib.Core.Path.{ap, _∙_}
+use lib.ListN.{replicate}
 use Rattle.respacer.proofs.LoopLaws.{respace-long, respace-full, respace-fits, respace-denies}
 use borrow.Author.Needs.{needs}
 use Rattle.respacer.proofs.respace.Statement.{statement}

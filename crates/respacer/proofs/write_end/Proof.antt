@@ -1,7 +1,6 @@
 -- The last line end, or the innermost opener.
 use borrow.Author.Needs.{needs}
 use native.Mathlib.Omega.{arith}
-use mathlib.Core.Path.{_≡_, refl}
 use Prim.Native.Nat.{_+_, _-_, _*_}
 use Rattle.respacer.proofs.WriteLaws.{end-accepted, end-unclosed}
 use borrow.Author.Needs.{needs}

@@ -1,10 +1,8 @@
 -- `is_line_end` is `lineEnd`, test for test.
 use native.Mathlib.Omega.{arith}
 use mathlib.Core.Bool.{true}
-use lib.Dec.{eqb}
 use Rattle.text.specs.Bytes.{lineEnd}
 use Rattle.text.proofs.Range.{agree}
-use mathlib.Core.Path.{_≡_}
 use borrow.Author.Tests.{ne-eqb}
 use Rattle.text.proofs.is_line_end.Statement.{statement}
 use Rattle.text.proofs.is_line_end.Tie as tie

@@ -3,7 +3,7 @@ use borrow.Author.Needs.{needs}
 use native.Mathlib.Omega.{arith}
 use mathlib.Core.Bool.{true}
 use mathlib.Core.Path.{_∙_}
-use lib.Dec.{ltb, eqb}
+use lib.Dec.{eqb}
 use Rattle.text.specs.Bytes.{letter, digit, nameByte}
 use Rattle.text.proofs.Range.{agree}
 use borrow.Author.Needs.{needs}

@@ -1,5 +1,5 @@
 -- `is_taken` is `taken`, test for test.
-use borrow.Author.Tests.{eq-eqb, ne-eqb}
+use borrow.Author.Tests.{ne-eqb}
 use Rattle.words.specs.Words.{taken, wordNumber, placeIn}
 use Rattle.text.specs.Runs.{same}
 use Rattle.words.proofs.is_taken.Statement.{statement}

@@ -1,6 +1,5 @@
 -- `number_at` is `numberFrom`: what follows the number settles it.
 use borrow.Author.Needs.{needs}
-use native.Mathlib.Omega.{arith}
 use mathlib.Core.Path.{sym, _∙_}
 use Rattle.literals.proofs.NumberLaws.{number-past, number-last, number-ends, number-named, number-dotted}
 use borrow.Author.Needs.{needs}

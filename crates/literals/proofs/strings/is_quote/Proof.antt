@@ -1,5 +1,5 @@
 -- `is_quote` is `quote`, test for test.
-use borrow.Author.Tests.{eq-eqb, ne-eqb}
+use borrow.Author.Tests.{ne-eqb}
 use Rattle.literals.specs.Strings.{quote}
 use Rattle.literals.proofs.strings.is_quote.Statement.{statement}
 use Rattle.literals.proofs.strings.is_quote.Tie as tie
