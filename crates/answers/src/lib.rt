@@ -1,4 +1,4 @@
-// The answer of reading, respacing and parsing, and the numbers of its refusals.
+// The answer of reading, respacing and parsing, and the numbers of the faults of elements.
 ghost use mathlib.Core.Path.{_≡_};
 ghost use Rattle.answers.specs.Answers.{numberOf, valueOf};
 

@@ -1,4 +1,5 @@
--- Document 01, Elements: "each element can be shown as the part of the text it is."
+-- Document 01, Elements: "each element can be shown as the part of the text it is." And elements that are the same but for
+-- positions.
 use Prim.Native.Nat.{ℕ, _-_}
 use mathlib.Core.Path.{_≡_}
 use mathlib.Core.List.{List}

@@ -1,7 +1,7 @@
 -- A choice, read off the elements that it gives: a slash is answered by whether the element that it starts is a regular expression.
 use mathlib.Core.Path.{_≡_, refl, sym, ap, _∙_}
-use mathlib.Core.List.{List, [], _∷_}
-use mathlib.Core.Bool.{Bool, true, false, cond}
+use mathlib.Core.List.{List}
+use mathlib.Core.Bool.{Bool, true, false}
 use Prim.Native.Nat.{ℕ}
 use borrow.Author.Tests.{eq-eqb, ne-eqb}
 use native.Mathlib.Omega.{arith}
@@ -14,11 +14,7 @@ use Rattle.elements.specs.declared.Next.{Next}
 use Rattle.elements.proofs.OwnBytes.{found-gap}
 use Rattle.elements.proofs.Slashes.{divide-found, pattern-found}
 use Rattle.grammar.specs.Cuts.{Cuts, cut-end, cut-element, cut-slash}
-
--- the answers to the slashes among elements of a text
-abbrev pub answersOf : List ℕ → List Element → List Bool
-answersOf text [] = []
-answersOf text (e ∷ es) = cond (eqb (getD text (e .first) 0) (byte "/")) (eqb (e .kind) patternKind ∷ answersOf text es) (answersOf text es)
+use Rattle.grammar.specs.Demand3.{answersOf}
 
 module _ (text : List ℕ) where
   -- a slash is met where an element starts with one

@@ -29,12 +29,7 @@ use Rattle.grammar.specs.Tokens.{
   functionWord,
   ifWord,
 }
-use Rattle.grammar.specs.Syntax.{
-  Syntax,
-  nil,
-  syntaxRecords,
-  programTree,
-}
+use Rattle.grammar.specs.Syntax.{Syntax, nil, syntaxRecords, programTree}
 use Rattle.grammar.specs.Machine.{State, dead, live, take, run, start, doneOf, endOfText}
 use Rattle.grammar.proofs.ClassSteps.{closesGroup}
 use Rattle.grammar.proofs.InStep.{isLive}

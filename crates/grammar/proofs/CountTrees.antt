@@ -10,7 +10,8 @@ use Rattle.grammar.specs.Tokens.{Token, tokensFrom}
 use Rattle.grammar.specs.Syntax.{Syntax, nil, programTree}
 use Rattle.grammar.specs.Derivations.{countTrees}
 use Rattle.grammar.proofs.Counts.{countTreeTokens}
-use Rattle.grammar.proofs.Ranges.{marksOf, Distinct, distinct-none, distinct-node}
+use Rattle.grammar.specs.Demand3.{marksOf, Distinct, distinct-none}
+use Rattle.grammar.proofs.Ranges.{distinct-node}
 use Rattle.grammar.proofs.OwnMarks.{OwnMarks}
 use Rattle.grammar.proofs.TokenLaws.{closing-class}
 

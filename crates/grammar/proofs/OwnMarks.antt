@@ -33,21 +33,8 @@ use Rattle.grammar.specs.Grammar.{
   Program,
 }
 use Rattle.grammar.proofs.Counts.{leaf-open, operator-open}
-use Rattle.grammar.proofs.Ranges.{
-  Marks,
-  marks-both,
-  from-lower,
-  to-higher,
-  no-marks,
-  before-parts,
-  between-parts,
-  behind-part,
-  marksOf,
-  Within,
-  within,
-  Distinct,
-  distinct,
-}
+use Rattle.grammar.specs.Demand3.{marksOf, Distinct}
+use Rattle.grammar.proofs.Ranges.{Marks, marks-both, from-lower, to-higher, no-marks, before-parts, between-parts, behind-part, Within, within, distinct}
 use Rattle.grammar.proofs.Counting.{Counting, counting-none, past-closer, at-mark, MarkOf, mark-of}
 
 -- a part's marks are those from the next mark before it to the next mark behind it

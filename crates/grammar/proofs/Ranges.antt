@@ -16,6 +16,7 @@ use mathlib.Core.List.{
 use Prim.Native.Nat.{ℕ, _+_, _≤_, _<_}
 use native.Mathlib.Omega.{arith}
 use Rattle.grammar.specs.Syntax.{Syntax, nil, node, snoc, size}
+use Rattle.grammar.specs.Demand3.{marksOf, Distinct, distinct-none, distinct-more}
 
 -- The marks of parts side by side lie in ranges side by side, and a part's own mark before, between or behind those of its parts.
 pub data Marks : ℕ → ℕ → Syntax → Type 0 where
@@ -72,12 +73,6 @@ range-size (marks-between left h k right) = omega (arith, range-size left, range
 range-size (marks-behind left right h k) = omega (arith, range-size left, range-size right)
 range-size (marks-both before last) = omega (arith, range-size before, range-size last)
 
--- the marks of a tree, in the order of its records
-abbrev pub marksOf : Syntax → List ℕ
-marksOf nil = []
-marksOf (node kind mark left right) = marksOf left ++ (marksOf right ++ (mark ∷ []))
-marksOf (snoc before last) = marksOf before ++ marksOf last
-
 pub record Within (low high mark : ℕ) : Type 0 where
   pub above : low ≤ mark
   pub below : mark < high
@@ -109,11 +104,6 @@ within (marks-behind {mark = mark} {left = first} {right = second} left right h 
 within (marks-both {before = first} {last = second} before last) m member =
     in-either (marksOf first) (marksOf second) (λ e. omega (arith, within before m e, range-size before, range-size last))
     (λ e. omega (arith, within last m e, range-size before, range-size last)) member
-
--- no two are the same
-pub data Distinct : List ℕ → Type 0 where
-  distinct-none : Distinct []
-  distinct-more : {x : ℕ} {xs : List ℕ} → (List·Memᴰ x xs → ⊥) → Distinct xs → Distinct (x ∷ xs)
 
 distinct-append : {first second : List ℕ} → Distinct first → Distinct second → ((m : ℕ) → List·Memᴰ m first → List·Memᴰ m second → ⊥)
     → Distinct (first ++ second)

@@ -1,16 +1,15 @@
 -- The theorems of derivations.
 use mathlib.Core.Path.{_≡_, sym, ap, subst, _∙_}
-use mathlib.Core.List.{List, [], _∷_, _++_, append-assoc, List·Memᴰ}
+use mathlib.Core.List.{List, [], _∷_, _++_, append-assoc}
 use mathlib.Core.Bool.{false}
-use Prim.Native.Nat.{ℕ, _+_, _≤_, _<_}
+use Prim.Native.Nat.{ℕ}
 use native.Mathlib.Omega.{arith}
 use Rattle.elements.specs.declared.Element.{Element}
 use Rattle.prefix.specs.Trees.{Trees}
-use Rattle.prefix.specs.Reading.{Limits, accepted, reading, unlimitedReading}
+use Rattle.prefix.specs.Reading.{Limits, accepted, reading}
 use Rattle.grammar.specs.Tokens.{tokens}
-use Rattle.grammar.specs.Syntax.{size}
 use Rattle.grammar.specs.Grammar.{body, Program}
-use Rattle.grammar.specs.Derivations.{Derivation, syntaxTree, countTrees, BeginsProgram}
+use Rattle.grammar.specs.Derivations.{Derivation, BeginsProgram}
 use Rattle.grammar.specs.TreeElements.{elementsOf}
 use Rattle.grammar.specs.Machine.{dead, live, Control, Frame, frame, Held, doneOf, statementDue, run, start}
 use Rattle.grammar.proofs.Complete.{complete, one-tree}
@@ -19,17 +18,11 @@ use Rattle.grammar.proofs.Programs.{program-read}
 use Rattle.grammar.proofs.ReadCuts.{reading-cuts}
 use Rattle.grammar.proofs.SameChoice.{same-choice}
 use Rattle.grammar.proofs.Counts.{few-parts}
-use Rattle.grammar.proofs.Ranges.{marksOf, Distinct}
+use Rattle.grammar.specs.Demand3.{answersOf, ReadAs, OneDerivation, FewParts}
 use Rattle.grammar.proofs.TokenLaws.{element-marks}
 use Rattle.grammar.proofs.CountTrees.{count-tokens, program-distinct}
-use Rattle.grammar.proofs.Answers.{answersOf, choice-answers}
+use Rattle.grammar.proofs.Answers.{choice-answers}
 use Rattle.grammar.proofs.Begins.{begins, begins-not, still-going, same-split}
-
--- what the prefix rule makes of a text with a derivation
-pub record ReadAs (text : List ℕ) (es : List Element) : Type 0 where
-  pub trees : Trees
-  pub reads : unlimitedReading text ≡ accepted trees
-  pub same : elementsOf trees ≡ es
 
 -- Demand 3: "the prefix rule takes each slash of a program as its derivation does". The reading of a program without limits is
 -- accepted, and the elements of its trees, closers included, are the derivation's: a regular expression stands among them at
@@ -40,11 +33,6 @@ no-program-differs text d =
     record { trees = r .0; reads = r .1; same = r .2 }
 
 -- Demand 3: "any two grammar derivations take every slash alike and have one syntax tree".
-pub record OneDerivation {text : List ℕ} (d f : Derivation text) : Type 0 where
-  pub same-elements : d .elements ≡ f .elements
-  pub same-answers : d .choice ≡ f .choice
-  pub same-syntax : syntaxTree d ≡ syntaxTree f
-
 pub any-two-derivations : (text : List ℕ) (d f : Derivation text) → OneDerivation d f
 any-two-derivations text d f =
     let r = no-program-differs text d in
@@ -90,13 +78,7 @@ first-refused text limits trees a before after e split control f around alive st
   begins-not text (before ++ (e ∷ [])) stops,
 )
 
--- A syntax tree has at most one record more than the tree records, each with a mark of its own: that of a tree record, or, the
--- program's, the number of them.
-pub record FewParts {text : List ℕ} (d : Derivation text) : Type 0 where
-  pub few : size (syntaxTree d) ≤ countTrees (d .elements) + 1
-  pub own : Distinct (marksOf (syntaxTree d))
-  pub marked-by : (m : ℕ) → List·Memᴰ m (marksOf (d .parts)) → m < countTrees (d .elements)
-
+-- A syntax tree has few records, each with a mark of its own.
 pub few-parts-each-marked : (text : List ℕ) (d : Derivation text) → FewParts d
 few-parts-each-marked text d =
     let trees = count-tokens 0 (d .elements) in

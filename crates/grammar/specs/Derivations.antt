@@ -10,11 +10,11 @@ use lib.ListN.{length}
 use Rattle.elements.specs.Elements.{delimiterKind, isSign}
 use Rattle.elements.specs.Parts.{SameElement}
 use Rattle.elements.specs.declared.Element.{Element}
-use Rattle.tables.specs.Records.{treeWidth, mostTrees}
+use Rattle.tables.specs.Records.{treeWidth, mostTrees, syntaxWidth, mostSyntax}
 use Rattle.reader.specs.Read.{mostBytes, mostGroups}
 use Rattle.grammar.specs.Cuts.{isCloser, Cuts}
 use Rattle.grammar.specs.Tokens.{tokens}
-use Rattle.grammar.specs.Syntax.{Syntax, size, syntaxWidth, mostSyntax, programTree}
+use Rattle.grammar.specs.Syntax.{Syntax, size, programTree}
 use Rattle.grammar.specs.Grammar.{Program}
 
 pub record Derivation (text : List ℕ) : Type 0 where

@@ -26,24 +26,7 @@ use Rattle.grammar.specs.Tokens.{
   functionWord,
   ifWord,
 }
-use Rattle.grammar.specs.Syntax.{
-  Syntax,
-  nil,
-  node,
-  snoc,
-  objectSyntax,
-  parenthesisedSyntax,
-  functionSyntax,
-  memberSyntax,
-  callSyntax,
-  expressionSyntax,
-  bareReturnSyntax,
-  fullReturnSyntax,
-  blockSyntax,
-  labelSyntax,
-  ifSyntax,
-  declarationSyntax,
-}
+use Rattle.grammar.specs.Syntax.{Syntax, nil, node, snoc, objectSyntax, parenthesisedSyntax, functionSyntax, memberSyntax, callSyntax, expressionSyntax, bareReturnSyntax, fullReturnSyntax, blockSyntax, labelSyntax, ifSyntax, declarationSyntax}
 
 -- "name, number, string, regular expression": the class of the token is the kind of the part
 pub data Leaf : ℕ → Type 0 where

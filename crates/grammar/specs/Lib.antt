@@ -5,3 +5,4 @@ pub mod Grammar
 pub mod Derivations
 pub mod TreeElements
 pub mod Machine
+pub mod Demand3

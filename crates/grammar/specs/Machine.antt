@@ -5,24 +5,7 @@ use mathlib.Core.Bool.{Bool, true, false, cond}
 use mathlib.Core.List.{List, [], _∷_}
 use lib.Dec.{eqb, leb}
 use Rattle.grammar.specs.Tokens.{Token, token, name, number, string, pattern, assign, colon, semicolon, dot, openParen, closeParen, openBrace, closeBrace, returnWord, functionWord, ifWord}
-use Rattle.grammar.specs.Syntax.{
-  Syntax,
-  nil,
-  node,
-  snoc,
-  objectSyntax,
-  parenthesisedSyntax,
-  functionSyntax,
-  memberSyntax,
-  callSyntax,
-  expressionSyntax,
-  bareReturnSyntax,
-  fullReturnSyntax,
-  blockSyntax,
-  labelSyntax,
-  ifSyntax,
-  declarationSyntax,
-}
+use Rattle.grammar.specs.Syntax.{Syntax, nil, node, snoc, objectSyntax, parenthesisedSyntax, functionSyntax, memberSyntax, callSyntax, expressionSyntax, bareReturnSyntax, fullReturnSyntax, blockSyntax, labelSyntax, ifSyntax, declarationSyntax}
 use Rattle.grammar.specs.Grammar.{Scope, body, block, Operator, operator, operators, precedence}
 
 -- behind the last token of a text stands its end

@@ -56,13 +56,6 @@ size nil = 0
 size (node kind mark left right) = size left + size right + 1
 size (snoc before last) = size before + size last
 
--- the width of a syntax record, and the largest count of them
-abbrev pub syntaxWidth : ℕ
-syntaxWidth = 3
-
-abbrev pub mostSyntax : ℕ
-mostSyntax = 16385
-
 -- its records, "parts before the whole and in text order"
 unfoldable pub syntaxRecords : Syntax → List ℕ
 syntaxRecords nil = []

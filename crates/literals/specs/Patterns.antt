@@ -1,6 +1,6 @@
 -- Document 01, Elements: "Regular expressions: ES5.1 section 7.8.5, with classes (`/` inside `[ ]` does not close),
 -- backslash pairs, and name bytes after it as flags." That section's rule for the first byte, which is no `*` and no `/`,
--- holds wherever `elementAt` meets a slash: a comment starts there otherwise.
+-- holds wherever an element starts with a slash: a comment starts there otherwise.
 use Prim.Native.Nat.{ℕ, _+_}
 use mathlib.Core.List.{List, [], _∷_}
 use mathlib.Core.Bool.{Bool, true, false, cond, not}

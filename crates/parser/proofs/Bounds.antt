@@ -15,8 +15,8 @@ use Rattle.grammar.specs.Syntax.{size}
 use Rattle.grammar.proofs.ReadCuts.{reading-cuts}
 use Rattle.parser.specs.Parse.{Parsing, parsingFor, answerOf}
 use Rattle.parser.proofs.AcceptedReadings.{accepted-reading}
-use Rattle.parser.proofs.Verdicts.{Refuses, at-element, at-end}
-use Rattle.parser.proofs.Theorems.{Verdict, as-read, no-program, syntax-full, accepts, verdict}
+use Rattle.parser.specs.Verdict.{Refuses, at-element, at-end, Verdict, as-read, no-program, syntax-full, accepts}
+use Rattle.parser.proofs.Theorems.{verdict}
 
 -- the elements that a text is cut into stand in it
 first-within : (text : List ℕ) {place : ℕ} {choice : List Bool} {es : List Element} → Cuts text place choice es

@@ -158,7 +158,7 @@ begun Whole within few some = record {
 }
 
 -- `binary`: no operator that binds so tight
-pub binary-none : {p : Part} {i start least count : ℕ} {middle : List ℕ} {class tightness : ℕ} → class ≡ classAt (p .text) (p .cells) i
+binary-none : {p : Part} {i start least count : ℕ} {middle : List ℕ} {class tightness : ℕ} → class ≡ classAt (p .text) (p .cells) i
     → tightness ≡ precedence class → tightness < least → i ≤ countOf (p .cells) → {table : List ℕ} {v : Syntax} {target : Bool} → count ≡ start + size v
     → middle ≡ putSyntax table start v → Uncalled p i v → (classAt (p .text) (p .cells) i ≡ assign → target && mayAssign v ≡ false)
     → Extends (operandForm least p i) (binaryForm least) (EndedIn target least) p i start table v (Done i count) middle
@@ -168,11 +168,11 @@ binary-none {p} {i} {start} is tight loose within {table} {v} {target} number wr
 -- an operator, and its right operand
 module _ {p : Part} (fine : Fine p) {i least class : ℕ} (is : class ≡ classAt (p .text) (p .cells) i) {tightness : ℕ} (tight : tightness ≡ precedence class)
     (some : 1 ≤ least) (bound : least ≤ tightness) where
-  pub binary-fails : {left form : Form} {Past : Part → ℕ → Syntax → Type 0} {start place : ℕ} {table final : List ℕ} {v : Syntax}
+  binary-fails : {left form : Form} {Past : Part → ℕ → Syntax → Type 0} {start place : ℕ} {table final : List ℕ} {v : Syntax}
       → Fails (binaryForm (tightness + 1)) p (i + 1) place → Extends left form Past p i start table v (Bad place) final
   binary-fails fails = extends-bad (operator-fails fine i (sym is) (omega arith) fails)
 
-  pub binary-more : {count k m : ℕ} {middle after : List ℕ}
+  binary-more : {count k m : ℕ} {middle after : List ℕ}
       → Success (binaryForm (tightness + 1)) (EndedIn false (tightness + 1)) p (i + 1) count middle k m after → (start all : ℕ) {written : List ℕ}
       → (all ≡ m + 1) × (written ≡ putRecord after m class (p .base + i) (m - start + 1)) → (answer : Parsed) (final : List ℕ)
       → ((table : List ℕ) (v : Syntax) (target : Bool) → all ≡ start + size v → written ≡ putSyntax table start v → Uncalled p k v

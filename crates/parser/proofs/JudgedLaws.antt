@@ -2,7 +2,7 @@
 use mathlib.Core.Path.{_≡_, refl, sym, ap, subst, _∙_}
 use mathlib.Core.List.{List, [], _∷_, _++_}
 use mathlib.Core.Bool.{Bool, false, cond}
-use Prim.Native.Nat.{ℕ, _+_, _-_, _*_, _/_, _≤_, _<_}
+use Prim.Native.Nat.{ℕ, _+_, _-_, _*_, _≤_, _<_}
 use native.Mathlib.Omega.{arith}
 use borrow.Author.Tests.{le-leb, lt-leb}
 use lib.ListN.{length, take, drop, replicate, length-append}
@@ -10,13 +10,13 @@ use lib.Seq.{take-at}
 use Rattle.answers.specs.declared.Answer.{Answer}
 use Rattle.prefix.specs.Trees.{Trees, count}
 use Rattle.prefix.specs.Reading.{Reading, accepted, refused}
-use Rattle.tables.specs.Records.{treeWidth, mostTrees}
+use Rattle.tables.specs.Records.{treeWidth, mostTrees, syntaxWidth, mostSyntax, syntaxRoom}
 use Rattle.reader.specs.Records.{records}
 use Rattle.reader.specs.Read
 use Rattle.reader.specs.Read.{readLimits, readingFor, tableAfter}
 use Rattle.reader.proofs.CellLaws.{records-length}
 use Rattle.grammar.specs.Tokens.{Token, tokens}
-use Rattle.grammar.specs.Syntax.{Syntax, nil, size, syntaxWidth, mostSyntax, syntaxRecords, programSyntax, programTree}
+use Rattle.grammar.specs.Syntax.{Syntax, nil, size, syntaxRecords, programSyntax, programTree}
 use Rattle.grammar.specs.Grammar.{body, statementsForm, Program}
 use Rattle.grammar.specs.TreeElements.{elementsOf}
 use Rattle.grammar.specs.Machine.{finished, statementDue, live, frame, empty}
@@ -27,7 +27,7 @@ use Rattle.parser.specs.Parts.{Part, part, countOf, Fine, tokensAt}
 use Rattle.parser.specs.Follow.{Fate, stands, follow}
 use Rattle.parser.specs.Written.{putRecord, putSyntax}
 use Rattle.parser.specs.Says.{Says, AtEnd, Success, Judged, judged-bad, judged-full, judged-program}
-use Rattle.parser.specs.Parse.{noProgram, syntaxFull, syntaxRoom, Parsing, program, denied, endSpot, endToken, fateOf, partsBy, partsOf, judged, fitting, parsed, parsingFor, answerOf, treesAfter, syntaxAfter}
+use Rattle.parser.specs.Parse.{noProgram, syntaxFull, Parsing, program, denied, endSpot, endToken, fateOf, partsBy, partsOf, judged, fitting, parsed, parsingFor, answerOf, treesAfter, syntaxAfter}
 use Rattle.parser.specs.declared.Parsed.{Parsed}
 use Rattle.parser.specs.declared.Parsed.the-variants.{Done, Bad}
 use Rattle.parser.proofs.FollowLaws.{Tied, run-followed}
@@ -55,10 +55,10 @@ module _ {p : Part} {table middle : List ℕ} {r : Parsed} (says : Says (stateme
     kept : length after ≡ length table
     kept = ap length written ∙ syntax-kept-length (programTree (countOf (p .cells)) (s .syntax)) table 0
 
-    pub judge-full : length after / syntaxWidth < all → Judged p table (Answer.Refused syntaxFull (p .close)) after
-    judge-full h = judged-full (s .syntax) (program-derives s) (omega (arith, number, kept))
+    pub judge-full : all ≤ mostSyntax → syntaxRoom (length after) < all → Judged p table (Answer.Refused syntaxFull (p .close)) after
+    judge-full few h = judged-full (s .syntax) (program-derives s) (omega (arith, number, kept))
 
-    pub judge-program : all ≤ length after / syntaxWidth → Judged p table (Answer.Accepted all) after
+    pub judge-program : all ≤ syntaxRoom (length after) → Judged p table (Answer.Accepted all) after
     judge-program h = judged-program (s .syntax) (program-derives s) number (omega (arith, kept)) written
 
 -- the machine takes the tokens of a program to the end, and has built its parts

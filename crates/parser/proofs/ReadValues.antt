@@ -5,8 +5,8 @@ use mathlib.Core.List.{List}
 use Prim.Native.Nat.{ℕ, _+_, _≤_, _<_}
 use native.Mathlib.Omega.{arith}
 use lib.Dec.{T, ltb, ltb→lt}
-use Rattle.tables.specs.Records.{mostTrees}
-use Rattle.grammar.specs.Syntax.{Syntax, mostSyntax}
+use Rattle.tables.specs.Records.{mostTrees, mostSyntax}
+use Rattle.grammar.specs.Syntax.{Syntax}
 use Rattle.grammar.specs.Grammar.{Form}
 use Rattle.parser.specs.Parts.{Part, part, inside, countOf, sizeAt, closerAt, classAt, contentOf, Fine}
 use Rattle.parser.specs.Says.{Fails, Success, Says, says-done, says-bad, Filled}

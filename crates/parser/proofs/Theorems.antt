@@ -1,62 +1,29 @@
 -- Demand 3: what `parse` answers, over derivations. Its contract is an equation with `parsingFor`.
 use mathlib.Core.Path.{_≡_, refl, sym, ap, subst, _∙_}
-use mathlib.Core.List.{List, _++_}
+use mathlib.Core.List.{List}
 use mathlib.Core.Bool.{Bool, true, false, cond}
-use Prim.Native.Nat.{ℕ, _*_, _/_, _≤_, _<_}
+use Prim.Native.Nat.{ℕ, _≤_, _<_}
 use native.Mathlib.Omega.{arith}
 use borrow.Author.Tests.{leb-true, leb-false, le-leb}
 use lib.Dec.{leb}
-use lib.ListN.{length, drop}
-use Rattle.answers.specs.declared.Answer.{Answer}
+use lib.ListN.{length}
 use Rattle.prefix.specs.Trees.{Trees, count, deepest}
 use Rattle.prefix.specs.Reading.{Reading, accepted, refused, unlimited}
 use Rattle.reader.specs.Read.{readLimits, readingFor, tableAfter}
 use Rattle.reader.proofs.Theorems.{read-fits}
 use Rattle.reader.proofs.Formed.{Formed, reading-formed}
-use Rattle.grammar.specs.Syntax.{Syntax, size, syntaxWidth, syntaxRecords, programTree}
+use Rattle.grammar.specs.Syntax.{Syntax, size, programTree}
 use Rattle.grammar.specs.Derivations.{Derivation, countTrees, syntaxTree, deepestFrom, WithinLimits, LongEnough}
 use Rattle.grammar.specs.TreeElements.{elementsOf}
 use Rattle.grammar.specs.Machine.{Control}
 use Rattle.grammar.proofs.TreeSizes.{count-elements, deepest-elements}
 use Rattle.grammar.proofs.Theorems.{no-program-differs, few-parts-each-marked}
 use Rattle.parser.specs.Follow.{Fate, stands, died}
-use Rattle.parser.specs.Parse.{noProgram, syntaxFull, syntaxRoom, Parsing, program, denied, fateOf, judged, fitting, parsed, parsingFor, partsOf, answerOf, treesAfter, syntaxAfter}
+use Rattle.tables.specs.Records.{syntaxRoom}
+use Rattle.parser.specs.Parse.{syntaxFull, Parsing, program, denied, fateOf, judged, fitting, parsed, parsingFor, partsOf, answerOf, treesAfter, syntaxAfter}
 use Rattle.parser.proofs.AcceptedReadings.{AcceptedReading, accepted-reading}
-use Rattle.parser.proofs.Verdicts.{Refuses, accepted-derives, refused-derives, derives-accepted, no-derivation}
-
--- "the parser accepts exactly the texts with a derivation within the limits and tables": the trees are the reader's, with the
--- derivation's elements, and the syntax tree is the derivation's
-pub record Accepts (text : List ℕ) (treeCells syntaxCells : ℕ) (trees : Trees) (syntax : Syntax) : Type 0 where
-  pub derivation : Derivation text
-  pub limits : WithinLimits derivation
-  pub tables : LongEnough derivation treeCells syntaxCells
-  pub reads : readingFor text treeCells ≡ accepted trees
-  pub same-elements : elementsOf trees ≡ derivation .elements
-  pub same-syntax : syntax ≡ syntaxTree derivation
-
--- 13, after a full reading: at the first element with which the elements so far begin no program, or at the text's length; the text
--- has no derivation
-pub record NoProgram (text : List ℕ) (treeCells place : ℕ) : Type 0 where
-  pub trees : Trees
-  pub reads : readingFor text treeCells ≡ accepted trees
-  pub first : Refuses text (elementsOf trees) place
-  pub none : Derivation text → ⊥
-
--- 14, after a full reading: the text has a derivation, and its syntax tree has more records than the table has room for (16,385 are
--- never too few)
-pub record SyntaxFull (text : List ℕ) (treeCells syntaxCells : ℕ) : Type 0 where
-  pub trees : Trees
-  pub reads : readingFor text treeCells ≡ accepted trees
-  pub derivation : Derivation text
-  pub same-elements : elementsOf trees ≡ derivation .elements
-  pub more : syntaxCells / syntaxWidth < size (syntaxTree derivation)
-
--- Demand 3, of every text and all tables: what parsing answers, by derivations alone.
-pub data Verdict (text : List ℕ) (treeCells syntaxCells : ℕ) : Parsing → Type 0 where
-  as-read : {number place : ℕ} → readingFor text treeCells ≡ refused number place → Verdict text treeCells syntaxCells (denied number place)
-  no-program : {place : ℕ} → NoProgram text treeCells place → Verdict text treeCells syntaxCells (denied noProgram place)
-  syntax-full : SyntaxFull text treeCells syntaxCells → Verdict text treeCells syntaxCells (denied syntaxFull (length text))
-  accepts : {trees : Trees} {syntax : Syntax} → Accepts text treeCells syntaxCells trees syntax → Verdict text treeCells syntaxCells (program trees syntax)
+use Rattle.parser.specs.Verdict.{Verdict, as-read, no-program, syntax-full, accepts, Left}
+use Rattle.parser.proofs.Verdicts.{accepted-derives, refused-derives, derives-accepted, no-derivation}
 
 module _ (text : List ℕ) (treeCells syntaxCells : ℕ) where
   -- the machine at the end of the elements of an accepted reading
@@ -117,6 +84,7 @@ module _ (text : List ℕ) (treeCells syntaxCells : ℕ) where
   by-reading (accepted trees) r = by-fate trees r (fateOf (length text) trees) refl
   by-reading (refused number place) r = as-read r
 
+  -- Of every text and all tables: what parsing answers, by derivations and the reading.
   pub verdict : Verdict text treeCells syntaxCells (parsingFor text treeCells syntaxCells)
   unfolding parsingFor
   verdict = by-reading (readingFor text treeCells) refl
@@ -146,13 +114,6 @@ accepts-all text treeCells syntaxCells d limits tables =
       r .same,
     )
 
--- What the call answers and leaves, of an accepted text: the count of the derivation's syntax records, these records and then the
--- old cells, and the tree cells that reading leaves.
-pub record Left (text trees syntax : List ℕ) (d : Derivation text) (parsing : Parsing) : Type 0 where
-  pub counts : answerOf parsing ≡ Answer.Accepted (size (syntaxTree d))
-  pub tree-cells : treesAfter parsing trees ≡ tableAfter (readingFor text (length trees)) trees
-  pub syntax-cells : syntaxAfter parsing syntax ≡ syntaxRecords (syntaxTree d) ++ drop (syntaxWidth * size (syntaxTree d)) syntax
-
 program-reads : {text : List ℕ} {treeCells syntaxCells : ℕ} {q : Parsing} → Verdict text treeCells syntaxCells q
     → (trees : Trees) (syntax : Syntax) → q ≡ program trees syntax → readingFor text treeCells ≡ accepted trees
 program-reads (as-read r) trees syntax e = absurd (let z : _≡_ {A = ℕ} 0 1 = cc in omega arith)
@@ -162,6 +123,7 @@ program-reads (accepts {trees = other} a) trees syntax e =
     let same : other ≡ trees = cc in
     a .reads ∙ ap accepted same
 
+-- What the call answers and leaves, of an accepted text.
 pub accepted-left : (text trees syntax : List ℕ) (d : Derivation text) → WithinLimits d → LongEnough d (length trees) (length syntax)
     → Left text trees syntax d (parsingFor text (length trees) (length syntax))
 accepted-left text trees syntax d limits tables =

@@ -14,7 +14,7 @@ use Rattle.grammar.specs.Cuts.{isCloser}
 use Rattle.grammar.specs.Tokens.{Token, token, Spot, tokenOf, tokensFrom, tokens}
 use Rattle.grammar.specs.Syntax.{nil}
 use Rattle.grammar.specs.Grammar.{body, Program}
-use Rattle.grammar.specs.Derivations.{Derivation, BeginsProgram}
+use Rattle.grammar.specs.Derivations.{Derivation}
 use Rattle.grammar.specs.TreeElements.{elementsOf}
 use Rattle.grammar.specs.Machine.{State, dead, live, Control, finished, Frame, frame, empty, doneOf, statementDue, take, run, start}
 use Rattle.grammar.proofs.Complete.{complete, complete-to-end, run-append}
@@ -25,12 +25,13 @@ use Rattle.grammar.proofs.Theorems.{no-program-differs, first-refused}
 use Rattle.parser.specs.Follow.{Fate, stands, died, follow}
 use Rattle.parser.specs.Parse.{endSpot, endToken, fateOf, partsBy, partsOf}
 use Rattle.parser.proofs.FollowLaws.{run-followed, Tied, tied-live, tied-stands, DiesAt, died-there}
+use Rattle.parser.specs.Verdict.{Refuses, at-element, at-end}
 
 -- a token among those of elements and one behind them: that of an element, with the elements before it, or the last
 data Where (mark : ℕ) (es : List Element) (end : Token) (before : List Token) (class : ℕ) (spot : Spot) : Type 0 where
-  at-element : (firsts : List Element) (e : Element) (rest : List Element) → es ≡ firsts ++ (e ∷ rest) → before ≡ tokensFrom mark firsts
+  on-element : (firsts : List Element) (e : Element) (rest : List Element) → es ≡ firsts ++ (e ∷ rest) → before ≡ tokensFrom mark firsts
       → before ++ (token class spot ∷ []) ≡ tokensFrom mark (firsts ++ (e ∷ [])) → spot .first ≡ e .first → Where mark es end before class spot
-  at-end : before ≡ tokensFrom mark es → token class spot ≡ end → Where mark es end before class spot
+  on-end : before ≡ tokensFrom mark es → token class spot ≡ end → Where mark es end before class spot
 
 abbrev firstOf : Token → ℕ
 firstOf (token class spot) = spot .first
@@ -38,29 +39,22 @@ firstOf (token class spot) = spot .first
 find : (mark : ℕ) (es : List Element) (end : Token) (before : List Token) (class : ℕ) (spot : Spot) (after : List Token)
     → tokensFrom mark es ++ (end ∷ []) ≡ before ++ (token class spot ∷ after) → Where mark es end before class spot
 unfolding tokensFrom
-find mark [] end [] class spot after q = at-end refl (cc)
+find mark [] end [] class spot after q = on-end refl (cc)
 find mark [] end (x ∷ []) class spot after q = absurd (let z : _≡_ {A = ℕ} 0 1 = cc in omega arith)
 find mark [] end (x ∷ (y ∷ before)) class spot after q = absurd (let z : _≡_ {A = ℕ} 0 1 = cc in omega arith)
 find mark (e ∷ es) end [] class spot after q =
     let t : tokenOf mark e ≡ token class spot = cc in
-    at-element [] e es refl refl (ap (λ (x : Token). x ∷ []) (sym t)) (sym (ap firstOf t))
+    on-element [] e es refl refl (ap (λ (x : Token). x ∷ []) (sym t)) (sym (ap firstOf t))
 find mark (e ∷ es) end (x ∷ before) class spot after q =
     go (find (cond (isCloser e) mark (mark + 1)) es end before class spot after (cc))
   where
     go : Where (cond (isCloser e) mark (mark + 1)) es end before class spot → Where mark (e ∷ es) end (x ∷ before) class spot
-    go (at-element firsts f rest all are one place) =
+    go (on-element firsts f rest all are one place) =
         let t : x ≡ tokenOf mark e = cc in
-        at-element (e ∷ firsts) f rest (ap (_∷_ e) all) (cc) (cc) place
-    go (at-end are last) =
+        on-element (e ∷ firsts) f rest (ap (_∷_ e) all) (cc) (cc) place
+    go (on-end are last) =
         let t : x ≡ tokenOf mark e = cc in
-        at-end (cc) last
-
--- why the elements of a text are no program: one of them begins none with those before it; or all of them begin one, that goes on
--- behind the text's end
-pub data Refuses (text : List ℕ) (es : List Element) : ℕ → Type 0 where
-  at-element : (firsts : List Element) (e : Element) (rest : List Element) → es ≡ firsts ++ (e ∷ rest)
-      → BeginsProgram text firsts → (BeginsProgram text (firsts ++ (e ∷ [])) → ⊥) → Refuses text es (e .first)
-  at-end : BeginsProgram text es → Refuses text es (length text)
+        on-end (cc) last
 
 pub tied-finished : {fate : Fate} {f : Frame} → Tied fate (live finished f []) → fate ≡ stands finished []
 tied-finished tied-live = refl
@@ -95,13 +89,13 @@ module _ (text : List ℕ) (limits : Limits) (trees : Trees) (a : reading text l
       go d = by (find 0 es (endToken (length text)) (d .before) (d .class) (d .spot) (d .after) (d .split))
         where
           by : Where 0 es (endToken (length text)) (d .before) (d .class) (d .spot) → Refuses text es place
-          by (at-element firsts f rest split are one here) =
+          by (on-element firsts f rest split are one here) =
               let alive : run start (tokens firsts) ≡ live (d .control) (d .f) (d .around) = rw are at (d .alive) in
               let stops : run start (tokens (firsts ++ (f ∷ []))) ≡ dead =
               ap (run start) (sym one) ∙ run-append (d .before) (token (d .class) (d .spot) ∷ []) start ∙ ap (λ (z : State). take z (token (d .class) (d .spot))) (d .alive) ∙ d .dies in
               let r = first-refused text limits trees a firsts rest f split (d .control) (d .f) (d .around) alive stops in
               subst (λ (n : ℕ). Refuses text es n) (sym here ∙ d .here) (at-element firsts f rest split (r .0) (r .1))
-          by (at-end are last) =
+          by (on-end are last) =
               let alive : run start (tokens es) ≡ live (d .control) (d .f) (d .around) = rw are at (d .alive) in
               let b = begins text es es [] (reading-cuts text limits trees a) (sym (append-nil es)) (d .control) (d .f) (d .around) alive (still-going es (d .control) (d .f) (d .around) alive) in
               subst (λ (n : ℕ). Refuses text es n) (sym (ap firstOf last) ∙ d .here) (at-end b)

@@ -10,7 +10,8 @@ use borrow.Author.Tests.{lt-ltb}
 use lib.Dec.{ltb}
 use lib.ListN.{length, drop, set, length-append, length-set}
 use lib.Seq.{sets, sets-eq}
-use Rattle.grammar.specs.Syntax.{Syntax, nil, node, snoc, size, syntaxWidth, syntaxRecords}
+use Rattle.tables.specs.Records.{syntaxWidth}
+use Rattle.grammar.specs.Syntax.{Syntax, nil, node, snoc, size, syntaxRecords}
 use Rattle.parser.specs.Written.{putRecord, putSyntax}
 
 sets-append : (a b table : List ℕ) (i : ℕ) → sets table i (a ++ b) ≡ sets (sets table i a) (i + length a) b

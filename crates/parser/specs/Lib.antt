@@ -4,3 +4,4 @@ pub mod Written
 pub mod Parameters
 pub mod Says
 pub mod Parse
+pub mod Verdict

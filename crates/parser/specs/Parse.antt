@@ -1,5 +1,5 @@
 -- What `parse` answers, and what it leaves in the two lent tables.
-use Prim.Native.Nat.{ℕ, _*_, _/_, min}
+use Prim.Native.Nat.{ℕ, _*_}
 use mathlib.Core.Bool.{false, cond}
 use mathlib.Core.List.{List, [], _∷_, _++_}
 use lib.Dec.{leb}
@@ -9,7 +9,8 @@ use Rattle.prefix.specs.Trees.{Trees, count}
 use Rattle.prefix.specs.Reading.{Reading, accepted, refused}
 use Rattle.reader.specs.Read.{readingFor, tableAfter}
 use Rattle.grammar.specs.Tokens.{Token, token, Spot, tokens}
-use Rattle.grammar.specs.Syntax.{Syntax, nil, size, syntaxWidth, mostSyntax, syntaxRecords, programTree}
+use Rattle.tables.specs.Records.{syntaxWidth, syntaxRoom}
+use Rattle.grammar.specs.Syntax.{Syntax, nil, size, syntaxRecords, programTree}
 use Rattle.grammar.specs.Grammar.{body}
 use Rattle.grammar.specs.TreeElements.{elementsOf}
 use Rattle.grammar.specs.Machine.{endOfText, State, dead, live, doneOf, statementDue, run, start}
@@ -23,10 +24,6 @@ noProgram = 13
 -- row 14, syntax full: "parsing; more records than fit"; place: text length
 abbrev pub syntaxFull : ℕ
 syntaxFull = 14
-
--- the syntax records that a table of so many numbers has room for
-abbrev pub syntaxRoom : ℕ → ℕ
-syntaxRoom cells = min (cells / syntaxWidth) mostSyntax
 
 -- the trees and the syntax tree of a text, or a refusal's number and place
 pub data Parsing : Type 0 where

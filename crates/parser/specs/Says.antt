@@ -8,12 +8,14 @@ use lib.Dec.{T, eqb}
 use lib.ListN.{length}
 use Rattle.answers.specs.declared.Answer.{Answer}
 use Rattle.grammar.specs.Tokens.{Token, token, Spot, name, assign, colon, dot, openParen, closeParen, openBrace, closeBrace, returnWord, functionWord, ifWord}
-use Rattle.grammar.specs.Syntax.{Syntax, size, syntaxWidth, programTree}
+use Rattle.tables.specs.Records.{syntaxWidth}
+use Rattle.grammar.specs.Syntax.{Syntax, size, programTree}
 use Rattle.grammar.specs.Grammar.{Scope, body, block, precedence, Form, chainForm, binaryForm, assignForm, functionForm, statementForm, statementsForm, Derives, Program}
 use Rattle.grammar.specs.Machine.{endOfText, Ending, Role, Control, operandDue, operandDone, functionFirst, statementDue}
 use Rattle.parser.specs.Parts.{Part, inside, countOf, sizeAt, classAt, closerSpot, tokensAt}
 use Rattle.parser.specs.Follow.{died, follow, mayAssign}
 use Rattle.parser.specs.Written.{putSyntax}
+use Rattle.parser.specs.Parse.{noProgram, syntaxFull}
 use Rattle.parser.specs.declared.Parsed.{Parsed}
 use Rattle.parser.specs.declared.Parsed.the-variants.{Done, Bad}
 
@@ -176,8 +178,8 @@ pub data Adds (scope : Scope) (p : Part) (i count : ℕ) (middle : List ℕ) : P
 -- the whole table: no program, at a place; more records than the syntax table has room for; or its syntax tree, written, with the
 -- program's own record behind all others
 pub data Judged (p : Part) (table : List ℕ) : Answer → List ℕ → Type 0 where
-  judged-bad : {place : ℕ} {after : List ℕ} → Fails (statementsForm body) p 0 place → Judged p table (Answer.Refused 13 place) after
+  judged-bad : {place : ℕ} {after : List ℕ} → Fails (statementsForm body) p 0 place → Judged p table (Answer.Refused noProgram place) after
   judged-full : {after : List ℕ} (syntax : Syntax) → Program (tokensAt p 0) syntax
-      → length table / syntaxWidth < size (programTree (countOf (p .cells)) syntax) → Judged p table (Answer.Refused 14 (p .close)) after
+      → length table / syntaxWidth < size (programTree (countOf (p .cells)) syntax) → Judged p table (Answer.Refused syntaxFull (p .close)) after
   judged-program : {n : ℕ} {after : List ℕ} (syntax : Syntax) → Program (tokensAt p 0) syntax → n ≡ size (programTree (countOf (p .cells)) syntax)
       → n ≤ length table / syntaxWidth → after ≡ putSyntax table 0 (programTree (countOf (p .cells)) syntax) → Judged p table (Answer.Accepted n) after

@@ -14,7 +14,6 @@ mod parts;
 mod records;
 
 use answers::Answer;
-use records::SyntaxRecord;
 use tables::TreeRecord;
 
 // What a parser answers: the next record of the part and the number of syntax records so far; or the place where no program
@@ -56,7 +55,7 @@ fn program(text: &[u8], trees: &[u32], syntax: &mut [u32]) -> Answer
         Parsed::Bad(place) => Answer::Refused(NO_PROGRAM, place),
         Parsed::Done(_, n) => {
             let all = records::put(syntax, n, records::PROGRAM, number, 0);
-            if syntax.len() / SyntaxRecord::WIDTH < all {
+            if tables::syntax_room(syntax.len()) < all {
                 return Answer::Refused(SYNTAX_FULL, text.len());
             }
             Answer::Accepted(all)

@@ -7,7 +7,8 @@ use native.Mathlib.Omega.{arith}
 use Rattle.prefix.specs.Trees.{Trees, count, deepest}
 use Rattle.prefix.specs.Reading.{Limits, deep, treesFull, Reading, accepted, refused, reading, unlimitedReading}
 use Rattle.prefix.proofs.Sizes.{accepted-fits}
-use Rattle.prefix.proofs.Unlimited.{Under, same, full, deeper, reading-under, NoLimit}
+use Rattle.prefix.specs.Limits.{NoLimit, Within}
+use Rattle.prefix.proofs.Unlimited.{Under, same, full, deeper, reading-under}
 
 -- a refusal is no acceptance
 not-accepted : {A : Type 0} {number place : ℕ} {trees : Trees} → refused number place ≡ accepted trees → A
@@ -74,11 +75,6 @@ module _ (bytes : List ℕ) (limits other : Limits) (trees : Trees) (a : reading
       go same e a = not-accepted (sym e ∙ a)
       go (full h) e a = absurd (let z : _≡_ {A = ℕ} deep treesFull = cc in omega arith)
       go (deeper h) e a = rw a at h
-
--- the limits of one reading are at most those of another
-pub record Within (small large : Limits) : Type 0 where
-  pub groups : small .groups ≤ large .groups
-  pub room : small .room ≤ large .room
 
 -- More room, or more groups, changes no accepted reading.
 pub reading-within : (bytes : List ℕ) (small large : Limits) → Within small large → (trees : Trees) → reading bytes small ≡ accepted trees → reading bytes large ≡ accepted trees

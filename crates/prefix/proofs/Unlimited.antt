@@ -39,6 +39,7 @@ use Rattle.prefix.proofs.Induction.{Accepts, reading-tells}
 use Rattle.prefix.proofs.StateLaws.{number-on-top}
 use Rattle.prefix.proofs.StepCases.{Stopped, at-depth, at-room, at-closer, step-taken, step-reason}
 use Rattle.prefix.proofs.Sizes.{reached, taken-grown, passed}
+use Rattle.prefix.specs.Limits.{NoLimit}
 
 -- a step under limits, beside the same under limits that are not reached there
 data StepUnder (limits : Limits) : Step → Step → Type 0 where
@@ -88,11 +89,6 @@ pub data Under (limits : Limits) : Reading → Reading → Type 0 where
 record Small (levels : Levels) (place : ℕ) : Type 0 where
   number-small : number levels ≤ place
   depth-small : depth levels ≤ place
-
--- a refusal's number that stands for no limit
-pub record NoLimit (number : ℕ) : Type 0 where
-  pub not-deep : number ≡ deep → ⊥
-  pub not-full : number ≡ treesFull → ⊥
 
 abbrev NoLimitRefused : Reading → Type 0
 NoLimitRefused (accepted trees) = Unit {0}

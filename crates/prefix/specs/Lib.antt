@@ -5,3 +5,4 @@ pub mod Reading
 pub mod Summary
 pub mod Words
 pub mod Held
+pub mod Limits

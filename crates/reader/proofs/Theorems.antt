@@ -10,7 +10,8 @@ use lib.ListN.{length}
 use Rattle.prefix.specs.Trees.{Trees, count, deepest}
 use Rattle.prefix.specs.Reading.{Limits, accepted, refused, reading, unlimitedReading, deep, treesFull}
 use Rattle.prefix.proofs.Sizes.{accepted-fits}
-use Rattle.prefix.proofs.LimitLaws.{Within, reading-within}
+use Rattle.prefix.specs.Limits.{Within}
+use Rattle.prefix.proofs.LimitLaws.{reading-within}
 use Rattle.tables.specs.Records.{treeWidth, roomFor}
 use Rattle.reader.specs.Records.{records}
 use Rattle.reader.specs.Read.{longText, mostBytes, mostGroups, readLimits, readingFor}

@@ -89,7 +89,7 @@ pub enum Turn {
 
 // Reads on from a state and a place: to the text's end or a refusal, with the records in the table; or, `once`, one element, of
 // which nothing is stored. Reading and respacing share this loop: the element call and the step are compiled into it, since
-// nothing else calls them.
+// nothing else in these calls uses them.
 fn read_on(
     text: &[u8],
     trees: &mut [u32],

@@ -137,13 +137,13 @@ module _ (bytes old : List ℕ) where
   denies output zeros n q (accepted trees) t c = absurd (let z : _≡_ {A = ℕ} 0 1 = cc in omega arith)
   denies output zeros n q (refused k p) t c = (t, c)
 
-  pub respace-fits : (output : List ℕ) (n : ℕ) → Told bytes old output (wholeReading bytes) (Answer.Accepted n) → n ≤ length old
+  pub written-fits : (output : List ℕ) (n : ℕ) → Told bytes old output (wholeReading bytes) (Answer.Accepted n) → n ≤ length old
       → Promised output (Answer.Accepted n) (respacingFor bytes (length old))
-  respace-fits output n t h = fits output n (wholeReading bytes) t h
+  written-fits output n t h = fits output n (wholeReading bytes) t h
 
-  pub respace-full : (output zeros : List ℕ) (n : ℕ) → Told bytes old output (wholeReading bytes) (Answer.Accepted n) → length old < n → zeros ≡ replicate (length old) 0
+  pub written-full : (output zeros : List ℕ) (n : ℕ) → Told bytes old output (wholeReading bytes) (Answer.Accepted n) → length old < n → zeros ≡ replicate (length old) 0
       → Promised zeros (Answer.Refused outputFull (length bytes)) (respacingFor bytes (length old))
-  respace-full output zeros n t h c = full output zeros n (wholeReading bytes) t h c
+  written-full output zeros n t h c = full output zeros n (wholeReading bytes) t h c
 
   pub respace-denies : (output zeros : List ℕ) (n q : ℕ) → Told bytes old output (wholeReading bytes) (Answer.Refused n q) → zeros ≡ replicate (length old) 0
       → Promised zeros (Answer.Refused n q) (respacingFor bytes (length old))

@@ -15,6 +15,17 @@ mostTrees = 16384
 abbrev pub treeRecord : ℕ → ℕ → ℕ → ℕ → Bool → List ℕ
 treeRecord kind first end number line = kind ∷ first ∷ end ∷ number ∷ cond line 1 0 ∷ []
 
--- the records that a table of so many numbers has room for
+-- the tree records that a table of so many numbers has room for
 abbrev pub roomFor : ℕ → ℕ
 roomFor cells = min (cells / treeWidth) mostTrees
+
+-- the width of a syntax record, and the largest count of them: "Syntax record, three numbers, at most 16,385"
+abbrev pub syntaxWidth : ℕ
+syntaxWidth = 3
+
+abbrev pub mostSyntax : ℕ
+mostSyntax = 16385
+
+-- the syntax records that a table of so many numbers has room for
+abbrev pub syntaxRoom : ℕ → ℕ
+syntaxRoom cells = min (cells / syntaxWidth) mostSyntax

@@ -1,8 +1,8 @@
-// Tree records, and the table that they are written to.
+// Tree and syntax records, and the lent tables that they are written to.
 ghost use mathlib.Core.Path.{_≡_};
 ghost use mathlib.Core.Bool.{cond};
 ghost use lib.ListN.{length, replicate};
-ghost use Rattle.tables.specs.Records.{roomFor};
+ghost use Rattle.tables.specs.Records.{roomFor, syntaxRoom};
 
 // A tree record: its kind, its first byte, the byte after its last, the records in it with itself, and whether a line end
 // lies before it.
@@ -40,7 +40,21 @@ pub fn line_mark(line: bool) -> u32
     if line { 1 } else { 0 }
 }
 
-// The records that a table of so many numbers has room for.
+// A syntax record: its kind, the index of the tree record that marks it, and the syntax records in it with itself.
+pub struct SyntaxRecord {
+    pub kind: u32,
+    pub mark: u32,
+    pub number: u32,
+}
+
+impl SyntaxRecord {
+    // How many numbers a record has, and how many records a table holds at most.
+    pub const WIDTH: usize = 3;
+
+    pub const MOST: usize = 16385;
+}
+
+// The tree records that a table of so many numbers has room for.
 pub fn room_for(cells: usize) -> usize
     ensures { λ r. ⌜ r ≡ roomFor cells ⌝ }
 {
@@ -49,6 +63,18 @@ pub fn room_for(cells: usize) -> usize
         room
     } else {
         TreeRecord::MOST
+    }
+}
+
+// The syntax records that a table of so many numbers has room for.
+pub fn syntax_room(cells: usize) -> usize
+    ensures { λ r. ⌜ r ≡ syntaxRoom cells ⌝ }
+{
+    let room = cells / SyntaxRecord::WIDTH;
+    if room <= SyntaxRecord::MOST {
+        room
+    } else {
+        SyntaxRecord::MOST
     }
 }
 

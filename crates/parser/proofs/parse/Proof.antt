@@ -1,11 +1,6 @@
 use borrow.Author.Needs.{needs}
 use Rattle.parser.proofs.parse.Statement.{statement}
 use Rattle.parser.proofs.parse.Tie as tie
-use Rattle.parser.proofs.parse.Reads as reads
-use Rattle.parser.proofs.parse.Lts as lts
-use Rattle.parser.proofs.program.Reads as program-reads
-use Rattle.reader.proofs.read.Reads as read-reads
-use Rattle.tables.proofs.clear.Reads as clear-reads
 use mathlib.Core.Path.{ap, _∙_}
 use native.Mathlib.Omega.{arith}
 use lib.ListN.{replicate}

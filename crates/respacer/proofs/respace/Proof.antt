@@ -3,7 +3,7 @@ use borrow.Author.Needs.{needs}
 use native.Mathlib.Omega.{arith}
 use mathlib.Core.Path.{ap, _∙_}
 use lib.ListN.{replicate}
-use Rattle.respacer.proofs.LoopLaws.{respace-long, respace-full, respace-fits, respace-denies}
+use Rattle.respacer.proofs.LoopLaws.{respace-long, written-full, written-fits, respace-denies}
 use borrow.Author.Needs.{needs}
 use Rattle.respacer.proofs.respace.Statement.{statement}
 use Rattle.respacer.proofs.respace.Tie as tie
@@ -39,7 +39,7 @@ returns-2 c =
     let a = c .before .before .before .before .before .before .before .before .before .before .before .before .before .before .before .before .before .args in
     let t = rw (c .before .before .before .before .before .before .answer .given .1) at (c .before .before .before .before .before .before .before .before .before .before .before .write-text .ensures) in
     let same = c .before .before .before .before .before .before .before .before .before .before .output2 .given in
-    respace-full (a .text .now) (a .output .now) _ _ _ t (omega arith) (c .before .before .clear2 .ensures ∙ ap (λ n. replicate n 0) same)
+    written-full (a .text .now) (a .output .now) _ _ _ t (omega arith) (c .before .before .clear2 .ensures ∙ ap (λ n. replicate n 0) same)
 
 enum-known-answer-2 : tie.Need-enum-known-answer-2
 enum-known-answer-2 c = search needs
@@ -55,7 +55,7 @@ returns-3 c =
     let a = c .before .before .before .before .before .before .before .before .before .before .before .before .before .args in
     let t = rw (c .before .before .answer .given .1) at (c .before .before .before .before .before .before .before .write-text .ensures) in
     let same = c .before .before .before .before .before .before .output2 .given in
-    respace-fits (a .text .now) (a .output .now) _ _ t (omega arith)
+    written-fits (a .text .now) (a .output .now) _ _ t (omega arith)
 
 same-length-4 : tie.Need-same-length-4
 same-length-4 c = search needs

@@ -1,0 +1,50 @@
+-- Demand 3: what its statements over derivations say (`grammar/proofs/Theorems.antt`).
+use Prim.Native.Nat.{ℕ, _+_, _≤_, _<_}
+use mathlib.Core.Path.{_≡_}
+use mathlib.Core.Bool.{Bool, cond}
+use mathlib.Core.List.{List, [], _∷_, _++_, List·Memᴰ}
+use lib.Dec.{eqb}
+use lib.ListN.{getD}
+use Rattle.text.specs.Quoted.{byte}
+use Rattle.elements.specs.Elements.{patternKind}
+use Rattle.elements.specs.declared.Element.{Element}
+use Rattle.prefix.specs.Trees.{Trees}
+use Rattle.prefix.specs.Reading.{accepted, unlimitedReading}
+use Rattle.grammar.specs.Syntax.{Syntax, nil, node, snoc, size}
+use Rattle.grammar.specs.Derivations.{Derivation, syntaxTree, countTrees}
+use Rattle.grammar.specs.TreeElements.{elementsOf}
+
+-- what the prefix rule makes of a text with a derivation
+pub record ReadAs (text : List ℕ) (es : List Element) : Type 0 where
+  pub trees : Trees
+  pub reads : unlimitedReading text ≡ accepted trees
+  pub same : elementsOf trees ≡ es
+
+-- "any two grammar derivations take every slash alike and have one syntax tree"
+pub record OneDerivation {text : List ℕ} (d f : Derivation text) : Type 0 where
+  pub same-elements : d .elements ≡ f .elements
+  pub same-answers : d .choice ≡ f .choice
+  pub same-syntax : syntaxTree d ≡ syntaxTree f
+
+-- the answers to the slashes among elements of a text
+abbrev pub answersOf : List ℕ → List Element → List Bool
+answersOf text [] = []
+answersOf text (e ∷ es) = cond (eqb (getD text (e .first) 0) (byte "/")) (eqb (e .kind) patternKind ∷ answersOf text es) (answersOf text es)
+
+-- the marks of a tree, in the order of its records
+abbrev pub marksOf : Syntax → List ℕ
+marksOf nil = []
+marksOf (node kind mark left right) = marksOf left ++ (marksOf right ++ (mark ∷ []))
+marksOf (snoc before last) = marksOf before ++ marksOf last
+
+-- no two are the same
+pub data Distinct : List ℕ → Type 0 where
+  distinct-none : Distinct []
+  distinct-more : {x : ℕ} {xs : List ℕ} → (List·Memᴰ x xs → ⊥) → Distinct xs → Distinct (x ∷ xs)
+
+-- a syntax tree has at most one record more than the tree records, each with a mark of its own: that of a tree record, or, the
+-- program's, the number of them
+pub record FewParts {text : List ℕ} (d : Derivation text) : Type 0 where
+  pub few : size (syntaxTree d) ≤ countTrees (d .elements) + 1
+  pub own : Distinct (marksOf (syntaxTree d))
+  pub marked-by : (m : ℕ) → List·Memᴰ m (marksOf (d .parts)) → m < countTrees (d .elements)
