@@ -1,6 +1,6 @@
 pub mod Finite
 pub mod SummaryLaws
-pub mod WordLaws
+pub mod LevelWordLaws
 pub mod StateLaws
 pub mod StepLaws
 pub mod ReadingLaws

@@ -13,11 +13,11 @@ use Rattle.prefix.specs.Rule.{backwards}
 use Rattle.prefix.specs.Levels.{Levels, text, inside, depth, number, onTop, slashOpens, braceOpens}
 use Rattle.prefix.specs.Reading.{Limits, addLeaf, openGroup, closes, closeGroup, deep, wrongCloser, treesFull}
 use Rattle.prefix.specs.Summary.{summary, wordOf}
-use Rattle.prefix.specs.Words.{slashByWord, braceByWord, leafWord, groupWord}
+use Rattle.prefix.specs.LevelWords.{slashByWord, braceByWord, leafWord, groupWord}
 use Rattle.prefix.specs.Held.{Stack, Held, closed, Follows, leaf-added, group-opened, group-closed, stopped}
 use Rattle.prefix.specs.declared.State.{State}
 use Rattle.prefix.specs.declared.Advanced.{Advanced}
-use Rattle.prefix.proofs.WordLaws.{slash-opens-right, brace-opens-right, leaf-added-word, group-added-word, kind-of-word}
+use Rattle.prefix.proofs.LevelWordLaws.{slash-opens-right, brace-opens-right, leaf-added-word, group-added-word, kind-of-word}
 
 -- a tree more on the innermost level
 module _ (add : Trees → Trees) where

@@ -3,6 +3,6 @@ pub mod Rule
 pub mod Levels
 pub mod Reading
 pub mod Summary
-pub mod Words
+pub mod LevelWords
 pub mod Held
 pub mod Limits

@@ -3,7 +3,7 @@
 ghost use mathlib.Core.Path.{_≡_};
 ghost use Prim.Native.Nat.{_+_, _*_, _/_};
 ghost use Rattle.prefix.specs.Levels.{isExpression};
-ghost use Rattle.prefix.specs.Words.{slashByWord, braceByWord, nameWord, reservedWord, signWord, leafWord, parensWord, blockWord, groupWord};
+ghost use Rattle.prefix.specs.LevelWords.{slashByWord, braceByWord, nameWord, reservedWord, signWord, leafWord, parensWord, blockWord, groupWord};
 use crate::OBJECT;
 use crate::PARENS;
 use elements::Element;

@@ -1,7 +1,7 @@
 -- `after_block` is `blockWord`, test for test.
 use borrow.Author.Needs.{needs}
 use borrow.Author.Tests.{eq-eqb, ne-eqb}
-use Rattle.prefix.specs.Words.{blockWord}
+use Rattle.prefix.specs.LevelWords.{blockWord}
 use borrow.Author.Needs.{needs}
 use Rattle.prefix.proofs.rule.after_block.Statement.{statement}
 use Rattle.prefix.proofs.rule.after_block.Tie as tie

@@ -1,7 +1,7 @@
 -- `after_group` is `groupWord`, test for test.
 use borrow.Author.Needs.{needs}
 use borrow.Author.Tests.{eq-eqb, ne-eqb}
-use Rattle.prefix.specs.Words.{groupWord}
+use Rattle.prefix.specs.LevelWords.{groupWord}
 use borrow.Author.Needs.{needs}
 use Rattle.prefix.proofs.rule.after_group.Statement.{statement}
 use Rattle.prefix.proofs.rule.after_group.Tie as tie

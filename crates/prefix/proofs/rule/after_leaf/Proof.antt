@@ -1,7 +1,7 @@
 -- `after_leaf` is `leafWord`, test for test.
 use borrow.Author.Needs.{needs}
 use borrow.Author.Tests.{eq-eqb, ne-eqb}
-use Rattle.prefix.specs.Words.{leafWord}
+use Rattle.prefix.specs.LevelWords.{leafWord}
 use borrow.Author.Needs.{needs}
 use Rattle.prefix.proofs.rule.after_leaf.Statement.{statement}
 use Rattle.prefix.proofs.rule.after_leaf.Tie as tie

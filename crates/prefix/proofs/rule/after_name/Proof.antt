@@ -1,7 +1,7 @@
 -- `after_name` is `nameWord`, test for test.
 use borrow.Author.Needs.{needs}
 use borrow.Author.Tests.{eq-eqb, ne-eqb}
-use Rattle.prefix.specs.Words.{nameWord}
+use Rattle.prefix.specs.LevelWords.{nameWord}
 use borrow.Author.Needs.{needs}
 use Rattle.prefix.proofs.rule.after_name.Statement.{statement}
 use Rattle.prefix.proofs.rule.after_name.Tie as tie

@@ -1,7 +1,7 @@
 -- `after_parens` is `parensWord`, test for test.
 use borrow.Author.Needs.{needs}
 use borrow.Author.Tests.{eq-eqb, ne-eqb}
-use Rattle.prefix.specs.Words.{parensWord}
+use Rattle.prefix.specs.LevelWords.{parensWord}
 use borrow.Author.Needs.{needs}
 use Rattle.prefix.proofs.rule.after_parens.Statement.{statement}
 use Rattle.prefix.proofs.rule.after_parens.Tie as tie

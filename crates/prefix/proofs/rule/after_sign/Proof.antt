@@ -3,7 +3,7 @@ use borrow.Author.Needs.{needs}
 use borrow.Author.Tests.{eq-eqb, ne-eqb}
 use Rattle.text.specs.Runs.{same}
 use Rattle.signs.specs.Signs.{longestSign, longestOf}
-use Rattle.prefix.specs.Words.{signWord}
+use Rattle.prefix.specs.LevelWords.{signWord}
 use borrow.Author.Needs.{needs}
 use Rattle.prefix.proofs.rule.after_sign.Statement.{statement}
 use Rattle.prefix.proofs.rule.after_sign.Tie as tie

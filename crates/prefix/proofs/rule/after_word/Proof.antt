@@ -4,7 +4,7 @@ use mathlib.Core.Path.{sym, _∙_}
 use borrow.Author.Tests.{eq-eqb, ne-eqb}
 use Rattle.text.specs.Runs.{same}
 use Rattle.words.specs.Words.{wordNumber, placeIn}
-use Rattle.prefix.specs.Words.{reservedWord}
+use Rattle.prefix.specs.LevelWords.{reservedWord}
 use borrow.Author.Needs.{needs}
 use Rattle.prefix.proofs.rule.after_word.Statement.{statement}
 use Rattle.prefix.proofs.rule.after_word.Tie as tie

@@ -1,7 +1,7 @@
 -- `brace_opens` is `braceByWord`, test for test.
 use borrow.Author.Needs.{needs}
 use borrow.Author.Tests.{eq-eqb, ne-eqb}
-use Rattle.prefix.specs.Words.{braceByWord}
+use Rattle.prefix.specs.LevelWords.{braceByWord}
 use borrow.Author.Needs.{needs}
 use Rattle.prefix.proofs.rule.brace_opens.Statement.{statement}
 use Rattle.prefix.proofs.rule.brace_opens.Tie as tie

@@ -1,6 +1,6 @@
 -- `slash_opens` is `slashByWord`.
 use mathlib.Core.Path.{refl}
-use Rattle.prefix.specs.Words.{slashByWord}
+use Rattle.prefix.specs.LevelWords.{slashByWord}
 use Rattle.prefix.proofs.rule.slash_opens.Statement.{statement}
 use Rattle.prefix.proofs.rule.slash_opens.Tie as tie
 

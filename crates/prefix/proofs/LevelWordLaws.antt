@@ -11,7 +11,7 @@ use Rattle.prefix.specs.Trees.{Trees, leaf, group, parenKind, objectKind
 use Rattle.prefix.specs.Rule.{Class, wordClass, signClass, elementClass, groupClass, backwards}
 use Rattle.prefix.specs.Levels.{Levels, text, inside, isExpression, kindOf, treesOf, slashOpens, braceOpens, onTop}
 use Rattle.prefix.specs.Summary.{Summary, braceBy, slashBy, addName, addParens, addBlock, add, summary, code, wordFor, wordOf}
-use Rattle.prefix.specs.Words.{with, slashByWord, braceByWord, nameWord, reservedWord, signWord, leafWord, parensWord, blockWord, groupWord}
+use Rattle.prefix.specs.LevelWords.{with, slashByWord, braceByWord, nameWord, reservedWord, signWord, leafWord, parensWord, blockWord, groupWord}
 use Rattle.prefix.proofs.Finite.{bothBools, at-bool, allSummaries, at-summary}
 use Rattle.prefix.proofs.SummaryLaws.{brace-right, slash-right}
 
