@@ -1,4 +1,4 @@
--- Calls and members behind the start of a Chain: what each path through `calls` comes to.
+-- Calls and members behind the start of a Chain: what each path through `link`, and the end of `chain`, comes to.
 use mathlib.Core.Path.{_≡_, _∙_}
 use mathlib.Core.Bool.{true}
 use mathlib.Core.List.{List, _∷_, _++_}

@@ -25,7 +25,7 @@ module _
         rw (element-then fine i name named u tt, element-then fine (i + 1) colon marked u tt, two)
 
     -- no statement behind it
-    pub label-fails : {place : ℕ} → Fails statementForm p (i + 2) place → Fails statementForm p i place
+    label-fails : {place : ℕ} → Fails statementForm p (i + 2) place → Fails statementForm p i place
     label-fails fails = λ scope behinds u closed. rw (label-tokens u) (fails scope behinds u closed)
 
     -- all of it
