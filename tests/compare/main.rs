@@ -26,7 +26,7 @@ const RECOGNISED: usize = 3_000;
 /// Cells behind each lent slice, which no call may touch.
 const GUARD: usize = 8;
 /// Stack with which every text parses.
-const LITTLE_STACK: usize = 1536 * 1024;
+const LITTLE_STACK: usize = 256 * 1024;
 
 type Answer = Result<usize, Fault>;
 
@@ -375,11 +375,11 @@ impl Comparison {
 
 #[cfg(parse)]
 impl Comparison {
-    /// The longest runs and the deepest groups parse in little stack.
+    /// The longest runs and the deepest groups, of programs and of texts that are refused near their end, parse in little stack.
     fn runs(&mut self) -> usize {
-        let runs = texts::longest_runs();
+        let runs = [texts::longest_runs(), texts::refused_runs()].concat();
         for (name, text) in &runs {
-            let reading = reading(text, usize::MAX).unwrap_or_else(|fault| panic!("{name} is refused: {fault:?}"));
+            let reading = reading(text, usize::MAX).unwrap_or_else(|fault| panic!("{name} is not read: {fault:?}"));
             let syntax = self.syntax(text, &reading.elements);
             self.parse(parse_in_little_stack, text, &syntax, 5 * reading::MOST_TREES, 3 * MOST_SYNTAX);
         }

@@ -335,6 +335,28 @@ pub fn longest_runs() -> Vec<(&'static str, Vec<u8>)> {
     ]
 }
 
+/// Texts with such runs and groups that the parser refuses only near their end.
+pub fn refused_runs() -> Vec<(&'static str, Vec<u8>)> {
+    let nested = |depth: usize, open: &str, inside: &[u8], close: &str| {
+        let mut text = repeated("", open, depth, "");
+        text.extend_from_slice(inside);
+        text.extend(repeated("", close, depth, ""));
+        text
+    };
+    vec![
+        ("labels and no statement", repeated("", "a:", MOST_TREES / 2, "")),
+        ("ifs and no statement", repeated("", "if(a)", MOST_TREES / 3, "")),
+        ("assignments and no value", repeated("", "a=", MOST_TREES / 2, "")),
+        ("assignments and an open divide", repeated("", "a=", MOST_TREES / 2 - 1, "a/")),
+        ("operators and no operand", repeated("a", "/a+a", MOST_TREES / 4 - 1, "/")),
+        ("calls and no semicolon", repeated("a", "(a)", (MOST_TREES - 1) / 2, "")),
+        ("functions and an open function", repeated("", "function f(a){}", MOST_TREES / 5 - 1, "function f(a)")),
+        ("parentheses and no operand", nested(DEEPEST, "a=(", &repeated("", "a=", (MOST_TREES - 3 * DEEPEST) / 2, ""), ")")),
+        ("operators, functions and an open divide", nested(DEEPEST, "a+a/function f(a){", &repeated("", "a=", 7_740, "a+a/"), "}")),
+        ("functions and no statement", nested(DEEPEST - 1, "if(a)x=function f(a){", &repeated("", "if(a)", (MOST_TREES - 10 * DEEPEST) / 3, ""), "}")),
+    ]
+}
+
 /// Texts near the limits of length, depth and records.
 pub fn limits() -> Vec<Vec<u8>> {
     let mut texts: Vec<Vec<u8>> = Vec::new();
@@ -373,6 +395,9 @@ pub fn limits() -> Vec<Vec<u8>> {
         texts.push(repeated("", "a;", count / 2, "while"));
         texts.push(repeated("", "a;", count / 2, "(((1.x"));
         texts.push(repeated("", "a;", count / 2, ")"));
+    }
+    for (_, text) in refused_runs() {
+        texts.push(text);
     }
     for (_, text) in longest_runs() {
         let mut cut = text.clone();

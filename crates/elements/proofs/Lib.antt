@@ -11,4 +11,4 @@ pub mod OwnBytes
 pub mod FoundKinds
 pub mod Delimiters
 pub mod PartLaws
-pub mod FirstBytes
+pub mod Spellings

@@ -9,8 +9,12 @@ use Rattle.prefix.specs.Levels.{isExpression}
 use Rattle.prefix.specs.Summary.{Summary, nothing, braceBy, slashBy, add, code}
 use Rattle.prefix.proofs.Finite.{bothBools, at-bool, allSummaries, at-summary}
 use Rattle.grammar.specs.Tokens.{pattern, divide}
-use Rattle.grammar.specs.Grammar.{Scope, body, block}
+use Rattle.grammar.specs.Grammar.{body, block}
 use Rattle.grammar.specs.Machine.{
+  ifNest,
+  Setting,
+  among,
+  inNest,
   Ending,
   byStatement,
   byReturn,
@@ -20,6 +24,7 @@ use Rattle.grammar.specs.Machine.{
   operandIn,
   Control,
   statementDue,
+  statementDone,
   nameFirst,
   returnFirst,
   ifFirst,
@@ -41,17 +46,20 @@ use Rattle.grammar.specs.Machine.{
   fail,
   goto,
   push,
+  enter,
   pop,
+  leave,
   finish,
   Entry,
   on,
+  otherwise,
   look,
   row,
   endOfText,
 }
 use Rattle.text.proofs.Members.{Has, here, there, allIn, at, isIn, found}
 use Rattle.grammar.proofs.Classes.{isLeaf, treeClass}
-use Rattle.grammar.proofs.Related.{kinds, summaries, codes, related}
+use Rattle.grammar.proofs.Related.{kinds, summaries, codes, related, settled, implies, implied, takesOver}
 use Rattle.grammar.proofs.ClassSteps.{opensGroup, openedKind, closesGroup, closesKind}
 
 -- a slash is taken as the summary answers
@@ -63,17 +71,20 @@ unfoldable pub opensRight : ℕ → Summary → Bool → ℕ → Control → Con
 opensRight kind s line group within behind = related within group nothing && related behind kind (add (isExpression kind) s (groupClass group) line)
 
 -- What is asked of an action for a class of tokens: a tree more, a group more or a group ended leaves the machine where it may
--- stand. The whole text, of kind 0, is no group: there the machine stops.
+-- stand, and a nest is left only where a statement is complete. The whole text, of kind 0, is no group: there the machine stops.
 unfoldable pub allows : ℕ → Summary → Bool → ℕ → Action → Bool
 allows kind s line class fail = true
 allows kind s line class (goto next effect) = slashRight s class && (isLeaf class && related next kind (add (isExpression kind) s (treeClass class) line))
 allows kind s line class (push within behind closing) =
     slashRight s class && (opensGroup class && opensRight kind s line (openedKind (braceBy (isExpression kind) s line) class) within behind)
+allows kind s line class (enter within behind closing) =
+    slashRight s class && (isLeaf class && (related within kind (add (isExpression kind) s (treeClass class) line) && takesOver behind))
 allows kind s line class (pop value) = slashRight s class && (closesGroup class && (eqb kind 0 || closesKind class kind))
+allows kind s line class (leave value) = settled kind s
 allows kind s line class finish = eqb class endOfText
 
 -- the same part by part
-both : (a b : Bool) → T (a && b) → T a × T b
+pub both : (a b : Bool) → T (a && b) → T a × T b
 both a b t = (and-left a b t, and-right a b t)
 
 three : (a b c : Bool) → T (a && (b && c)) → T a × T b × T c
@@ -97,6 +108,17 @@ module _ (kind : ℕ) (s : Summary) (line : Bool) where
     push-allowed within behind closing =
         three (slashRight s class) (opensGroup class) (opensRight kind s line (openedKind (braceBy (isExpression kind) s line) class) within behind)
 
+    pub enter-allowed : (within behind : Control) (closing : Closing) → T (allows kind s line class (enter within behind closing))
+        → T (slashRight s class) × T (isLeaf class)
+        × T (related within kind (add (isExpression kind) s (treeClass class) line) && takesOver behind)
+    unfolding allows
+    enter-allowed within behind closing =
+        three (slashRight s class) (isLeaf class) (related within kind (add (isExpression kind) s (treeClass class) line) && takesOver behind)
+
+    pub leave-allowed : (value : Value) → T (allows kind s line class (leave value)) → T (settled kind s)
+    unfolding allows
+    leave-allowed value t = t
+
     pub pop-allowed : (value : Value) → T (allows kind s line class (pop value))
         → T (slashRight s class) × T (closesGroup class) × T (eqb kind 0 || closesKind class kind)
     unfolding allows
@@ -106,13 +128,30 @@ module _ (kind : ℕ) (s : Summary) (line : Bool) where
     unfolding allows
     finish-allowed t = t
 
+-- what is asked of the action for any other class: to leave the token to another row, if anything
+abbrev allowsOther : ℕ → Summary → Action → Bool
+allowsOther kind s fail = true
+allowsOther kind s (goto next effect) = false
+allowsOther kind s (push within behind closing) = false
+allowsOther kind s (enter within behind closing) = false
+allowsOther kind s (pop value) = false
+allowsOther kind s (leave value) = settled kind s
+allowsOther kind s finish = false
+
 -- the test of a control: all entries of its rows, wherever it may stand
 abbrev allowsEntry : ℕ → Summary → Bool → Entry → Bool
 allowsEntry kind s line (on class action) = allows kind s line class action
+allowsEntry kind s line (otherwise action) = allowsOther kind s action
 
-abbrev implies : Bool → Bool → Bool
-implies true b = b
-implies false b = true
+other-allowed : (kind : ℕ) (s : Summary) (line : Bool) (class : ℕ) (action : Action) → T (allowsOther kind s action) → T (allows kind s line class action)
+unfolding allows
+other-allowed kind s line class fail t = tt
+other-allowed kind s line class (goto next effect) t = absurd t
+other-allowed kind s line class (push within behind closing) t = absurd t
+other-allowed kind s line class (enter within behind closing) t = absurd t
+other-allowed kind s line class (pop value) t = absurd t
+other-allowed kind s line class (leave value) t = t
+other-allowed kind s line class finish t = absurd t
 
 unfoldable passes : Control → ℕ → Summary → Bool
 passes control kind s = implies (related control kind s) (bothBools λ line. allIn (allowsEntry kind s line) (row control line))
@@ -120,27 +159,39 @@ passes control kind s = implies (related control kind s) (bothBools λ line. all
 unfoldable test : Control → Bool
 test control = allIn (λ kind. allSummaries λ s. passes control kind s) (kinds control)
 
--- all endings and scopes
-abbrev scopes : List Scope
-scopes = body ∷ block ∷ []
+-- all endings and settings
+abbrev settings : List Setting
+settings = among body ∷ among block ∷ inNest ifNest ∷ []
 
-a-scope : (scope : Scope) → Has scope scopes
-a-scope body = here
-a-scope block = there here
+a-setting : (setting : Setting) → Has setting settings
+a-setting (among body) = here
+a-setting (among block) = there here
+a-setting (inNest ifNest) = there (there here)
 
 abbrev endings : List Ending
-endings = byStatement body ∷ byStatement block ∷ byReturn body ∷ byReturn block ∷ byParen ∷ byBrace ∷ []
+endings =
+    byStatement (among body)
+    ∷ byStatement (among block)
+    ∷ byStatement (inNest ifNest)
+    ∷ byReturn (among body)
+    ∷ byReturn (among block)
+    ∷ byReturn (inNest ifNest)
+    ∷ byParen
+    ∷ byBrace
+    ∷ []
 
 an-ending : (ending : Ending) → Has ending endings
-an-ending (byStatement body) = here
-an-ending (byStatement block) = there here
-an-ending (byReturn body) = there (there here)
-an-ending (byReturn block) = there (there (there here))
-an-ending byParen = there (there (there (there here)))
-an-ending byBrace = there (there (there (there (there here))))
+an-ending (byStatement (among body)) = here
+an-ending (byStatement (among block)) = there here
+an-ending (byStatement (inNest ifNest)) = there (there here)
+an-ending (byReturn (among body)) = there (there (there here))
+an-ending (byReturn (among block)) = there (there (there (there here)))
+an-ending (byReturn (inNest ifNest)) = there (there (there (there (there here))))
+an-ending byParen = there (there (there (there (there (there here)))))
+an-ending byBrace = there (there (there (there (there (there (there here))))))
 
-each-scope : (control : Scope → Control) → T (allIn (λ scope. test (control scope)) scopes) → (scope : Scope) → T (test (control scope))
-each-scope control t scope = at (λ scope. test (control scope)) (a-scope scope) t
+each-setting : (control : Setting → Control) → T (allIn (λ setting. test (control setting)) settings) → (setting : Setting) → T (test (control setting))
+each-setting control t setting = at (λ setting. test (control setting)) (a-setting setting) t
 
 each-ending : (control : Ending → Bool → Control) → T (allIn (λ ending. bothBools λ target. test (control ending target)) endings)
     → (ending : Ending) (target : Bool) → T (test (control ending target))
@@ -148,12 +199,13 @@ each-ending control t ending target =
     at-bool (λ target. test (control ending target)) (at (λ ending. bothBools λ target. test (control ending target)) (an-ending ending) t) target
 
 passed : (control : Control) → T (test control)
-unfolding test passes related allows opensRight slashRight isLeaf treeClass groupClass
-passed (statementDue true scope) = each-scope (statementDue true) tt scope
-passed (statementDue false scope) = each-scope (statementDue false) tt scope
-passed (nameFirst scope) = each-scope nameFirst tt scope
-passed (returnFirst scope) = each-scope returnFirst tt scope
-passed (ifFirst scope) = each-scope ifFirst tt scope
+unfolding test passes related allows opensRight slashRight isLeaf treeClass groupClass takesOver
+passed (statementDue true setting) = each-setting (statementDue true) tt setting
+passed (statementDue false setting) = each-setting (statementDue false) tt setting
+passed (statementDone ifNest) = tt
+passed (nameFirst setting) = each-setting nameFirst tt setting
+passed (returnFirst setting) = each-setting returnFirst tt setting
+passed ifFirst = tt
 passed (operandDue ending target) = each-ending operandDue tt ending target
 passed (operandDone ending target) = each-ending operandDone tt ending target
 passed (dotLast ending target) = each-ending dotLast tt ending target
@@ -180,10 +232,8 @@ looked kind s line (on x action ∷ rest) class t =
     go : (b : Bool) → (T b → T (eqb class x)) → T (allows kind s line class (look class rest)) → T (allows kind s line class (cond b action (look class rest)))
     go true h r = rw (eqb→eq class x (h tt)) (and-left (allows kind s line x action) (allIn (allowsEntry kind s line) rest) t)
     go false h r = r
-
-implied : (a b : Bool) → T (implies a b) → T a → T b
-implied true b t s = t
-implied false b t s = absurd s
+looked kind s line (otherwise action ∷ rest) class t =
+    other-allowed kind s line class action (and-left (allowsOther kind s action) (allIn (allowsEntry kind s line) rest) t)
 
 -- where a control may stand, each of its actions is as asked
 pub rule : (control : Control) (kind : ℕ) (s : Summary) → T (related control kind s) → (line : Bool) (class : ℕ)

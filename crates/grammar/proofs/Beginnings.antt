@@ -16,7 +16,6 @@ use Rattle.grammar.specs.Grammar.{
   isOperator,
   startsExpression,
   onSameLine,
-  Scope,
   Chain,
   chain-leaf,
   chain-empty,
@@ -36,9 +35,11 @@ use Rattle.grammar.specs.Machine.{
   Pending,
   Frame,
   frame,
+  Setting,
   statementDue,
   nameFirst,
   returnFirst,
+  behindStatement,
   operandDue,
   operandDone,
   byStatement,
@@ -55,8 +56,8 @@ use Rattle.grammar.specs.Machine.{
   Held,
   live,
   act,
-  run,
 }
+use Rattle.grammar.proofs.Ran.{ran}
 use Rattle.grammar.proofs.TableLaws.{at-operator, look-past, no-line}
 
 -- a token comes, and it is no `:`
@@ -101,26 +102,26 @@ assign-begins (assign-binary binary) next = binary-begins binary next
 assign-begins (assign-to target value) next = chain-begins target tt
 
 -- a name before no `:` is an operand
-name-is-operand : (scope : Scope) (f : Frame) (around : List Held) (rest : List Token) → T (noColon rest)
-    → run (live (nameFirst scope) f around) rest ≡ run (live (operandDone (byStatement scope) true) f around) rest
-name-is-operand scope f around [] next = absurd next
-name-is-operand scope f around (token class spot ∷ rest) next =
-    ap (λ (z : Action). run (act z (spot .mark) f around) rest)
-    (look-past class colon (goto (statementDue true scope) takeLabel) (afterOperand (byStatement scope) true) next)
+name-is-operand : (stop : Spot) (setting : Setting) (f : Frame) (around : List Held) (rest : List Token) → T (noColon rest)
+    → ran stop (live (nameFirst setting) f around) rest ≡ ran stop (live (operandDone (byStatement setting) true) f around) rest
+name-is-operand stop setting f around [] next = absurd next
+name-is-operand stop setting f around (token class spot ∷ rest) next =
+    ap (λ (z : Action). ran stop (act z class spot f around) rest)
+    (look-past class colon (goto (statementDue true setting) takeLabel) (afterOperand (byStatement setting) true) next)
 
 -- "not starting with `{` or `function`": a statement that begins as an expression is taken as one
-pub expression-is-taken : (must : Bool) (scope : Scope) (done : Syntax) (starts : List Pending) (around : List Held) {before : List Token}
+pub expression-is-taken : (stop : Spot) (must : Bool) (setting : Setting) (done : Syntax) (starts : List Pending) (around : List Held) {before : List Token}
     → Begins before → T (startsExpression before)
-    → run (live (statementDue must scope) (frame done starts [] nil) around) before
-    ≡ run (live (operandDue (byStatement scope) true) (frame done starts [] nil) around) before
-expression-is-taken must scope done starts around (by-name {spot = spot} {rest = rest} next) allowed =
-    name-is-operand scope (frame done starts [] (node name (spot .mark) nil nil)) around rest next
-expression-is-taken must scope done starts around by-number allowed = refl
-expression-is-taken must scope done starts around by-string allowed = refl
-expression-is-taken must scope done starts around by-pattern allowed = refl
-expression-is-taken must scope done starts around by-parens allowed = refl
-expression-is-taken must scope done starts around by-object allowed = absurd allowed
-expression-is-taken must scope done starts around by-function allowed = absurd allowed
+    → ran stop (live (statementDue must setting) (frame done starts [] nil) around) before
+    ≡ ran stop (live (operandDue (byStatement setting) true) (frame done starts [] nil) around) before
+expression-is-taken stop must setting done starts around (by-name {spot = spot} {rest = rest} next) allowed =
+    name-is-operand stop setting (frame done starts [] (node name (spot .mark) nil nil)) around rest next
+expression-is-taken stop must setting done starts around by-number allowed = refl
+expression-is-taken stop must setting done starts around by-string allowed = refl
+expression-is-taken stop must setting done starts around by-pattern allowed = refl
+expression-is-taken stop must setting done starts around by-parens allowed = refl
+expression-is-taken stop must setting done starts around by-object allowed = absurd allowed
+expression-is-taken stop must setting done starts around by-function allowed = absurd allowed
 
 pub begins-no-semicolon : {class : ℕ} {spot : Spot} {rest : List Token} → Begins (token class spot ∷ rest) → T (not (eqb class semicolon))
 begins-no-semicolon (by-name next) = tt
@@ -132,10 +133,10 @@ begins-no-semicolon by-object = tt
 begins-no-semicolon by-function = tt
 
 -- "with no line end after `return`": a value is taken
-pub value-is-returned : (scope : Scope) (f : Frame) (around : List Held) (before : List Token) → Begins before → T (onSameLine before)
-    → run (live (returnFirst scope) f around) before ≡ run (live (operandDue (byReturn scope) true) f around) before
-value-is-returned scope f around (token class spot ∷ rest) begins same =
-    ap (λ (z : Action). run (act z (spot .mark) f around) rest)
-    (look-past class semicolon (goto (statementDue false scope) endBareReturn) (unlessLine (spot .line) (operand (byReturn scope) true))
+pub value-is-returned : (stop : Spot) (setting : Setting) (f : Frame) (around : List Held) (before : List Token) → Begins before → T (onSameLine before)
+    → ran stop (live (returnFirst setting) f around) before ≡ ran stop (live (operandDue (byReturn setting) true) f around) before
+value-is-returned stop setting f around (token class spot ∷ rest) begins same =
+    ap (λ (z : Action). ran stop (act z class spot f around) rest)
+    (look-past class semicolon (goto (behindStatement setting) endBareReturn) (unlessLine (spot .line) (operand (byReturn setting) true))
     (begins-no-semicolon begins)
-    ∙ ap (λ (z : List Entry). look class z) (no-line (spot .line) (operand (byReturn scope) true) same))
+    ∙ ap (λ (z : List Entry). look class z) (no-line (spot .line) (operand (byReturn setting) true) same))

@@ -12,6 +12,7 @@ use Rattle.grammar.specs.Tokens.{Token, classOf, tokenOf, tokensFrom, to
 use Rattle.grammar.specs.Grammar.{Program}
 use Rattle.grammar.specs.Derivations.{SameElements, no-elements, same-element, BeginsProgram}
 use Rattle.grammar.specs.Machine.{State, dead, live, Control, Frame, Held, finished, take, run, start}
+use Rattle.grammar.proofs.Alike.{Alike, alike, alike-live, alike-dead, take-alike}
 use Rattle.grammar.proofs.ReadCuts.{CutsInto}
 use Rattle.grammar.proofs.Spelling.{spelled, placedFrom, spelled-cuts, behindAll, placed-append}
 use Rattle.grammar.proofs.Respelled.{Pieces, piece-more}
@@ -20,11 +21,6 @@ use Rattle.grammar.proofs.Viable.{viable, refused}
 use Rattle.grammar.proofs.Unfinished.{unfinished}
 use Rattle.grammar.proofs.TokenLaws.{tokens-before-end}
 
--- the machine does not look at the place of a token
-take-same : (state : State) (mark : ℕ) (e f : Element) → classOf e ≡ classOf f → e .line ≡ f .line → take state (tokenOf mark e) ≡ take state (tokenOf mark f)
-take-same dead mark e f c l = refl
-take-same (live control g around) mark e f c l = rw (c, l)
-
 class-same : (e f : Element) → e .kind ≡ f .kind → e .which ≡ f .which → classOf e ≡ classOf f
 unfolding classOf
 class-same e f k w = rw (k, w)
@@ -32,13 +28,20 @@ class-same e f k w = rw (k, w)
 closer-same : (e f : Element) → e .kind ≡ f .kind → e .which ≡ f .which → isCloser e ≡ isCloser f
 closer-same e f k w = rw (k, w)
 
-pub run-same : {s t : List ℕ} {es fs : List Element} → SameElements s t es fs → (mark : ℕ) (state : State) → run state (tokensFrom mark es) ≡ run state (tokensFrom mark fs)
+-- the machine takes elements alike that differ in their places alone
+element-alike : (mark : ℕ) (e f : Element) → classOf e ≡ classOf f → e .line ≡ f .line → {state other : State} → Alike state other
+    → Alike (take state (tokenOf mark e)) (take other (tokenOf mark f))
+element-alike mark e f c l a = rw (c, l) (take-alike (f .line) mark (e .first) (f .first) (classOf f) a)
+
+pub run-alike : {s t : List ℕ} {es fs : List Element} → SameElements s t es fs → (mark : ℕ) {state other : State} → Alike state other
+    → Alike (run state (tokensFrom mark es)) (run other (tokensFrom mark fs))
 unfolding tokensFrom
-run-same no-elements mark state = refl
-run-same (same-element {e} {f} {es} {fs} same rest) mark state =
-    ap (λ (after : State). run after (tokensFrom (cond (isCloser e) mark (mark + 1)) es)) (take-same state mark e f (class-same e f (same .kind) (same .which)) (same .line))
-    ∙ ap (λ (b : Bool). run (take state (tokenOf mark f)) (tokensFrom (cond b mark (mark + 1)) es)) (closer-same e f (same .kind) (same .which))
-    ∙ run-same rest (cond (isCloser f) mark (mark + 1)) (take state (tokenOf mark f))
+run-alike no-elements mark a = a
+run-alike (same-element {e} {f} {es} {fs} same rest) mark {state} {other} a =
+    subst (λ (b : Bool). Alike (run (take state (tokenOf mark e)) (tokensFrom (cond b mark (mark + 1)) es)) (run (take other (tokenOf mark f)) (tokensFrom (cond (isCloser f) mark (mark + 1)) fs)))
+    (sym (closer-same e f (same .kind) (same .which)))
+    (run-alike rest (cond (isCloser f) mark (mark + 1))
+    (element-alike mark e f (class-same e f (same .kind) (same .which)) (same .line) a))
 
 -- tokens of elements one after the other
 abbrev marksAfter : ℕ → List Element → ℕ
@@ -67,7 +70,7 @@ module _ (s : List ℕ) (all es rest : List Element) (cuts : CutsInto s 0 all) (
   begins control f around r going =
       let p = first-pieces s (cuts .cut) es rest split in
       let firsts = placedFrom 0 (p .pieces) in
-      let v = viable (tokens firsts) control f around (sym (run-same (p .same [] []) 0 start) ∙ r) going in
+      let v = viable (tokens firsts) control f around (alike-live (run-alike (p .same [] []) 0 alike) r) going in
       let c = completed (v .spelled) in
       let more = placedFrom (behindAll 0 (p .pieces)) (c .pieces) in
       let cut = spelled-cuts [] (p .pieces ++ c .pieces) in
@@ -89,9 +92,9 @@ module _ (s : List ℕ) (all es rest : List Element) (cuts : CutsInto s 0 all) (
       }
 
 -- where it follows them no longer, none does
-pub begins-not : (s : List ℕ) (es : List Element) → run start (tokens es) ≡ dead → BeginsProgram s es → ⊥
+pub begins-not : (s : List ℕ) (es : List Element) {place : ℕ} → run start (tokens es) ≡ dead place → BeginsProgram s es → ⊥
 begins-not s es r b =
-    refused (tokens (b .firsts)) (sym (run-same (b .same) 0 start) ∙ r) (tokensFrom (marksAfter 0 (b .firsts)) (b .more)) (b .derivation .parts)
+    refused (tokens (b .firsts)) (alike-dead (run-alike (b .same) 0 alike) r .1) (tokensFrom (marksAfter 0 (b .firsts)) (b .more)) (b .derivation .parts)
     (subst (λ (ts : List Token). Program ts (b .derivation .parts)) (ap tokens (b .starts) ∙ tokens-append 0 (b .firsts) (b .more)) (b .derivation .steps))
 
 -- no element is the end of the text

@@ -97,7 +97,7 @@ endMark [] = 0
 endMark (token class spot ∷ ts) = cond (eqb class endOfText) (spot .mark) (endMark ts)
 
 abbrev partsOf : State → Syntax
-partsOf dead = nil
+partsOf (dead place) = nil
 partsOf (live control f around) = doneOf f
 
 unfoldable records : String → List ℕ

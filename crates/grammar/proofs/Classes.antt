@@ -1,12 +1,19 @@
 -- What the class of an element tells of it.
-use mathlib.Core.Path.{_≡_}
-use mathlib.Core.Bool.{Bool, true, false, not, cond, _||_}
+use mathlib.Core.Path.{_≡_, refl, sym, subst, _∙_}
+use mathlib.Core.Bool.{Bool, true, false, not, cond, _&&_, _||_}
 use mathlib.Core.List.{List, [], _∷_}
 use Prim.Native.Nat.{ℕ}
 use native.Mathlib.Omega.{arith}
 use borrow.Author.Tests.{eqb-true}
 use lib.Dec.{T, T-not, eqb}
-use Rattle.elements.specs.Elements.{nameKind, wordKind, numberKind, stringKind, patternKind, signKind, delimiterKind, isWord, isSign}
+use Rattle.text.specs.Runs.{same}
+use Rattle.text.proofs.Range.{and-left, and-right}
+use Rattle.text.proofs.Members.{allIn, at, isIn, found}
+use Rattle.vocabulary.specs.Vocabulary.{Row, words, signs, ruleClass, tokenClass, rowAt}
+use Rattle.vocabulary.proofs.RowLaws.{at-row, at-other}
+use Rattle.vocabulary.proofs.ClassLaws.{isClass, is-class}
+use Rattle.signs.specs.Signs.{longestSign, longestOf}
+use Rattle.elements.specs.Elements.{nameKind, wordKind, numberKind, stringKind, patternKind, signKind, delimiterKind, delimiter, isSign}
 use Rattle.elements.specs.declared.Element.{Element}
 use Rattle.elements.proofs.Choices.{cond-known}
 use Rattle.prefix.specs.Rule.{Class, elementClass}
@@ -33,13 +40,12 @@ use Rattle.grammar.specs.Tokens.{
   delimiterClass,
   classOf,
 }
-use Rattle.text.proofs.Members.{allIn, at, isIn, found}
 
 -- a class of tokens that are trees by themselves, and the class of these trees
-pub data Row : Type 0 where
-  is : ℕ → Class → Row
+pub data TreeRow : Type 0 where
+  is : ℕ → Class → TreeRow
 
-abbrev leaves : List Row
+abbrev leaves : List TreeRow
 leaves =
     is name Class.name
     ∷ is number Class.literal
@@ -56,11 +62,11 @@ leaves =
     ∷ is ifWord Class.ifWord
     ∷ []
 
-abbrev classesOf : List Row → List ℕ
+abbrev classesOf : List TreeRow → List ℕ
 classesOf [] = []
 classesOf (is x tree ∷ rows) = x ∷ classesOf rows
 
-abbrev treeIn : List Row → ℕ → Class
+abbrev treeIn : List TreeRow → ℕ → Class
 treeIn [] class = Class.other
 treeIn (is x tree ∷ rows) class = cond (eqb class x) tree (treeIn rows class)
 
@@ -79,41 +85,54 @@ pub data Told (e : Element) : ℕ → Type 0 where
   told-close-brace : e .kind ≡ 0 → isSign "}" (e .which) ≡ true → Told e closeBrace
   told-nothing : Told e 0
 
+-- a word or sign that has a class of its own is a tree by itself, of the class that its row has for the prefix rule
+abbrev asLeaf : Row → Bool
+asLeaf row = eqb (tokenClass row) 0 || (isLeaf (tokenClass row) && isClass (treeClass (tokenClass row)) (ruleClass row))
+
+words-are-leaves : (which : ℕ) → T (asLeaf (rowAt words which))
+unfolding isLeaf treeClass
+words-are-leaves which = at-row (λ number row. asLeaf row) words tt which tt
+
+signs-are-leaves : (which : ℕ) → delimiter which ≡ false → T (asLeaf (rowAt signs which))
+unfolding isLeaf treeClass delimiter longestSign longestOf same
+signs-are-leaves which other = at-other asLeaf delimiter signs tt tt which other
+
 module _ (e : Element) where
-  word : e .kind ≡ wordKind → Told e (wordClass (e .which))
-  unfolding elementClass isLeaf treeClass
-  word k = go (isWord "return" (e .which)) (isWord "function" (e .which)) (isWord "if" (e .which)) (rw (elementClass, k))
+  told-row : (row : Row) → T (asLeaf row) → (e .kind ≡ 0 → ⊥) → elementClass e ≡ ruleClass row → Told e (tokenClass row)
+  told-row row t n c = go (eqb (tokenClass row) 0) refl t
     where
-      go : (a b c : Bool) → elementClass e ≡ cond a Class.returnWord (cond b Class.functionWord (cond c Class.ifWord Class.other))
-          → Told e (cond a returnWord (cond b functionWord (cond c ifWord 0)))
-      go true b c q = told-leaf (λ z. omega arith) tt q
-      go false true c q = told-leaf (λ z. omega arith) tt q
-      go false false true q = told-leaf (λ z. omega arith) tt q
-      go false false false q = told-nothing
+      go : (b : Bool) → eqb (tokenClass row) 0 ≡ b → T (b || (isLeaf (tokenClass row) && isClass (treeClass (tokenClass row)) (ruleClass row)))
+          → Told e (tokenClass row)
+      go true none t = rw (eqb-true (tokenClass row) 0 none) told-nothing
+      go false some t =
+          told-leaf n (and-left (isLeaf (tokenClass row)) (isClass (treeClass (tokenClass row)) (ruleClass row)) t)
+          (c ∙ is-class (treeClass (tokenClass row)) (ruleClass row) (and-right (isLeaf (tokenClass row)) (isClass (treeClass (tokenClass row)) (ruleClass row)) t))
+
+  word : e .kind ≡ wordKind → Told e (wordClass (e .which))
+  unfolding elementClass
+  word k = told-row (rowAt words (e .which)) (words-are-leaves (e .which)) (λ z. omega arith) (rw (elementClass, k))
 
   sign : e .kind ≡ signKind → Told e (signClass (e .which))
-  unfolding elementClass isLeaf treeClass
+  unfolding elementClass
   sign k =
-      go (isSign "/" (e .which)) (isSign "+" (e .which)) (isSign "=" (e .which)) (isSign ":" (e .which)) (isSign ";" (e .which)) (isSign "." (e .which))
-      (rw (elementClass, k))
-    where
-      go : (a b c d f g : Bool) → elementClass e ≡ cond (a || b || c) Class.operator (cond d Class.colon Class.other)
-          → Told e (cond a divide (cond b plus (cond c assign (cond d colon (cond f semicolon (cond g dot 0))))))
-      go true b c d f g q = told-leaf (λ z. omega arith) tt q
-      go false true c d f g q = told-leaf (λ z. omega arith) tt q
-      go false false true d f g q = told-leaf (λ z. omega arith) tt q
-      go false false false true f g q = told-leaf (λ z. omega arith) tt q
-      go false false false false true g q = told-leaf (λ z. omega arith) tt q
-      go false false false false false true q = told-leaf (λ z. omega arith) tt q
-      go false false false false false false q = told-nothing
+      cond-known (Told e) (delimiter (e .which)) (λ d. told-nothing) λ other.
+      told-row (rowAt signs (e .which)) (signs-are-leaves (e .which) other) (λ z. omega arith) (rw (elementClass, k))
 
-  delimiter : e .kind ≡ delimiterKind → Told e (delimiterClass (e .which))
-  delimiter k =
-      cond-known (Told e) (isSign "(" (e .which)) (told-open-paren k) λ z.
-      cond-known (Told e) (isSign ")" (e .which)) (told-close-paren k) λ z.
-      cond-known (Told e) (isSign "{" (e .which)) (told-open-brace k) λ z.
-      cond-known (Told e) (isSign "}" (e .which)) (told-close-brace k) λ z.
-      told-nothing
+  delimiter-told : e .kind ≡ delimiterKind → Told e (delimiterClass (e .which))
+  unfolding delimiter rowAt longestSign longestOf same
+  delimiter-told k =
+      go (isSign "{" (e .which)) (isSign "}" (e .which)) (isSign "(" (e .which)) (isSign ")" (e .which)) refl refl refl refl
+    where
+      at-sign : (number : ℕ) → eqb (e .which) number ≡ true → Told e (tokenClass (rowAt signs number)) → Told e (tokenClass (rowAt signs (e .which)))
+      at-sign number q t = subst (λ (n : ℕ). Told e (tokenClass (rowAt signs n))) (sym (eqb-true (e .which) number q)) t
+
+      go : (a b c d : Bool) → isSign "{" (e .which) ≡ a → isSign "}" (e .which) ≡ b → isSign "(" (e .which) ≡ c → isSign ")" (e .which) ≡ d
+          → Told e (cond (a || b || c || d) (tokenClass (rowAt signs (e .which))) 0)
+      go true b c d p q r s = at-sign 1 p (told-open-brace k p)
+      go false true c d p q r s = at-sign 2 q (told-close-brace k q)
+      go false false true d p q r s = at-sign 3 r (told-open-paren k r)
+      go false false false true p q r s = at-sign 4 s (told-close-paren k s)
+      go false false false false p q r s = told-nothing
 
   pub told : Told e (classOf e)
   unfolding classOf elementClass isLeaf treeClass
@@ -124,7 +143,7 @@ module _ (e : Element) where
       by stringKind (λ k. told-leaf {class = string} (λ z. omega arith) tt (rw (elementClass, k))) λ z.
       by patternKind (λ k. told-leaf {class = pattern} (λ z. omega arith) tt (rw (elementClass, k))) λ z.
       by signKind sign λ z.
-      by delimiterKind delimiter λ z.
+      by delimiterKind delimiter-told λ z.
       told-nothing
     where
       by : (kind : ℕ) {x y : ℕ} → (e .kind ≡ kind → Told e x) → (eqb (e .kind) kind ≡ false → Told e y) → Told e (cond (eqb (e .kind) kind) x y)

@@ -5,7 +5,7 @@ use mathlib.Core.List.{List, [], _∷_, _++_}
 use Prim.Native.Nat.{ℕ, _<_, _+_}
 use native.Mathlib.Omega.{arith}
 use Rattle.grammar.specs.Tokens.{Token, token, Spot, assign}
-use Rattle.grammar.specs.Syntax.{Syntax, nil, node, fullReturnSyntax, labelSyntax, ifSyntax, functionSyntax, declarationSyntax}
+use Rattle.grammar.specs.Syntax.{Syntax, nil, node, snoc, fullReturnSyntax, labelSyntax, ifSyntax, functionSyntax, declarationSyntax}
 use Rattle.grammar.specs.Grammar.{
   Leaf,
   leaf-name,
@@ -13,7 +13,6 @@ use Rattle.grammar.specs.Grammar.{
   leaf-string,
   leaf-pattern,
   precedence,
-  Scope,
   body,
   Form,
   chainForm,
@@ -56,6 +55,7 @@ use Rattle.grammar.specs.Machine.{
   completeStatement,
   markOf,
   heldWord,
+  toStatement,
   Ending,
   byStatement,
   byReturn,
@@ -64,19 +64,28 @@ use Rattle.grammar.specs.Machine.{
   Role,
   declared,
   operandIn,
+  Nest,
+  ifNest,
+  Setting,
+  among,
+  inNest,
   Control,
   statementDue,
+  statementDone,
+  behindStatement,
   operandDue,
   operandDone,
   functionFirst,
   finished,
   Held,
+  nested,
   State,
   dead,
   live,
   run,
   start,
 }
+use Rattle.grammar.proofs.Ran.{ran, ran-is-run, anywhere}
 use Rattle.grammar.proofs.ReduceLaws.{Looser, looser-up}
 use Rattle.grammar.proofs.Beginnings.{assign-begins, expression-is-taken, value-is-returned}
 use Rattle.grammar.proofs.Passing.{
@@ -92,123 +101,131 @@ use Rattle.grammar.proofs.Passing.{
 
 -- behind a function: the control, and the frame
 abbrev pub behindFunction : Role → Control
-behindFunction declared = statementDue false body
+behindFunction declared = statementDue false (among body)
 behindFunction (operandIn ending target) = operandDone ending target
 
 abbrev withFunction : Role → Syntax → Syntax → List Pending → List Pending → Syntax → Frame
 withFunction declared inside done starts waiting word = completeStatement done starts (node declarationSyntax (markOf word) inside nil)
 withFunction (operandIn ending target) inside done starts waiting word = frame done starts waiting (node functionSyntax (markOf word) inside nil)
 
-leaf-taken : {class : ℕ} (spot : Spot) (after : List Token) (ending : Ending) (target : Bool) (done : Syntax) (starts waiting : List Pending)
+leaf-taken : {class : ℕ} (stop spot : Spot) (after : List Token) (ending : Ending) (target : Bool) (done : Syntax) (starts waiting : List Pending)
     (operand : Syntax) (around : List Held) → Leaf class
-    → run (live (operandDue ending target) (frame done starts waiting operand) around) (token class spot ∷ after)
-    ≡ run (live (operandDone ending target) (frame done starts waiting (node class (spot .mark) nil nil)) around) after
-leaf-taken spot after ending target done starts waiting operand around leaf-name = refl
-leaf-taken spot after ending target done starts waiting operand around leaf-number = refl
-leaf-taken spot after ending target done starts waiting operand around leaf-string = refl
-leaf-taken spot after ending target done starts waiting operand around leaf-pattern = refl
+    → ran stop (live (operandDue ending target) (frame done starts waiting operand) around) (token class spot ∷ after)
+    ≡ ran stop (live (operandDone ending target) (frame done starts waiting (node class (spot .mark) nil nil)) around) after
+leaf-taken stop spot after ending target done starts waiting operand around leaf-name = refl
+leaf-taken stop spot after ending target done starts waiting operand around leaf-number = refl
+leaf-taken stop spot after ending target done starts waiting operand around leaf-string = refl
+leaf-taken stop spot after ending target done starts waiting operand around leaf-pattern = refl
+
+-- a nest that is complete is left, whatever comes
+nest-left : (stop : Spot) (setting : Setting) (value : Syntax) (mark : ℕ) (done : Syntax) (starts : List Pending) (around : List Held) (after : List Token)
+    → ran stop (live (statementDone ifNest) (frame (snoc nil value) [] [] nil)
+    (nested (behindStatement setting) toStatement mark (frame done starts [] nil) ∷ around)) after
+    ≡ ran stop (live (behindStatement setting) (completeStatement done starts value) around) after
+nest-left stop setting value mark done starts around [] = refl
+nest-left stop setting value mark done starts around (token class spot ∷ after) = refl
 
 next : (n : ℕ) → n < n + 1
 next n = omega arith
 
 -- what the machine does with the tokens of a form, wherever it stands
-abbrev Taken : Form → List Token → List Token → Syntax → Type 0
-Taken chainForm before after value =
+abbrev Taken : Spot → Form → List Token → List Token → Syntax → Type 0
+Taken stop chainForm before after value =
     (ending : Ending) (target : Bool) (done : Syntax) (starts waiting : List Pending) (operand : Syntax) (around : List Held)
-    → run (live (operandDue ending target) (frame done starts waiting operand) around) before
-    ≡ run (live (operandDone ending target) (frame done starts waiting value) around) after
-Taken (binaryForm least) before after value =
+    → ran stop (live (operandDue ending target) (frame done starts waiting operand) around) before
+    ≡ ran stop (live (operandDone ending target) (frame done starts waiting value) around) after
+Taken stop (binaryForm least) before after value =
     (ending : Ending) (target : Bool) (done : Syntax) (starts waiting : List Pending) (operand : Syntax) (around : List Held)
     → Looser least waiting
-    → Passed ending done starts around least waiting (live (operandDue ending target) (frame done starts waiting operand) around) before after value
-Taken assignForm before after value =
+    → Passed stop ending done starts around least waiting (live (operandDue ending target) (frame done starts waiting operand) around) before after value
+Taken stop assignForm before after value =
     (ending : Ending) (done : Syntax) (starts waiting : List Pending) (operand : Syntax) (around : List Held) → Looser 1 waiting
-    → Passed ending done starts around 0 waiting (live (operandDue ending true) (frame done starts waiting operand) around) before after value
-Taken functionForm before after value =
+    → Passed stop ending done starts around 0 waiting (live (operandDue ending true) (frame done starts waiting operand) around) before after value
+Taken stop functionForm before after value =
     (role : Role) (done : Syntax) (starts waiting : List Pending) (word : Syntax) (around : List Held)
-    → run (live (functionFirst role) (frame done starts waiting word) around) before
-    ≡ run (live (behindFunction role) (withFunction role value done starts waiting word) around) after
-Taken statementForm before after value =
-    (must : Bool) (scope : Scope) (done : Syntax) (starts : List Pending) (around : List Held)
-    → run (live (statementDue must scope) (frame done starts [] nil) around) before
-    ≡ run (live (statementDue false scope) (completeStatement done starts value) around) after
-Taken (statementsForm scope) before after value =
-    (around : List Held) → run (live (statementDue false scope) empty around) before
-    ≡ run (live (statementDue false scope) (frame value [] [] nil) around) after
+    → ran stop (live (functionFirst role) (frame done starts waiting word) around) before
+    ≡ ran stop (live (behindFunction role) (withFunction role value done starts waiting word) around) after
+Taken stop statementForm before after value =
+    (must : Bool) (setting : Setting) (done : Syntax) (starts : List Pending) (around : List Held)
+    → ran stop (live (statementDue must setting) (frame done starts [] nil) around) before
+    ≡ ran stop (live (behindStatement setting) (completeStatement done starts value) around) after
+Taken stop (statementsForm scope) before after value =
+    (around : List Held) → ran stop (live (statementDue false (among scope)) empty around) before
+    ≡ ran stop (live (statementDue false (among scope)) (frame value [] [] nil) around) after
 
-taken : {form : Form} {before after : List Token} {value : Syntax} → Derives form before after value → Taken form before after value
-taken (chain-leaf {spot = spot} {after = after} leaf) =
-    λ ending target done starts waiting operand around. leaf-taken spot after ending target done starts waiting operand around leaf
-taken chain-empty = λ ending target done starts waiting operand around. refl
-taken (chain-object value) = λ ending target done starts waiting operand around. object-passed (taken value byBrace nil [] [] nil _ tt)
-taken (chain-parens value) = λ ending target done starts waiting operand around. parens-passed (taken value byParen nil [] [] nil _ tt)
-taken (chain-function {word = word} called) =
-    λ ending target done starts waiting operand around. taken called (operandIn ending target) done starts waiting (heldWord (word .mark)) around
-taken (chain-call callee value) =
+taken : (stop : Spot) {form : Form} {before after : List Token} {value : Syntax} → Derives form before after value → Taken stop form before after value
+taken stop (chain-leaf {spot = spot} {after = after} leaf) =
+    λ ending target done starts waiting operand around. leaf-taken stop spot after ending target done starts waiting operand around leaf
+taken stop chain-empty = λ ending target done starts waiting operand around. refl
+taken stop (chain-object value) = λ ending target done starts waiting operand around. object-passed (taken stop value byBrace nil [] [] nil _ tt)
+taken stop (chain-parens value) = λ ending target done starts waiting operand around. parens-passed (taken stop value byParen nil [] [] nil _ tt)
+taken stop (chain-function {word = word} called) =
+    λ ending target done starts waiting operand around. taken stop called (operandIn ending target) done starts waiting (heldWord (word .mark)) around
+taken stop (chain-call callee value) =
     λ ending target done starts waiting operand around.
-    taken callee ending target done starts waiting operand around ∙ parens-passed (taken value byParen nil [] [] nil _ tt)
-taken (chain-member object) = taken object
-taken (binary-chain {value = value} chain) =
+    taken stop callee ending target done starts waiting operand around ∙ parens-passed (taken stop value byParen nil [] [] nil _ tt)
+taken stop (chain-member object) = taken stop object
+taken stop (binary-chain {value = value} chain) =
     λ ending target done starts waiting operand around loose. record {
       target = target;
       unclosed = waiting;
       last = value;
-      runs = taken chain ending target done starts waiting operand around;
+      runs = taken stop chain ending target done starts waiting operand around;
       closes = λ n h. refl;
     }
-taken (binary-operator {least = least} {class = class} {sign = sign} {left = first} op tight left right) =
+taken stop (binary-operator {least = least} {class = class} {sign = sign} {left = first} op tight left right) =
     λ ending target done starts waiting operand around loose.
     operator-passed op tight (looser-up least (precedence class) waiting loose tight)
-    (taken left ending target done starts waiting operand around (looser-up least (precedence class) waiting loose tight))
-    (taken right ending false done starts (pending class (sign .mark) first ∷ waiting) nil around (next (precedence class)))
-taken (assign-binary binary) =
-    λ ending done starts waiting operand around loose. passed-down (taken binary ending true done starts waiting operand around loose)
-taken (assign-to {sign = sign} {target = first} target value) =
+    (taken stop left ending target done starts waiting operand around (looser-up least (precedence class) waiting loose tight))
+    (taken stop right ending false done starts (pending class (sign .mark) first ∷ waiting) nil around (next (precedence class)))
+taken stop (assign-binary binary) =
+    λ ending done starts waiting operand around loose. passed-down (taken stop binary ending true done starts waiting operand around loose)
+taken stop (assign-to {sign = sign} {target = first} target value) =
     λ ending done starts waiting operand around loose.
-    assignment-passed sign loose (taken target ending true done starts waiting operand around)
-    (taken value ending done starts (pending assign (sign .mark) first ∷ waiting) nil around (omega arith))
-taken (function-all statements) =
-    λ role done starts waiting word around. elim role [ declared ↦ taken statements _ | operandIn ending target ↦ taken statements _ ]
-taken (statement-block statements) = λ must scope done starts around. taken statements _
-taken (statement-expression allowed value) =
-    λ must scope done starts around.
-    expression-is-taken must scope done starts around (assign-begins value tt) allowed
-    ∙ expression-passed (taken value (byStatement scope) done starts [] nil around tt)
-taken (statement-if {word = word} {condition = first} condition inner) =
-    λ must scope done starts around.
-    parens-passed (taken condition byParen nil [] [] nil _ tt)
-    ∙ taken inner true scope done (pending ifSyntax (word .mark) first ∷ starts) around
-taken statement-bare-return = λ must scope done starts around. refl
-taken (statement-full-return {word = word} {before = before} same value) =
-    λ must scope done starts around.
-    value-is-returned scope (frame done (pending fullReturnSyntax (word .mark) nil ∷ starts) [] nil) around before (assign-begins value tt) same
-    ∙ return-passed (taken value (byReturn scope) done (pending fullReturnSyntax (word .mark) nil ∷ starts) [] nil around tt)
-taken (statement-label {label = label} inner) =
-    λ must scope done starts around. taken inner true scope done (pending labelSyntax (label .mark) nil ∷ starts) around
-taken no-statements = λ around. refl
-taken (add-statement {scope = scope} {statements = first} statements last) =
-    λ around. taken statements around ∙ taken last false scope first [] around
-taken (add-declaration {word = word} {statements = first} statements function) =
-    λ around. taken statements around ∙ taken function declared first [] [] (heldWord (word .mark)) around
+    assignment-passed sign loose (taken stop target ending true done starts waiting operand around)
+    (taken stop value ending done starts (pending assign (sign .mark) first ∷ waiting) nil around (omega arith))
+taken stop (function-all statements) =
+    λ role done starts waiting word around. elim role [ declared ↦ taken stop statements _ | operandIn ending target ↦ taken stop statements _ ]
+taken stop (statement-block statements) = λ must setting done starts around. taken stop statements _
+taken stop (statement-expression allowed value) =
+    λ must setting done starts around.
+    expression-is-taken stop must setting done starts around (assign-begins value tt) allowed
+    ∙ expression-passed (taken stop value (byStatement setting) done starts [] nil around tt)
+taken stop (statement-if {word = word} {after = after} {condition = first} {inner = value} condition inner) =
+    λ must setting done starts around.
+    parens-passed (taken stop condition byParen nil [] [] nil _ tt)
+    ∙ taken stop inner true (inNest ifNest) nil (pending ifSyntax (word .mark) first ∷ [])
+    (nested (behindStatement setting) toStatement (word .mark) (frame done starts [] nil) ∷ around)
+    ∙ nest-left stop setting (node ifSyntax (word .mark) first value) (word .mark) done starts around after
+taken stop statement-bare-return = λ must setting done starts around. refl
+taken stop (statement-full-return {word = word} {before = before} same value) =
+    λ must setting done starts around.
+    value-is-returned stop setting (frame done (pending fullReturnSyntax (word .mark) nil ∷ starts) [] nil) around before (assign-begins value tt) same
+    ∙ return-passed (taken stop value (byReturn setting) done (pending fullReturnSyntax (word .mark) nil ∷ starts) [] nil around tt)
+taken stop (statement-label {label = label} inner) =
+    λ must setting done starts around. taken stop inner true setting done (pending labelSyntax (label .mark) nil ∷ starts) around
+taken stop no-statements = λ around. refl
+taken stop (add-statement {scope = scope} {statements = first} statements last) =
+    λ around. taken stop statements around ∙ taken stop last false (among scope) first [] around
+taken stop (add-declaration {word = word} {statements = first} statements function) =
+    λ around. taken stop statements around ∙ taken stop function declared first [] [] (heldWord (word .mark)) around
 
--- a program's tokens lead the machine to where a program may end, with the program's syntax
-pub complete : {all : List Token} {parts : Syntax} → Program all parts → run start all ≡ live (statementDue false body) (frame parts [] [] nil) []
-complete program = taken program []
+-- a program's tokens and the text's end behind them are taken, with the program's syntax
+pub complete : {all : List Token} {parts : Syntax} (stop : Spot) → Program all parts → ran stop start all ≡ live finished (frame parts [] [] nil) []
+complete stop program = taken stop program []
+
+pub complete-to-end : {all : List Token} {parts : Syntax} (spot : Spot) → Program all parts
+    → run start (all ++ (token endOfText spot ∷ [])) ≡ live finished (frame parts [] [] nil) []
+complete-to-end {all} spot program = ran-is-run spot start all ∙ complete spot program
 
 -- so a program has one syntax tree
 pub one-tree : {all : List Token} {first second : Syntax} → Program all first → Program all second → first ≡ second
-one-tree p q = ap treeOf (sym (complete p) ∙ complete q)
+one-tree p q = ap treeOf (sym (complete anywhere p) ∙ complete anywhere q)
   where
     treeOf : State → Syntax
-    treeOf dead = nil
+    treeOf (dead place) = nil
     treeOf (live control (frame done starts waiting operand) around) = done
 
 pub run-append : (first second : List Token) (state : State) → run state (first ++ second) ≡ run (run state first) second
 run-append [] second state = refl
 run-append (t ∷ first) second state = run-append first second _
-
--- and behind it the end of the text is taken
-pub complete-to-end : {all : List Token} {parts : Syntax} (spot : Spot) → Program all parts
-    → run start (all ++ (token endOfText spot ∷ [])) ≡ live finished (frame parts [] [] nil) []
-complete-to-end {all} spot program =
-    run-append all (token endOfText spot ∷ []) start ∙ ap (λ (z : State). run z (token endOfText spot ∷ [])) (complete program)

@@ -9,10 +9,10 @@ use borrow.Author.Tests.{leb-true, ne-eqb, not-true}
 use lib.Dec.{T, eqb, leb}
 use Rattle.elements.specs.declared.Element.{Element}
 use Rattle.elements.proofs.Choices.{cond-known}
-use Rattle.prefix.specs.Trees.{count, leaf, group, parenKind, objectKind, blockKind}
+use Rattle.prefix.specs.Trees.{Trees, count, leaf, group, parenKind, objectKind, blockKind}
 use Rattle.prefix.specs.Rule.{backwards, groupClass}
-use Rattle.prefix.specs.Levels.{Levels, kindOf, treesOf, slashOpens, braceOpens, depth, number}
-use Rattle.prefix.specs.Reading.{Limits, Step, stop, more, deep, treesFull, step, accepted, ending}
+use Rattle.prefix.specs.Levels.{Levels, text, kindOf, slashOpens, braceOpens, depth, number}
+use Rattle.prefix.specs.Reading.{Limits, Step, stop, more, deep, treesFull, step}
 use Rattle.prefix.specs.Summary.{slashBy, summary}
 use Rattle.prefix.proofs.StateLaws.{number-on-top}
 use Rattle.prefix.proofs.StepLaws.{step-leaf}
@@ -27,7 +27,9 @@ use Rattle.grammar.specs.Machine.{
   fail,
   goto,
   push,
+  enter,
   pop,
+  leave,
   finish,
   look,
   row,
@@ -39,15 +41,17 @@ use Rattle.grammar.specs.Machine.{
   valueOf,
   popTo,
   finishIn,
-  act,
+  close,
+  actBy,
+  leaveTo,
   take,
 }
 use Rattle.grammar.proofs.Classes.{isLeaf, treeClass, told, leaf-told}
 use Rattle.grammar.proofs.ClassSteps.{opensGroup, openedKind, closesGroup, closesKind, holds, opener-step, closer-step, leaf-no-closer, opener-no-closer, closer-closer, line-kept, no-end}
-use Rattle.grammar.proofs.Related.{related}
-use Rattle.grammar.proofs.Agreement.{slashRight, opensRight, allows, opens-right, goto-allowed, push-allowed, pop-allowed, finish-allowed, rule}
+use Rattle.grammar.proofs.Related.{related, settled, takesOver, takes-over}
+use Rattle.grammar.proofs.Agreement.{slashRight, opensRight, allows, opens-right, goto-allowed, push-allowed, both, enter-allowed, leave-allowed, pop-allowed, finish-allowed, rule}
 use Rattle.grammar.proofs.LevelSummary.{summaryOf, summaryWith, slash-summary, brace-summary, summary-leaf, summary-group}
-use Rattle.grammar.proofs.InStep.{Stacks, whole-text, in-group, InStep, stopped, in-step, in-step-on-top, isLive}
+use Rattle.grammar.proofs.InStep.{Stacks, whole-text, in-group, in-nest, InStep, stopped, in-step, in-step-on-top, isLive}
 
 -- What a step of the reader comes to: other levels, in step, with a tree record more unless the element is a closer; or a limit
 -- is reached.
@@ -101,12 +105,13 @@ module _ (limits : Limits) (levels : Levels) (e : Element) where
 no-text : (kind : ℕ) (b : Bool) → (kind ≡ 0 → ⊥) → T (eqb kind 0 || b) → T b
 no-text kind b n t = rw (ne-eqb kind 0 n) at t
 
-closer-outcome : (limits : Limits) (levels : Levels) (e : Element) (value : Syntax) {around : List Held} → Stacks around levels → T (closesGroup (classOf e))
-    → T (eqb (kindOf levels) 0 || closesKind (classOf e) (kindOf levels)) → T (isLive (popTo value around))
-    → Outcome limits levels e (popTo value around) (step limits levels e)
+closer-outcome : (limits : Limits) (levels : Levels) (e : Element) (place : ℕ) (value : Syntax) {around : List Held} → Stacks around levels → T (closesGroup (classOf e))
+    → T (eqb (kindOf levels) 0 || closesKind (classOf e) (kindOf levels)) → T (isLive (popTo place value around))
+    → Outcome limits levels e (popTo place value around) (step limits levels e)
 unfolding count
-closer-outcome limits levels e value whole-text t c alive = absurd alive
-closer-outcome limits levels e value (in-group {around = around} {kind = kind} {first = first} {line = line} {trees = trees} n r s) t c alive =
+closer-outcome limits levels e place value whole-text t c alive = absurd alive
+closer-outcome limits levels e place value (in-nest over s) t c alive = absurd alive
+closer-outcome limits levels e place value (in-group {around = around} {kind = kind} {first = first} {line = line} {trees = trees} n r s) t c alive =
     rw (closer-step limits e around kind first line trees (told e) t (no-text kind (closesKind (classOf e) kind) n c))
     (went-on
     (in-step-on-top (λ before. group before kind first (e .end) line trees) around (summaryWith around (groupClass kind) line)
@@ -126,20 +131,46 @@ module _ (limits : Limits) (levels : Levels) (e : Element) where
   keep : {after : State} → T (slashRight (summaryOf levels) (classOf e)) → Outcome limits levels e after (step limits levels e) → Kept limits levels e after
   keep t o = record { pattern-opens = opens levels (classOf e) t; divide-divides = divides levels (classOf e) t; outcome = o }
 
-  acted : (mark : ℕ) (f : Frame) (around : List Held) → Stacks around levels → (action : Action)
-      → T (allows (kindOf levels) (summaryOf levels) ((marked e) .line) (classOf e) action) → T (isLive (act action mark f around))
-      → Kept limits levels e (act action mark f around)
-  acted mark f around s fail t alive = absurd alive
-  acted mark f around s (goto next effect) t alive =
+  -- what leaving a nest comes to, and then what an action comes to
+  abbrev LeftKept : (Syntax → State) → Type 0
+  LeftKept out = (value : Syntax) → T (settled (kindOf levels) (summaryOf levels)) → T (isLive (out value)) → Kept limits levels e (out value)
+
+  acted : (out : Syntax → State) → LeftKept out → (spot : Spot) (f : Frame) (around : List Held) → Stacks around levels → (action : Action)
+      → T (allows (kindOf levels) (summaryOf levels) ((marked e) .line) (classOf e) action) → T (isLive (actBy out action spot f around))
+      → Kept limits levels e (actBy out action spot f around)
+  acted out left spot f around s fail t alive = absurd alive
+  acted out left spot f around s (goto next effect) t alive =
       let a = goto-allowed (kindOf levels) (summaryOf levels) ((marked e) .line) (classOf e) next effect t in
       keep (a .0) (leaf-outcome limits levels e (a .1) (rw (line-kept e (leaf-no-closer e ((leaf-told e (told e) (a .1)) .0))) at (a .2)) s)
-  acted mark f around s (push within behind closing) t alive =
+  acted out left spot f around s (push within behind closing) t alive =
       let a = push-allowed (kindOf levels) (summaryOf levels) ((marked e) .line) (classOf e) within behind closing t in
       keep (a .0) (opener-outcome limits levels e (a .1) (rw (line-kept e (opener-no-closer e (told e) (a .1)), brace-summary levels (e .line)) at (a .2)) s)
-  acted mark f around s (pop value) t alive =
+  acted out left spot f around s (enter within behind closing) t alive =
+      let a = enter-allowed (kindOf levels) (summaryOf levels) ((marked e) .line) (classOf e) within behind closing t in
+      let b = rw (line-kept e (leaf-no-closer e ((leaf-told e (told e) (a .1)) .0))) at (a .2) in
+      let c = both (related within (kindOf levels) (summaryWith levels (treeClass (classOf e)) (e .line))) (takesOver behind) b in
+      keep (a .0) (leaf-outcome limits levels e (a .1) (c .0) (in-nest (c .1) s))
+  acted out left spot f around s (pop value) t alive =
       let a = pop-allowed (kindOf levels) (summaryOf levels) ((marked e) .line) (classOf e) value t in
-      keep (a .0) (closer-outcome limits levels e (valueOf value f) s (a .1) (a .2) alive)
-  acted mark f around s finish t alive = absurd (no-end (told e) (finish-allowed (kindOf levels) (summaryOf levels) ((marked e) .line) (classOf e) t))
+      keep (a .0) (closer-outcome limits levels e (spot .first) (valueOf value f) s (a .1) (a .2) alive)
+  acted out left spot f around s (leave value) t alive =
+      left (valueOf value f) (leave-allowed (kindOf levels) (summaryOf levels) ((marked e) .line) (classOf e) value t) alive
+  acted out left spot f around s finish t alive =
+      absurd (no-end (told e) (finish-allowed (kindOf levels) (summaryOf levels) ((marked e) .line) (classOf e) t))
+
+-- where an element's token stands, if so many tree records stand before it
+abbrev spotOf : ℕ → Element → Spot
+spotOf before e = record { line = e .line; mark = before; first = e .first }
+
+-- a nest is left: what stands around it takes the element
+left-kept : (limits : Limits) (levels : Levels) (e : Element) (before : ℕ) {around : List Held} → Stacks around levels
+    → LeftKept limits levels e (leaveTo (classOf e) (spotOf before (marked e)) around)
+left-kept limits levels e before whole-text value r alive = absurd alive
+left-kept limits levels e before (in-group n q s) value r alive = absurd alive
+left-kept limits levels e before (in-nest {behind = behind} {closing = closing} {mark = opened} {f = f} {rest = rest} over s) value r alive =
+    acted limits levels e (leaveTo (classOf e) (spotOf before (marked e)) rest) (left-kept limits levels e before s) (spotOf before (marked e)) (close closing opened value f) rest s
+    (look (classOf e) (row behind ((marked e) .line)))
+    (rule behind (kindOf levels) (summaryOf levels) (takes-over behind (kindOf levels) (summaryOf levels) over r) ((marked e) .line) (classOf e)) alive
 
 -- an element that the machine follows
 pub kept : (limits : Limits) (levels : Levels) (e : Element) (before : ℕ) {state : State} → InStep state levels → T (isLive (take state (tokenOf before (marked e))))
@@ -147,7 +178,8 @@ pub kept : (limits : Limits) (levels : Levels) (e : Element) (before : ℕ) {sta
 unfolding classOf
 kept limits levels e before stopped alive = absurd alive
 kept limits levels e before (in-step {control = control} {f = f} {around = around} r s) alive =
-    acted limits levels e before f around s (look (classOf e) (row control ((marked e) .line)))
+    acted limits levels e (leaveTo (classOf e) (spotOf before (marked e)) around) (left-kept limits levels e before s) (spotOf before (marked e)) f around s
+    (look (classOf e) (row control ((marked e) .line)))
     (rule control (kindOf levels) (summaryOf levels) r ((marked e) .line) (classOf e)) alive
 
 -- the step of the reader, in step with a state, where the limits leave room
@@ -167,22 +199,44 @@ stepped {limits} {levels} {e} {after} k shallow some = go (step limits levels e)
     go s q (too-many c f) = absurd (omega arith)
 
 -- where the machine takes the text's end, the reader is in no group
-at-finish : (f : Frame) {levels : Levels} {around : List Held} → Stacks around levels → T (isLive (finishIn f around)) → ending levels ≡ accepted (treesOf levels)
-at-finish f whole-text alive = refl
-at-finish f (in-group n r s) alive = absurd alive
+pub data Outermost : Levels → Type 0 where
+  outermost : {trees : Trees} → Outermost (text trees)
 
-module _ (levels : Levels) (spot : Spot) (f : Frame) where
-  ended : {around : List Held} → Stacks around levels → (action : Action) → T (allows (kindOf levels) (summaryOf levels) (spot .line) endOfText action)
-      → T (isLive (act action (spot .mark) f around)) → ending levels ≡ accepted (treesOf levels)
+at-finish : (place : ℕ) (f : Frame) {levels : Levels} {around : List Held} → Stacks around levels → T (isLive (finishIn place f around)) → Outermost levels
+at-finish place f whole-text alive = outermost
+at-finish place f (in-group n r s) alive = absurd alive
+at-finish place f (in-nest over s) alive = absurd alive
+
+module _ (levels : Levels) (spot : Spot) where
+  abbrev LeftEnded : (Syntax → State) → Type 0
+  LeftEnded out = (value : Syntax) → T (settled (kindOf levels) (summaryOf levels)) → T (isLive (out value)) → Outermost levels
+
+  ended : (out : Syntax → State) → LeftEnded out → (f : Frame) {around : List Held} → Stacks around levels → (action : Action)
+      → T (allows (kindOf levels) (summaryOf levels) (spot .line) endOfText action) → T (isLive (actBy out action spot f around)) → Outermost levels
   unfolding isLeaf
-  ended s fail t alive = absurd alive
-  ended s (goto next effect) t alive = absurd ((goto-allowed (kindOf levels) (summaryOf levels) (spot .line) endOfText next effect t) .1)
-  ended s (push within behind closing) t alive = absurd ((push-allowed (kindOf levels) (summaryOf levels) (spot .line) endOfText within behind closing t) .1)
-  ended s (pop value) t alive = absurd ((pop-allowed (kindOf levels) (summaryOf levels) (spot .line) endOfText value t) .1)
-  ended s finish t alive = at-finish f s alive
+  ended out left f s fail t alive = absurd alive
+  ended out left f s (goto next effect) t alive = absurd ((goto-allowed (kindOf levels) (summaryOf levels) (spot .line) endOfText next effect t) .1)
+  ended out left f s (push within behind closing) t alive =
+      absurd ((push-allowed (kindOf levels) (summaryOf levels) (spot .line) endOfText within behind closing t) .1)
+  ended out left f s (enter within behind closing) t alive =
+      absurd ((enter-allowed (kindOf levels) (summaryOf levels) (spot .line) endOfText within behind closing t) .1)
+  ended out left f s (pop value) t alive = absurd ((pop-allowed (kindOf levels) (summaryOf levels) (spot .line) endOfText value t) .1)
+  ended out left f s (leave value) t alive =
+      left (valueOf value f) (leave-allowed (kindOf levels) (summaryOf levels) (spot .line) endOfText value t) alive
+  ended out left f s finish t alive = at-finish (spot .first) f s alive
 
-pub accepted-at-end : (levels : Levels) (spot : Spot) {state : State} → InStep state levels → T (isLive (take state (token endOfText spot)))
-    → ending levels ≡ accepted (treesOf levels)
-accepted-at-end levels spot stopped alive = absurd alive
-accepted-at-end levels spot (in-step {control = control} {f = f} r s) alive =
-    ended levels spot f s (look endOfText (row control (spot .line))) (rule control (kindOf levels) (summaryOf levels) r (spot .line) endOfText) alive
+left-ended : (levels : Levels) (spot : Spot) {around : List Held} → Stacks around levels
+    → LeftEnded levels spot (leaveTo endOfText spot around)
+left-ended levels spot whole-text value r alive = absurd alive
+left-ended levels spot (in-group n q s) value r alive = absurd alive
+left-ended levels spot (in-nest {behind = behind} {closing = closing} {mark = opened} {f = f} {rest = rest} over s) value r alive =
+    ended levels spot (leaveTo endOfText spot rest) (left-ended levels spot s) (close closing opened value f) s
+    (look endOfText (row behind (spot .line)))
+    (rule behind (kindOf levels) (summaryOf levels) (takes-over behind (kindOf levels) (summaryOf levels) over r) (spot .line) endOfText) alive
+
+pub outermost-at-end : (levels : Levels) (spot : Spot) {state : State} → InStep state levels → T (isLive (take state (token endOfText spot)))
+    → Outermost levels
+outermost-at-end levels spot stopped alive = absurd alive
+outermost-at-end levels spot (in-step {control = control} {f = f} {around = around} r s) alive =
+    ended levels spot (leaveTo endOfText spot around) (left-ended levels spot s) f s (look endOfText (row control (spot .line)))
+    (rule control (kindOf levels) (summaryOf levels) r (spot .line) endOfText) alive

@@ -1,5 +1,6 @@
 pub mod TableLaws
 pub mod ReduceLaws
+pub mod Ran
 pub mod Beginnings
 pub mod Passing
 pub mod Complete
@@ -17,6 +18,7 @@ pub mod SameChoice
 pub mod Spelling
 pub mod Respelled
 pub mod CompletedTexts
+pub mod Alike
 pub mod Begins
 pub mod Classes
 pub mod ClassSteps
@@ -27,6 +29,7 @@ pub mod Completion
 pub mod Viable
 pub mod Suffix
 pub mod Unfinished
+pub mod Deaths
 pub mod Kept
 pub mod Cases
 pub mod Counts

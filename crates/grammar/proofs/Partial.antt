@@ -1,6 +1,7 @@
 -- Partial derivations: where the machine stands in derivations that are not yet complete.
 use mathlib.Core.Bool.{Bool, true, false}
 use mathlib.Core.List.{List, [], _∷_}
+use Prim.Native.Nat.{ℕ}
 use Rattle.grammar.specs.Tokens.{
   Token,
   token,
@@ -16,12 +17,13 @@ use Rattle.grammar.specs.Tokens.{
   functionWord,
   ifWord,
 }
-use Rattle.grammar.specs.Syntax.{Syntax, nil, node, fullReturnSyntax, expressionSyntax}
+use Rattle.grammar.specs.Syntax.{Syntax, nil, node, snoc, fullReturnSyntax, expressionSyntax, ifSyntax}
 use Rattle.grammar.specs.Grammar.{
   Scope,
   body,
   Chain,
   Assign,
+  Statement,
   Statements,
   chain-object,
   chain-parens,
@@ -31,6 +33,8 @@ use Rattle.grammar.specs.Grammar.{
   statement-block,
   statement-expression,
   statement-full-return,
+  statement-label,
+  add-statement,
 }
 use Rattle.grammar.specs.Machine.{
   endOfText,
@@ -43,6 +47,10 @@ use Rattle.grammar.specs.Machine.{
   completeStatement,
   toObject,
   toParameter,
+  toStatement,
+  ifNest,
+  Setting,
+  among,
   Ending,
   byStatement,
   byReturn,
@@ -53,6 +61,8 @@ use Rattle.grammar.specs.Machine.{
   operandIn,
   Control,
   statementDue,
+  statementDone,
+  behindStatement,
   nameFirst,
   returnFirst,
   ifFirst,
@@ -69,6 +79,7 @@ use Rattle.grammar.specs.Machine.{
   finished,
   Held,
   held,
+  nested,
   State,
   dead,
   live,
@@ -85,19 +96,19 @@ use Rattle.grammar.proofs.Places.{
   in-declaration,
   in-function,
   after-if,
+  after-label,
   in-expression,
   in-return,
   in-parens,
   in-call,
   in-condition,
   in-object,
-  with-statement,
   with-declaration,
 }
 
 -- a function stands here, in its role
 pub data FunctionAt (all : List Token) : Role → Syntax → List Pending → List Pending → List Held → List Token → Type 0 where
-  declaration-at : {done : Syntax} {around : List Held} {here : List Token} → Reached all (statementAt body) done [] around here
+  declaration-at : {done : Syntax} {around : List Held} {here : List Token} → Reached all (statementAt (among body)) done [] around here
       → FunctionAt all declared done [] [] around here
   operand-at : {ending : Ending} {target : Bool} {done : Syntax} {starts waiting : List Pending} {around : List Held} {first here : List Token}
       → Reached all (expressionAt ending) done starts around first → Waiting target waiting first here
@@ -105,19 +116,25 @@ pub data FunctionAt (all : List Token) : Role → Syntax → List Pending → Li
 
 -- the partial derivation of a state: its control, its frame and what is around it, and the tokens from there on
 pub data Partial (all : List Token) : Control → Frame → List Held → List Token → Type 0 where
-  at-statement : {scope : Scope} {done : Syntax} {around : List Held} {here : List Token} → Reached all (statementAt scope) done [] around here
-      → Partial all (statementDue false scope) (frame done [] [] nil) around here
-  at-inner-statement : {scope : Scope} {done : Syntax} {starts : List Pending} {around : List Held} {here : List Token}
-      → Reached all (statementAt scope) done starts around here → Partial all (statementDue true scope) (frame done starts [] nil) around here
-  behind-name : {scope : Scope} {done : Syntax} {starts : List Pending} {around : List Held} {spot : Spot} {here : List Token}
-      → Reached all (statementAt scope) done starts around (token name spot ∷ here)
-      → Partial all (nameFirst scope) (frame done starts [] (node name (spot .mark) nil nil)) around here
-  behind-return : {scope : Scope} {done : Syntax} {starts : List Pending} {around : List Held} {word : Spot} {here : List Token}
-      → Reached all (statementAt scope) done starts around (token returnWord word ∷ here)
-      → Partial all (returnFirst scope) (frame done (pending fullReturnSyntax (word .mark) nil ∷ starts) [] nil) around here
-  behind-if : {scope : Scope} {done : Syntax} {starts : List Pending} {around : List Held} {word : Spot} {here : List Token}
-      → Reached all (statementAt scope) done starts around (token ifWord word ∷ here)
-      → Partial all (ifFirst scope) (frame done starts [] (heldWord (word .mark))) around here
+  at-statement : {scope : Scope} {done : Syntax} {around : List Held} {here : List Token} → Reached all (statementAt (among scope)) done [] around here
+      → Partial all (statementDue false (among scope)) (frame done [] [] nil) around here
+  at-inner-statement : {setting : Setting} {done : Syntax} {starts : List Pending} {around : List Held} {here : List Token}
+      → Reached all (statementAt setting) done starts around here → Partial all (statementDue true setting) (frame done starts [] nil) around here
+  behind-name : {setting : Setting} {done : Syntax} {starts : List Pending} {around : List Held} {spot : Spot} {here : List Token}
+      → Reached all (statementAt setting) done starts around (token name spot ∷ here)
+      → Partial all (nameFirst setting) (frame done starts [] (node name (spot .mark) nil nil)) around here
+  behind-return : {setting : Setting} {done : Syntax} {starts : List Pending} {around : List Held} {word : Spot} {here : List Token}
+      → Reached all (statementAt setting) done starts around (token returnWord word ∷ here)
+      → Partial all (returnFirst setting) (frame done (pending fullReturnSyntax (word .mark) nil ∷ starts) [] nil) around here
+  behind-if : {setting : Setting} {done : Syntax} {starts : List Pending} {around : List Held} {word : Spot} {here : List Token}
+      → Reached all (statementAt setting) done starts around (token ifWord word ∷ here)
+      → Partial all ifFirst (frame nil [] [] (heldWord (word .mark)))
+      (nested (behindStatement setting) toStatement (word .mark) (frame done starts [] nil) ∷ around) here
+  behind-then : {setting : Setting} {done condition inner : Syntax} {starts : List Pending} {around : List Held} {word opener closer : Spot}
+      {inside middle here : List Token} → Reached all (statementAt setting) done starts around (token ifWord word ∷ token openParen opener ∷ inside)
+      → Assign inside (token closeParen closer ∷ middle) condition → Statement middle here inner
+      → Partial all (statementDone ifNest) (frame (snoc nil (node ifSyntax (word .mark) condition inner)) [] [] nil)
+      (nested (behindStatement setting) toStatement (word .mark) (frame done starts [] nil) ∷ around) here
   at-operand : {ending : Ending} {target : Bool} {done operand : Syntax} {starts waiting : List Pending} {around : List Held}
       {first here : List Token} → Reached all (expressionAt ending) done starts around first → Waiting target waiting first here
       → Partial all (operandDue ending target) (frame done starts waiting operand) around here
@@ -162,44 +179,55 @@ pub data Partial (all : List Token) : Control → Frame → List Held → List T
 
 -- a state that is dead has none, and needs none
 abbrev pub PartialOf : List Token → State → List Token → Type 0
-PartialOf all dead here = Unit {0}
+PartialOf all (dead place) here = Unit {0}
 PartialOf all (live control f around) here = Partial all control f around here
 
 module _ {all : List Token} where
+  -- a statement is complete
+  pub with-statement : {setting : Setting} {done last : Syntax} {starts : List Pending} {around : List Held} {before here : List Token}
+      → Reached all (statementAt setting) done starts around before → Statement before here last
+      → Partial all (behindStatement setting) (completeStatement done starts last) around here
+  with-statement (in-program statements) last = at-statement (in-program (add-statement statements last))
+  with-statement (in-block outer statements) last = at-statement (in-block outer (add-statement statements last))
+  with-statement (in-declaration outer statements) last = at-statement (in-declaration outer (add-statement statements last))
+  with-statement (in-function outer waits statements) last = at-statement (in-function outer waits (add-statement statements last))
+  with-statement (after-if outer condition) last = behind-then outer condition last
+  with-statement (after-label outer) last = with-statement outer (statement-label last)
+
   -- a group closes
   pub statements-close : {scope : Scope} {done : Syntax} {around : List Held} {closer : Spot} {here : List Token}
-      → Reached all (statementAt scope) done [] around (token closeBrace closer ∷ here) → PartialOf all (popTo done around) here
-  statements-close (in-program statements) = tt
-  statements-close (in-block outer statements) = at-statement (with-statement outer (statement-block statements))
-  statements-close (in-declaration outer statements) = at-statement (with-declaration outer (function-all statements))
-  statements-close (in-function outer waits statements) = behind-operand outer waits (chain-function (function-all statements))
+      → Reached all (statementAt (among scope)) done [] around (token closeBrace closer ∷ here) → (place : ℕ) → PartialOf all (popTo place done around) here
+  statements-close (in-program statements) place = tt
+  statements-close (in-block outer statements) place = with-statement outer (statement-block statements)
+  statements-close (in-declaration outer statements) place = at-statement (with-declaration outer (function-all statements))
+  statements-close (in-function outer waits statements) place = behind-operand outer waits (chain-function (function-all statements))
 
   pub parens-close : {done value : Syntax} {starts : List Pending} {around : List Held} {closer : Spot} {first here : List Token}
       → Reached all (expressionAt byParen) done starts around first → Assign first (token closeParen closer ∷ here) value
-      → PartialOf all (popTo value around) here
-  parens-close (in-parens outer waits) value = behind-operand outer waits (chain-parens value)
-  parens-close (in-call outer waits callee) value = behind-operand outer waits (chain-call callee value)
-  parens-close (in-condition outer) value = at-inner-statement (after-if outer value)
+      → (place : ℕ) → PartialOf all (popTo place value around) here
+  parens-close (in-parens outer waits) value place = behind-operand outer waits (chain-parens value)
+  parens-close (in-call outer waits callee) value place = behind-operand outer waits (chain-call callee value)
+  parens-close (in-condition outer) value place = at-inner-statement (after-if outer value)
 
   pub object-closes : {done value : Syntax} {starts : List Pending} {around : List Held} {closer : Spot} {first here : List Token}
       → Reached all (expressionAt byBrace) done starts around first → Assign first (token closeBrace closer ∷ here) value
-      → PartialOf all (popTo value around) here
-  object-closes (in-object outer waits) value = behind-operand outer waits (chain-object value)
+      → (place : ℕ) → PartialOf all (popTo place value around) here
+  object-closes (in-object outer waits) value place = behind-operand outer waits (chain-object value)
 
   -- an expression ends with its statement
-  pub expression-ends : {scope : Scope} {done value : Syntax} {starts : List Pending} {around : List Held} {end : Spot} {first here : List Token}
-      → Reached all (expressionAt (byStatement scope)) done starts around first → Assign first (token semicolon end ∷ here) value
-      → Partial all (statementDue false scope) (completeStatement done starts (node expressionSyntax (end .mark) value nil)) around here
-  expression-ends (in-expression allowed outer) value = at-statement (with-statement outer (statement-expression allowed value))
+  pub expression-ends : {setting : Setting} {done value : Syntax} {starts : List Pending} {around : List Held} {end : Spot} {first here : List Token}
+      → Reached all (expressionAt (byStatement setting)) done starts around first → Assign first (token semicolon end ∷ here) value
+      → Partial all (behindStatement setting) (completeStatement done starts (node expressionSyntax (end .mark) value nil)) around here
+  expression-ends (in-expression allowed outer) value = with-statement outer (statement-expression allowed value)
 
-  pub return-ends : {scope : Scope} {done value : Syntax} {starts : List Pending} {around : List Held} {end : Spot} {first here : List Token}
-      → Reached all (expressionAt (byReturn scope)) done starts around first → Assign first (token semicolon end ∷ here) value
-      → Partial all (statementDue false scope) (completeStatement done starts value) around here
-  return-ends (in-return same outer) value = at-statement (with-statement outer (statement-full-return same value))
+  pub return-ends : {setting : Setting} {done value : Syntax} {starts : List Pending} {around : List Held} {end : Spot} {first here : List Token}
+      → Reached all (expressionAt (byReturn setting)) done starts around first → Assign first (token semicolon end ∷ here) value
+      → Partial all (behindStatement setting) (completeStatement done starts value) around here
+  return-ends (in-return same outer) value = with-statement outer (statement-full-return same value)
 
   -- the text ends
   pub text-ends : {done : Syntax} {around : List Held} {end : Spot} {here : List Token}
-      → Reached all (statementAt body) done [] around (token endOfText end ∷ here) → PartialOf all (finishIn (frame done [] [] nil) around) here
-  text-ends (in-program statements) = behind-end statements
-  text-ends (in-declaration outer statements) = tt
-  text-ends (in-function outer waits statements) = tt
+      → Reached all (statementAt (among body)) done [] around (token endOfText end ∷ here) → (place : ℕ) → PartialOf all (finishIn place (frame done [] [] nil) around) here
+  text-ends (in-program statements) place = behind-end statements
+  text-ends (in-declaration outer statements) place = tt
+  text-ends (in-function outer waits statements) place = tt

@@ -7,7 +7,7 @@ use native.Mathlib.Omega.{arith}
 use lib.Dec.{T}
 use Rattle.grammar.specs.Tokens.{Token, token, Spot, assign, semicolon, closeParen, closeBrace}
 use Rattle.grammar.specs.Syntax.{Syntax, nil, node, expressionSyntax}
-use Rattle.grammar.specs.Grammar.{Scope, operators, isOperator, precedence}
+use Rattle.grammar.specs.Grammar.{operators, isOperator, precedence}
 use Rattle.grammar.specs.Machine.{
   Pending,
   pending,
@@ -22,13 +22,14 @@ use Rattle.grammar.specs.Machine.{
   await,
   Closing,
   close,
+  Setting,
   Ending,
   byStatement,
   byReturn,
   byParen,
   byBrace,
   Control,
-  statementDue,
+  behindStatement,
   operandDue,
   operandDone,
   Action,
@@ -38,69 +39,69 @@ use Rattle.grammar.specs.Machine.{
   State,
   live,
   act,
-  run,
 }
+use Rattle.grammar.proofs.Ran.{ran}
 use Rattle.grammar.proofs.TableLaws.{threshold-operator, look-operator}
 use Rattle.grammar.proofs.ReduceLaws.{Looser, reduce-stops, reduce-closes}
 
 -- From a state the run comes from the tokens before an expression to those after it. The operators that were waiting still are,
 -- and those that have come close to the value, if closed by one that binds no tighter than the expression's operators.
-pub record Passed (ending : Ending) (done : Syntax) (starts : List Pending) (around : List Held) (least : ℕ) (waiting : List Pending)
+pub record Passed (stop : Spot) (ending : Ending) (done : Syntax) (starts : List Pending) (around : List Held) (least : ℕ) (waiting : List Pending)
     (from : State) (before after : List Token) (value : Syntax) : Type 0 where
   pub target : Bool
   pub unclosed : List Pending
   pub last : Syntax
-  pub runs : run from before ≡ run (live (operandDone ending target) (frame done starts unclosed last) around) after
+  pub runs : ran stop from before ≡ ran stop (live (operandDone ending target) (frame done starts unclosed last) around) after
   pub closes : (n : ℕ) → n ≤ least → reduce n done starts unclosed last ≡ reduce n done starts waiting value
 
 -- the ends of an expression: a group's closer, and `;`
-module _ {behind : Control} {closing : Closing} {mark : ℕ} {f : Frame} {around : List Held} {closer : Spot} {inside after : List Token}
+module _ {stop : Spot} {behind : Control} {closing : Closing} {mark : ℕ} {f : Frame} {around : List Held} {closer : Spot} {inside after : List Token}
     {value : Syntax} where
-  pub parens-passed : Passed byParen nil [] (held behind closing mark f ∷ around) 0 []
+  pub parens-passed : Passed stop byParen nil [] (held behind closing mark f ∷ around) 0 []
       (live (operandDue byParen true) empty (held behind closing mark f ∷ around)) inside (token closeParen closer ∷ after) value
-      → run (live (operandDue byParen true) empty (held behind closing mark f ∷ around)) inside
-      ≡ run (live behind (close closing mark value f) around) after
+      → ran stop (live (operandDue byParen true) empty (held behind closing mark f ∷ around)) inside
+      ≡ ran stop (live behind (close closing mark value f) around) after
   parens-passed p =
-      p .runs ∙ ap (λ (z : Frame). run (live behind (close closing mark (operandOf z) f) around) after) (p .closes 0 (omega arith))
+      p .runs ∙ ap (λ (z : Frame). ran stop (live behind (close closing mark (operandOf z) f) around) after) (p .closes 0 (omega arith))
 
-  pub object-passed : Passed byBrace nil [] (held behind closing mark f ∷ around) 0 []
+  pub object-passed : Passed stop byBrace nil [] (held behind closing mark f ∷ around) 0 []
       (live (operandDue byBrace true) empty (held behind closing mark f ∷ around)) inside (token closeBrace closer ∷ after) value
-      → run (live (operandDue byBrace true) empty (held behind closing mark f ∷ around)) inside
-      ≡ run (live behind (close closing mark value f) around) after
+      → ran stop (live (operandDue byBrace true) empty (held behind closing mark f ∷ around)) inside
+      ≡ ran stop (live behind (close closing mark value f) around) after
   object-passed p =
-      p .runs ∙ ap (λ (z : Frame). run (live behind (close closing mark (operandOf z) f) around) after) (p .closes 0 (omega arith))
+      p .runs ∙ ap (λ (z : Frame). ran stop (live behind (close closing mark (operandOf z) f) around) after) (p .closes 0 (omega arith))
 
-module _ {scope : Scope} {done : Syntax} {starts : List Pending} {around : List Held} {from : State} {end : Spot} {before after : List Token}
+module _ {stop : Spot} {setting : Setting} {done : Syntax} {starts : List Pending} {around : List Held} {from : State} {end : Spot} {before after : List Token}
     {value : Syntax} where
-  pub expression-passed : Passed (byStatement scope) done starts around 0 [] from before (token semicolon end ∷ after) value
-      → run from before
-      ≡ run (live (statementDue false scope) (completeStatement done starts (node expressionSyntax (end .mark) value nil)) around) after
+  pub expression-passed : Passed stop (byStatement setting) done starts around 0 [] from before (token semicolon end ∷ after) value
+      → ran stop from before
+      ≡ ran stop (live (behindStatement setting) (completeStatement done starts (node expressionSyntax (end .mark) value nil)) around) after
   expression-passed p =
-      p .runs ∙ ap (λ (z : Frame). run (live (statementDue false scope) (completeExpression (end .mark) z) around) after) (p .closes 0 (omega arith))
+      p .runs ∙ ap (λ (z : Frame). ran stop (live (behindStatement setting) (completeExpression (end .mark) z) around) after) (p .closes 0 (omega arith))
 
-  pub return-passed : Passed (byReturn scope) done starts around 0 [] from before (token semicolon end ∷ after) value
-      → run from before ≡ run (live (statementDue false scope) (completeStatement done starts value) around) after
+  pub return-passed : Passed stop (byReturn setting) done starts around 0 [] from before (token semicolon end ∷ after) value
+      → ran stop from before ≡ ran stop (live (behindStatement setting) (completeStatement done starts value) around) after
   return-passed p =
-      p .runs ∙ ap (λ (z : Frame). run (live (statementDue false scope) (completeReturn z) around) after) (p .closes 0 (omega arith))
+      p .runs ∙ ap (λ (z : Frame). ran stop (live (behindStatement setting) (completeReturn z) around) after) (p .closes 0 (omega arith))
 
 -- expressions of two parts
-module _ {ending : Ending} {done : Syntax} {starts : List Pending} {around : List Held} {waiting : List Pending} {from : State}
+module _ {stop : Spot} {ending : Ending} {done : Syntax} {starts : List Pending} {around : List Held} {waiting : List Pending} {from : State}
     {before middle after : List Token} {left right : Syntax} where
   pub operator-passed : {least class : ℕ} {sign : Spot} → T (isOperator class) → least ≤ precedence class → Looser (precedence class) waiting
-      → Passed ending done starts around (precedence class) waiting from before (token class sign ∷ middle) left
-      → Passed ending done starts around (precedence class + 1) (pending class (sign .mark) left ∷ waiting)
+      → Passed stop ending done starts around (precedence class) waiting from before (token class sign ∷ middle) left
+      → Passed stop ending done starts around (precedence class + 1) (pending class (sign .mark) left ∷ waiting)
       (live (operandDue ending false) (frame done starts (pending class (sign .mark) left ∷ waiting) nil) around) middle after right
-      → Passed ending done starts around least waiting from before after (node class (sign .mark) left right)
+      → Passed stop ending done starts around least waiting from before after (node class (sign .mark) left right)
   operator-passed {least} {class} {sign} op tight loose p q = record {
     target = q .target;
     unclosed = q .unclosed;
     last = q .last;
     runs = p .runs
-        ∙ ap (λ (z : Action). run (act z (sign .mark) (frame done starts (p .unclosed) (p .last)) around) middle)
+        ∙ ap (λ (z : Action). ran stop (act z class sign (frame done starts (p .unclosed) (p .last)) around) middle)
         (look-operator ending operators (besidesOperators ending (p .target)) class op)
-        ∙ ap (λ (z : ℕ). run (live (operandDue ending false) (await class (sign .mark) (reduce z done starts (p .unclosed) (p .last))) around) middle)
+        ∙ ap (λ (z : ℕ). ran stop (live (operandDue ending false) (await class (sign .mark) (reduce z done starts (p .unclosed) (p .last))) around) middle)
         (threshold-operator class op)
-        ∙ ap (λ (z : Frame). run (live (operandDue ending false) (await class (sign .mark) z) around) middle)
+        ∙ ap (λ (z : Frame). ran stop (live (operandDue ending false) (await class (sign .mark) z) around) middle)
         (p .closes (precedence class) (itself (precedence class)) ∙ reduce-stops (precedence class) done starts waiting left loose)
         ∙ q .runs;
     closes = λ n h. q .closes n (up n least (precedence class) h tight)
@@ -117,23 +118,23 @@ module _ {ending : Ending} {done : Syntax} {starts : List Pending} {around : Lis
       through a b c h k = omega arith
 
   pub assignment-passed : (sign : Spot) → Looser 1 waiting
-      → run from before ≡ run (live (operandDone ending true) (frame done starts waiting left) around) (token assign sign ∷ middle)
-      → Passed ending done starts around 0 (pending assign (sign .mark) left ∷ waiting)
+      → ran stop from before ≡ ran stop (live (operandDone ending true) (frame done starts waiting left) around) (token assign sign ∷ middle)
+      → Passed stop ending done starts around 0 (pending assign (sign .mark) left ∷ waiting)
       (live (operandDue ending true) (frame done starts (pending assign (sign .mark) left ∷ waiting) nil) around) middle after right
-      → Passed ending done starts around 0 waiting from before after (node assign (sign .mark) left right)
+      → Passed stop ending done starts around 0 waiting from before after (node assign (sign .mark) left right)
   assignment-passed sign loose runs q = record {
     target = q .target;
     unclosed = q .unclosed;
     last = q .last;
     runs = runs
-        ∙ ap (λ (z : Frame). run (live (operandDue ending true) (await assign (sign .mark) z) around) middle)
+        ∙ ap (λ (z : Frame). ran stop (live (operandDue ending true) (await assign (sign .mark) z) around) middle)
         (reduce-stops 1 done starts waiting left loose)
         ∙ q .runs;
     closes = λ n h. q .closes n h ∙ reduce-closes n done starts assign (sign .mark) left waiting right h;
   }
 
-pub passed-down : {ending : Ending} {done : Syntax} {starts waiting : List Pending} {around : List Held} {from : State}
-    {before after : List Token} {value : Syntax} → Passed ending done starts around 1 waiting from before after value
-    → Passed ending done starts around 0 waiting from before after value
+pub passed-down : {stop : Spot} {ending : Ending} {done : Syntax} {starts waiting : List Pending} {around : List Held} {from : State}
+    {before after : List Token} {value : Syntax} → Passed stop ending done starts around 1 waiting from before after value
+    → Passed stop ending done starts around 0 waiting from before after value
 passed-down p =
     record { target = p .target; unclosed = p .unclosed; last = p .last; runs = p .runs; closes = λ n h. p .closes n (omega arith) }

@@ -7,24 +7,18 @@ use Rattle.grammar.specs.Syntax.{Syntax, nil, node, snoc, fullReturnSynt
 use Rattle.grammar.specs.Grammar.{
   startsExpression,
   onSameLine,
-  Scope,
   body,
   block,
   Chain,
   Assign,
   Function,
-  Statement,
   Statements,
-  statement-if,
-  statement-label,
-  add-statement,
   add-declaration,
 }
 use Rattle.grammar.specs.Machine.{
   Pending,
   pending,
   frame,
-  wrap,
   heldWord,
   toParens,
   toCall,
@@ -33,37 +27,44 @@ use Rattle.grammar.specs.Machine.{
   toCondition,
   toDeclaration,
   toFunction,
+  toStatement,
+  ifNest,
+  Setting,
+  among,
+  inNest,
   Ending,
   byStatement,
   byReturn,
   byParen,
   byBrace,
   statementDue,
+  behindStatement,
   operandDone,
   Held,
   held,
+  nested,
 }
 use Rattle.grammar.proofs.Waiting.{Waiting}
 
--- a place where a statement of a scope may start, or an expression with an ending starts
+-- a place where a statement may start, in its setting, or an expression starts, with its ending
 pub data Place : Type 0 where
-  statementAt : Scope → Place
+  statementAt : Setting → Place
   expressionAt : Ending → Place
 
--- The tokens of `all` lead to a place: with the statements done on its level, the beginnings of statements, the groups around
--- it, and the tokens from there on.
+-- The tokens of `all` lead to a place: with the statements done on its level, the beginnings of statements, the groups and
+-- nests around it, and the tokens from there on.
 pub data Reached (all : List Token) : Place → Syntax → List Pending → List Held → List Token → Type 0 where
-  in-program : {done : Syntax} {here : List Token} → Statements body all here done → Reached all (statementAt body) done [] [] here
-  in-block : {scope : Scope} {outer done : Syntax} {starts : List Pending} {around : List Held} {opener : Spot} {inside here : List Token}
-      → Reached all (statementAt scope) outer starts around (token openBrace opener ∷ inside) → Statements block inside here done
-      → Reached all (statementAt block) done [] (held (statementDue false scope) toBlock (opener .mark) (frame outer starts [] nil) ∷ around) here
+  in-program : {done : Syntax} {here : List Token} → Statements body all here done → Reached all (statementAt (among body)) done [] [] here
+  in-block : {setting : Setting} {outer done : Syntax} {starts : List Pending} {around : List Held} {opener : Spot} {inside here : List Token}
+      → Reached all (statementAt setting) outer starts around (token openBrace opener ∷ inside) → Statements block inside here done
+      → Reached all (statementAt (among block)) done [] (held (behindStatement setting) toBlock (opener .mark) (frame outer starts [] nil) ∷ around) here
   in-declaration : {outer done : Syntax} {around : List Held} {word called opener parameter closer openBody : Spot} {inside here : List Token}
-      → Reached all (statementAt body) outer [] around
+      → Reached all (statementAt (among body)) outer [] around
       (token functionWord word ∷ token name called ∷ token openParen opener ∷ token name parameter ∷ token closeParen closer
       ∷ token openBrace openBody ∷ inside)
       → Statements body inside here done
-      → Reached all (statementAt body) done []
-      (held (statementDue false body) toDeclaration (openBody .mark) (frame outer [] [] (heldWord (word .mark))) ∷ around) here
+      → Reached all (statementAt (among body)) done []
+      (held (statementDue false (among body)) toDeclaration (openBody .mark) (frame outer [] [] (heldWord (word .mark))) ∷ around) here
   in-function : {ending : Ending} {target : Bool} {outer done : Syntax} {starts waiting : List Pending} {around : List Held}
       {word called opener parameter closer openBody : Spot} {first inside here : List Token}
       → Reached all (expressionAt ending) outer starts around first
@@ -71,21 +72,22 @@ pub data Reached (all : List Token) : Place → Syntax → List Pending → List
       (token functionWord word ∷ token name called ∷ token openParen opener ∷ token name parameter ∷ token closeParen closer
       ∷ token openBrace openBody ∷ inside)
       → Statements body inside here done
-      → Reached all (statementAt body) done []
+      → Reached all (statementAt (among body)) done []
       (held (operandDone ending target) toFunction (openBody .mark) (frame outer starts waiting (heldWord (word .mark))) ∷ around) here
-  after-if : {scope : Scope} {done condition : Syntax} {starts : List Pending} {around : List Held} {word opener closer : Spot}
-      {inside here : List Token} → Reached all (statementAt scope) done starts around (token ifWord word ∷ token openParen opener ∷ inside)
+  after-if : {setting : Setting} {done condition : Syntax} {starts : List Pending} {around : List Held} {word opener closer : Spot}
+      {inside here : List Token} → Reached all (statementAt setting) done starts around (token ifWord word ∷ token openParen opener ∷ inside)
       → Assign inside (token closeParen closer ∷ here) condition
-      → Reached all (statementAt scope) done (pending ifSyntax (word .mark) condition ∷ starts) around here
-  after-label : {scope : Scope} {done : Syntax} {starts : List Pending} {around : List Held} {label sign : Spot} {here : List Token}
-      → Reached all (statementAt scope) done starts around (token name label ∷ token colon sign ∷ here)
-      → Reached all (statementAt scope) done (pending labelSyntax (label .mark) nil ∷ starts) around here
-  in-expression : {scope : Scope} {done : Syntax} {starts : List Pending} {around : List Held} {here : List Token}
-      → T (startsExpression here) → Reached all (statementAt scope) done starts around here
-      → Reached all (expressionAt (byStatement scope)) done starts around here
-  in-return : {scope : Scope} {done : Syntax} {starts : List Pending} {around : List Held} {word : Spot} {here : List Token}
-      → T (onSameLine here) → Reached all (statementAt scope) done starts around (token returnWord word ∷ here)
-      → Reached all (expressionAt (byReturn scope)) done (pending fullReturnSyntax (word .mark) nil ∷ starts) around here
+      → Reached all (statementAt (inNest ifNest)) nil (pending ifSyntax (word .mark) condition ∷ [])
+      (nested (behindStatement setting) toStatement (word .mark) (frame done starts [] nil) ∷ around) here
+  after-label : {setting : Setting} {done : Syntax} {starts : List Pending} {around : List Held} {label sign : Spot} {here : List Token}
+      → Reached all (statementAt setting) done starts around (token name label ∷ token colon sign ∷ here)
+      → Reached all (statementAt setting) done (pending labelSyntax (label .mark) nil ∷ starts) around here
+  in-expression : {setting : Setting} {done : Syntax} {starts : List Pending} {around : List Held} {here : List Token}
+      → T (startsExpression here) → Reached all (statementAt setting) done starts around here
+      → Reached all (expressionAt (byStatement setting)) done starts around here
+  in-return : {setting : Setting} {done : Syntax} {starts : List Pending} {around : List Held} {word : Spot} {here : List Token}
+      → T (onSameLine here) → Reached all (statementAt setting) done starts around (token returnWord word ∷ here)
+      → Reached all (expressionAt (byReturn setting)) done (pending fullReturnSyntax (word .mark) nil ∷ starts) around here
   in-parens : {ending : Ending} {target : Bool} {done operand : Syntax} {starts waiting : List Pending} {around : List Held} {opener : Spot}
       {first here : List Token} → Reached all (expressionAt ending) done starts around first
       → Waiting target waiting first (token openParen opener ∷ here)
@@ -96,10 +98,12 @@ pub data Reached (all : List Token) : Place → Syntax → List Pending → List
       → Chain before (token openParen opener ∷ here) callee
       → Reached all (expressionAt byParen) nil []
       (held (operandDone ending target) toCall (opener .mark) (frame done starts waiting callee) ∷ around) here
-  in-condition : {scope : Scope} {done : Syntax} {starts : List Pending} {around : List Held} {word opener : Spot} {here : List Token}
-      → Reached all (statementAt scope) done starts around (token ifWord word ∷ token openParen opener ∷ here)
+  in-condition : {setting : Setting} {done : Syntax} {starts : List Pending} {around : List Held} {word opener : Spot} {here : List Token}
+      → Reached all (statementAt setting) done starts around (token ifWord word ∷ token openParen opener ∷ here)
       → Reached all (expressionAt byParen) nil []
-      (held (statementDue true scope) toCondition (opener .mark) (frame done starts [] (heldWord (word .mark))) ∷ around) here
+      (held (statementDue true (inNest ifNest)) toCondition (opener .mark) (frame nil [] [] (heldWord (word .mark)))
+      ∷ nested (behindStatement setting) toStatement (word .mark) (frame done starts [] nil) ∷ around)
+      here
   in-object : {ending : Ending} {target : Bool} {done operand : Syntax} {starts waiting : List Pending} {around : List Held}
       {opener property sign : Spot} {first here : List Token} → Reached all (expressionAt ending) done starts around first
       → Waiting target waiting first (token openBrace opener ∷ token name property ∷ token colon sign ∷ here)
@@ -107,20 +111,10 @@ pub data Reached (all : List Token) : Place → Syntax → List Pending → List
       (held (operandDone ending target) toObject (opener .mark) (frame done starts waiting operand) ∷ around) here
 
 module _ {all : List Token} where
-  -- a statement is added, and a declaration
-  pub with-statement : {scope : Scope} {done last : Syntax} {starts : List Pending} {around : List Held} {before here : List Token}
-      → Reached all (statementAt scope) done starts around before → Statement before here last
-      → Reached all (statementAt scope) (snoc done (wrap starts last)) [] around here
-  with-statement (in-program statements) last = in-program (add-statement statements last)
-  with-statement (in-block outer statements) last = in-block outer (add-statement statements last)
-  with-statement (in-declaration outer statements) last = in-declaration outer (add-statement statements last)
-  with-statement (in-function outer waits statements) last = in-function outer waits (add-statement statements last)
-  with-statement (after-if outer condition) last = with-statement outer (statement-if condition last)
-  with-statement (after-label outer) last = with-statement outer (statement-label last)
-
+  -- a declaration is added
   pub with-declaration : {done inside : Syntax} {around : List Held} {word : Spot} {rest here : List Token}
-      → Reached all (statementAt body) done [] around (token functionWord word ∷ rest) → Function rest here inside
-      → Reached all (statementAt body) (snoc done (node declarationSyntax (word .mark) inside nil)) [] around here
+      → Reached all (statementAt (among body)) done [] around (token functionWord word ∷ rest) → Function rest here inside
+      → Reached all (statementAt (among body)) (snoc done (node declarationSyntax (word .mark) inside nil)) [] around here
   with-declaration (in-program statements) last = in-program (add-declaration statements last)
   with-declaration (in-declaration outer statements) last = in-declaration outer (add-declaration statements last)
   with-declaration (in-function outer waits statements) last = in-function outer waits (add-declaration statements last)

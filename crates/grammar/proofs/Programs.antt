@@ -15,18 +15,18 @@ use Rattle.elements.proofs.Delimiters.{delimiter-byte, delimiter-which}
 use Rattle.elements.proofs.Slashes.{Divide, slash-divides, either-slash, divide-found, pattern-found}
 use Rattle.prefix.specs.Trees.{Trees, none, count}
 use Rattle.prefix.specs.Levels.{Levels, text, treesOf, slashOpens, depth, number}
-use Rattle.prefix.specs.Reading.{Limits, accepted, readOn, reading, unlimited, unlimitedReading}
+use Rattle.prefix.specs.Reading.{Limits, accepted, ending, readOn, reading, unlimited, unlimitedReading}
 use Rattle.prefix.proofs.ReadingLaws.{read-end, read-more}
 use Rattle.prefix.proofs.StepCases.{step-taken}
 use Rattle.prefix.proofs.Sizes.{Grown, taken-grown}
 use Rattle.grammar.specs.Cuts.{marked, isCloser, Cuts, cut-end, cut-element, cut-slash}
 use Rattle.grammar.specs.Tokens.{classOf, tokenOf, tokensFrom, pattern, divide}
-use Rattle.grammar.specs.Grammar.{body}
 use Rattle.grammar.specs.TreeElements.{elementsOf}
-use Rattle.grammar.specs.Machine.{State, live, Control, take, run, start, Frame, statementDue}
+use Rattle.grammar.specs.Machine.{State, live, take, start, Frame, finished}
 use Rattle.grammar.proofs.SoFar.{elementsSoFar, step-elements}
-use Rattle.grammar.proofs.InStep.{whole-text, InStep, in-step, start-in-step, at-end, live-before}
-use Rattle.grammar.proofs.Kept.{Kept, kept, stepped}
+use Rattle.grammar.proofs.InStep.{InStep, start-in-step, ran-live}
+use Rattle.grammar.proofs.Kept.{Kept, kept, stepped, Outermost, outermost, outermost-at-end}
+use Rattle.grammar.proofs.Ran.{ran, anywhere}
 
 -- where nothing is left, nothing is left under either slash answer
 end-either : (bytes : List ℕ) (place : ℕ) → elementAt bytes place false ≡ Next.End → (answer : Bool) → elementAt bytes place answer ≡ Next.End
@@ -61,8 +61,11 @@ module _ (bytes : List ℕ) (place : ℕ) (e : Element) (met : slashMet bytes pl
   answered false f k = k .divide-divides (divided-class f)
 
 -- the machine has no group open: the elements so far are those of the whole text's level
-whole : {control : Control} {f : Frame} {levels : Levels} → InStep (live control f []) levels → elementsOf (treesOf levels) ≡ elementsSoFar levels
-whole (in-step r whole-text) = refl
+whole : {levels : Levels} → Outermost levels → elementsOf (treesOf levels) ≡ elementsSoFar levels
+whole outermost = refl
+
+at-end : {levels : Levels} → Outermost levels → ending levels ≡ accepted (treesOf levels)
+at-end outermost = refl
 
 -- the trees of a reading from levels on, with the elements that follow
 record Reads (bytes : List ℕ) (fuel : ℕ) (levels : Levels) (place : ℕ) (es : List Element) : Type 0 where
@@ -100,7 +103,7 @@ module _ (bytes : List ℕ) where
             }
 
   -- nothing is left
-  last : (fuel place : ℕ) (levels : Levels) → {control : Control} {f : Frame} → InStep (live control f []) levels → elementAt bytes place false ≡ Next.End → Reads bytes fuel levels place []
+  last : (fuel place : ℕ) (levels : Levels) → Outermost levels → elementAt bytes place false ≡ Next.End → Reads bytes fuel levels place []
   unfolding readOn
   last fuel place levels i none-left =
       record { trees = treesOf levels; reads = go fuel; same = whole i ∙ sym (append-nil (elementsSoFar levels)) }
@@ -111,20 +114,20 @@ module _ (bytes : List ℕ) where
 
   -- the machine follows what is left, and ends where a program may
   abbrev Followed : State → ℕ → List Element → Type 0
-  Followed state n es = (f : Frame) × (run state (tokensFrom n es) ≡ live (statementDue false body) f [])
+  Followed state n es = (f : Frame) × (ran anywhere state (tokensFrom n es) ≡ live finished f [])
 
   reads-on : {place : ℕ} {choice : List Bool} {es : List Element} → Cuts bytes place choice es → (n : ℕ) (state : State) (levels : Levels)
       → InStep state levels → Followed state n es → number levels ≤ place → depth levels ≤ place
       → (fuel : ℕ) → length bytes < place + fuel → place ≤ length bytes → Reads bytes fuel levels place es
   unfolding tokensFrom
   reads-on (cut-end {place} end) n state levels i r few shallow fuel enough h =
-      last fuel place levels (subst (λ (s : State). InStep s levels) (r .1) i) end
+      last fuel place levels (outermost-at-end levels anywhere i (rw (r .1) tt)) end
   reads-on (cut-element {place} {e} {es = es} met found rest) n state levels i r few shallow fuel enough h =
-      let k = kept (unlimited bytes) levels e n i (live-before (take state (tokenOf n (marked e))) (tokensFrom (cond (isCloser (marked e)) n (n + 1)) es) (rw (r .1) tt)) in
+      let k = kept (unlimited bytes) levels e n i (ran-live (take state (tokenOf n (marked e))) (tokensFrom (cond (isCloser (marked e)) n (n + 1)) es) (rw (r .1) tt)) in
       some fuel place n state levels e es (found-either bytes place e met found (slashOpens levels)) k few shallow enough h
       (λ after j few shallow less enough h. reads-on rest (cond (isCloser (marked e)) n (n + 1)) (take state (tokenOf n (marked e))) after j r few shallow less enough h)
   reads-on (cut-slash {place} {e} {answer} {es = es} met found rest) n state levels i r few shallow fuel enough h =
-      let k = kept (unlimited bytes) levels e n i (live-before (take state (tokenOf n (marked e))) (tokensFrom (cond (isCloser (marked e)) n (n + 1)) es) (rw (r .1) tt)) in
+      let k = kept (unlimited bytes) levels e n i (ran-live (take state (tokenOf n (marked e))) (tokensFrom (cond (isCloser (marked e)) n (n + 1)) es) (rw (r .1) tt)) in
       some fuel place n state levels e es (rw (answered bytes place e met answer found k) found) k few shallow enough h
       (λ after j few shallow less enough h. reads-on rest (cond (isCloser (marked e)) n (n + 1)) (take state (tokenOf n (marked e))) after j r few shallow less enough h)
 

@@ -29,7 +29,9 @@ use Rattle.grammar.specs.Machine.{
   declared,
   operandIn,
   Control,
+  ifNest,
   statementDue,
+  statementDone,
   nameFirst,
   returnFirst,
   ifFirst,
@@ -45,16 +47,19 @@ use Rattle.grammar.specs.Machine.{
   parameterNamed,
   finished,
 }
-use Rattle.text.proofs.Members.{isIn}
+use Rattle.text.proofs.Members.{allIn, at, isIn, found}
+use Rattle.text.proofs.Range.{and-left}
+use Rattle.prefix.proofs.Finite.{allSummaries, at-summary}
+use lib.Dec.{T}
 
 -- statement levels: the whole text, of kind 0, and blocks
-abbrev statementKinds : List ℕ
+abbrev pub statementKinds : List ℕ
 statementKinds = 0 ∷ blockKind ∷ []
 
 -- the kinds of levels on which a control may stand
 abbrev endingKinds : Ending → List ℕ
-endingKinds (byStatement scope) = statementKinds
-endingKinds (byReturn scope) = statementKinds
+endingKinds (byStatement setting) = statementKinds
+endingKinds (byReturn setting) = statementKinds
 endingKinds byParen = parenKind ∷ []
 endingKinds byBrace = objectKind ∷ []
 
@@ -63,10 +68,11 @@ roleKinds declared = statementKinds
 roleKinds (operandIn ending target) = endingKinds ending
 
 abbrev pub kinds : Control → List ℕ
-kinds (statementDue must scope) = statementKinds
-kinds (nameFirst scope) = statementKinds
-kinds (returnFirst scope) = statementKinds
-kinds (ifFirst scope) = statementKinds
+kinds (statementDue must setting) = statementKinds
+kinds (statementDone nest) = statementKinds
+kinds (nameFirst setting) = statementKinds
+kinds (returnFirst setting) = statementKinds
+kinds ifFirst = statementKinds
 kinds (operandDue ending target) = endingKinds ending
 kinds (operandDone ending target) = endingKinds ending
 kinds (dotLast ending target) = endingKinds ending
@@ -81,8 +87,8 @@ kinds finished = []
 
 -- what may stand last there
 abbrev dueBehind : Ending → List Summary
-dueBehind (byStatement scope) = afterOperator ∷ []
-dueBehind (byReturn scope) = afterOperator ∷ []
+dueBehind (byStatement setting) = afterOperator ∷ []
+dueBehind (byReturn setting) = afterOperator ∷ []
 dueBehind byParen = nothing ∷ afterOperator ∷ []
 dueBehind byBrace = afterColon ∷ afterOperator ∷ []
 
@@ -92,11 +98,12 @@ isOperand declared = false
 isOperand (operandIn ending target) = true
 
 abbrev pub summaries : Control → List Summary
-summaries (statementDue true scope) = afterColon ∷ afterIfParens ∷ []
-summaries (statementDue false scope) = nothing ∷ afterOther ∷ afterBlock ∷ []
-summaries (nameFirst scope) = operand ∷ []
-summaries (returnFirst scope) = afterReturn ∷ []
-summaries (ifFirst scope) = afterIf ∷ []
+summaries (statementDue true setting) = afterColon ∷ afterIfParens ∷ []
+summaries (statementDue false setting) = nothing ∷ afterOther ∷ afterBlock ∷ []
+summaries (statementDone nest) = afterOther ∷ afterBlock ∷ []
+summaries (nameFirst setting) = operand ∷ []
+summaries (returnFirst setting) = afterReturn ∷ []
+summaries ifFirst = afterIf ∷ []
 summaries (operandDue ending target) = dueBehind ending
 summaries (operandDone ending target) = operand ∷ []
 summaries (dotLast ending target) = afterOther ∷ []
@@ -116,3 +123,29 @@ codes (s ∷ rest) = code s ∷ codes rest
 -- whether a control may stand on a level of a kind, behind trees with a summary
 unfoldable pub related : Control → ℕ → Summary → Bool
 related control kind s = isIn (kinds control) kind && isIn (codes (summaries control)) (code s)
+
+-- whether a statement may be complete there
+abbrev pub settled : ℕ → Summary → Bool
+settled kind s = related (statementDone ifNest) kind s
+
+abbrev pub implies : Bool → Bool → Bool
+implies true b = b
+implies false b = true
+
+pub implied : (a b : Bool) → T (implies a b) → T a → T b
+implied true b t s = t
+implied false b t s = absurd s
+
+-- what is asked of the control behind a nest: wherever a statement is complete, the machine may stand at it
+unfoldable pub takesOver : Control → Bool
+takesOver behind = allIn (λ kind. allSummaries λ s. implies (settled kind s) (related behind kind s)) statementKinds
+
+pub takes-over : (behind : Control) (kind : ℕ) (s : Summary) → T (takesOver behind) → T (settled kind s) → T (related behind kind s)
+unfolding takesOver related
+takes-over behind kind s t r =
+    implied (settled kind s) (related behind kind s)
+    (at-summary (λ s. implies (settled kind s) (related behind kind s))
+    (at (λ kind. allSummaries λ s. implies (settled kind s) (related behind kind s))
+    (found statementKinds kind (and-left (isIn statementKinds kind) (isIn (codes (summaries (statementDone ifNest))) (code s)) r)) t)
+    s)
+    r

@@ -32,11 +32,14 @@ use Rattle.grammar.specs.Machine.{
   completeReturn,
   takeOperator,
   Ending,
+  Setting,
+  among,
   byStatement,
   byReturn,
   byParen,
   byBrace,
   statementDue,
+  behindStatement,
   operandDue,
   Action,
   goto,
@@ -80,13 +83,13 @@ use Rattle.grammar.proofs.Partial.{
 module _ (all : List Token) (spot : Spot) (rest : List Token) (around : List Held) where
   -- what stands before a token of a class is taken by an action to a partial derivation behind it
   abbrev pub Keeps : Frame → (List Token → Type 0) → ℕ → Action → Type 0
-  Keeps f Stands class action = Stands (token class spot ∷ rest) → PartialOf all (act action (spot .mark) f around) rest
+  Keeps f Stands class action = Stands (token class spot ∷ rest) → PartialOf all (act action class spot f around) rest
 
   -- an operand comes
   abbrev pub KeepsOperand : Ending → Bool → Syntax → List Pending → List Pending → Syntax → ℕ → Action → Type 0
   KeepsOperand ending target done starts waiting last class action =
       (first : List Token) → Reached all (expressionAt ending) done starts around first → Waiting target waiting first (token class spot ∷ rest)
-      → PartialOf all (act action (spot .mark) (frame done starts waiting last) around) rest
+      → PartialOf all (act action class spot (frame done starts waiting last) around) rest
 
   pub operand-row : (ending : Ending) (target : Bool) (done : Syntax) (starts waiting : List Pending) (last : Syntax)
       → EachEntry (KeepsOperand ending target done starts waiting last) (operand ending target)
@@ -117,7 +120,7 @@ module _ (all : List Token) (spot : Spot) (rest : List Token) (around : List Hel
   abbrev pub KeepsChain : Ending → Bool → Syntax → List Pending → List Pending → Syntax → ℕ → Action → Type 0
   KeepsChain ending target done starts waiting last class action =
       (first before : List Token) → Reached all (expressionAt ending) done starts around first → Waiting target waiting first before
-      → Chain before (token class spot ∷ rest) last → PartialOf all (act action (spot .mark) (frame done starts waiting last) around) rest
+      → Chain before (token class spot ∷ rest) last → PartialOf all (act action class spot (frame done starts waiting last) around) rest
 
   module _ (target : Bool) (done : Syntax) (starts waiting : List Pending) (last : Syntax) where
     operator-entry : (ending : Ending) (class : ℕ) → T (isOperator class)
@@ -129,29 +132,29 @@ module _ (all : List Token) (spot : Spot) (rest : List Token) (around : List Hel
         (at-operand outer (operator-waits (r .waits) op (r .looser) (r .whole)))
 
     ending-entry : (ending : Ending) → EachEntry (KeepsChain ending target done starts waiting last) (endingEntry ending ∷ [])
-    ending-entry (byStatement scope) = (
+    ending-entry (byStatement setting) = (
       λ first before outer waits chain.
           let r = chain-closes done starts waits chain in
-          subst (λ (f : Frame). Partial all (statementDue false scope) (completeExpression (spot .mark) f) around rest) (sym (r .same))
+          subst (λ (f : Frame). Partial all (behindStatement setting) (completeExpression (spot .mark) f) around rest) (sym (r .same))
           (expression-ends outer (r .whole)),
       tt,
     )
-    ending-entry (byReturn scope) = (
+    ending-entry (byReturn setting) = (
       λ first before outer waits chain.
           let r = chain-closes done starts waits chain in
-          subst (λ (f : Frame). Partial all (statementDue false scope) (completeReturn f) around rest) (sym (r .same)) (return-ends outer (r .whole)),
+          subst (λ (f : Frame). Partial all (behindStatement setting) (completeReturn f) around rest) (sym (r .same)) (return-ends outer (r .whole)),
       tt,
     )
     ending-entry byParen = (
       λ first before outer waits chain.
           let r = chain-closes done starts waits chain in
-          subst (λ (f : Frame). PartialOf all (popTo (operandOf f) around) rest) (sym (r .same)) (parens-close outer (r .whole)),
+          subst (λ (f : Frame). PartialOf all (popTo (spot .first) (operandOf f) around) rest) (sym (r .same)) (parens-close outer (r .whole) (spot .first)),
       tt,
     )
     ending-entry byBrace = (
       λ first before outer waits chain.
           let r = chain-closes done starts waits chain in
-          subst (λ (f : Frame). PartialOf all (popTo (operandOf f) around) rest) (sym (r .same)) (object-closes outer (r .whole)),
+          subst (λ (f : Frame). PartialOf all (popTo (spot .first) (operandOf f) around) rest) (sym (r .same)) (object-closes outer (r .whole) (spot .first)),
       tt,
     )
 
@@ -178,26 +181,26 @@ module _ (all : List Token) (spot : Spot) (rest : List Token) (around : List Hel
       )
 
   -- a statement may start
-  abbrev pub KeepsStatement : Scope → Syntax → List Pending → ℕ → Action → Type 0
-  KeepsStatement scope done starts class action = Keeps (frame done starts [] nil) (Reached all (statementAt scope) done starts around) class action
+  abbrev pub KeepsStatement : Setting → Syntax → List Pending → ℕ → Action → Type 0
+  KeepsStatement setting done starts class action = Keeps (frame done starts [] nil) (Reached all (statementAt setting) done starts around) class action
 
-  pub no-statement-row : (scope : Scope) (done : Syntax) → EachEntry (KeepsStatement scope done []) (noStatement false scope)
+  pub no-statement-row : (scope : Scope) (done : Syntax) → EachEntry (KeepsStatement (among scope) done []) (noStatement false (among scope))
   no-statement-row body done = (
     (λ place. behind-function (declaration-at place)),
     (
-      (λ place. statements-close place),
+      (λ place. statements-close place (spot .first)),
       (
-        (λ place. text-ends place),
+        (λ place. text-ends place (spot .first)),
         tt,
       ),
     ),
   )
-  no-statement-row block done = ((λ place. statements-close place), tt)
+  no-statement-row block done = ((λ place. statements-close place (spot .first)), tt)
 
-  pub statement-row : (must : Bool) (scope : Scope) (done : Syntax) (starts : List Pending)
-      → EachEntry (KeepsStatement scope done starts) (noStatement must scope)
-      → EachEntry (KeepsStatement scope done starts) (row (statementDue must scope) (spot .line))
-  statement-row must scope done starts more = (
+  pub statement-row : (must : Bool) (setting : Setting) (done : Syntax) (starts : List Pending)
+      → EachEntry (KeepsStatement setting done starts) (noStatement must setting)
+      → EachEntry (KeepsStatement setting done starts) (row (statementDue must setting) (spot .line))
+  statement-row must setting done starts more = (
     (λ place. at-statement (in-block place no-statements)),
     (
       (λ place. behind-if place),

@@ -5,11 +5,12 @@ use mathlib.Core.List.{List, [], _∷_, _++_}
 use Prim.Native.Nat.{ℕ}
 use native.Mathlib.Omega.{arith}
 use Rattle.grammar.specs.Tokens.{Token, token, Spot}
-use Rattle.grammar.specs.Syntax.{Syntax}
-use Rattle.grammar.specs.Grammar.{body, block, Statements, no-statements, Program}
+use Rattle.grammar.specs.Syntax.{Syntax, nil}
+use Rattle.grammar.specs.Grammar.{body, block, statement-if, no-statements, Program}
 use Rattle.grammar.specs.Machine.{
   endOfText,
   Frame,
+  frame,
   doneOf,
   byStatement,
   byReturn,
@@ -17,21 +18,9 @@ use Rattle.grammar.specs.Machine.{
   byBrace,
   declared,
   operandIn,
+  among,
   Control,
-  statementDue,
-  nameFirst,
   returnFirst,
-  ifFirst,
-  operandDue,
-  operandDone,
-  dotLast,
-  functionFirst,
-  functionNamed,
-  parameterPast,
-  objectOpened,
-  propertyNamed,
-  parameterDue,
-  parameterNamed,
   finished,
   look,
   row,
@@ -46,8 +35,31 @@ use Rattle.grammar.specs.Machine.{
   start,
 }
 use Rattle.grammar.proofs.Complete.{run-append}
-use Rattle.grammar.proofs.Places.{statementAt, Reached, in-program}
-use Rattle.grammar.proofs.Partial.{Partial, at-statement, PartialOf}
+use Rattle.grammar.proofs.Places.{statementAt, Reached, in-program, in-declaration, in-function}
+use Rattle.grammar.proofs.Partial.{
+  declaration-at,
+  operand-at,
+  Partial,
+  at-statement,
+  at-inner-statement,
+  behind-name,
+  behind-return,
+  behind-if,
+  behind-then,
+  at-operand,
+  behind-operand,
+  behind-dot,
+  behind-function,
+  behind-function-name,
+  at-parameter,
+  behind-parameter,
+  at-function-body,
+  in-braces,
+  behind-property,
+  behind-end,
+  PartialOf,
+  with-statement,
+}
 use Rattle.grammar.proofs.Steps.{run-keeps}
 
 -- the state behind tokens has their partial derivation
@@ -56,77 +68,75 @@ pub run-partial : (all : List Token) (control : Control) (f : Frame) (around : L
 run-partial all control f around e =
     subst (λ (state : State). PartialOf all state []) e (run-keeps all all start (at-statement (in-program no-statements)))
 
-pub sound : (all : List Token) (f : Frame) → run start all ≡ live (statementDue false body) f [] → Program all (doneOf f)
-sound all f e = whole (run-partial all (statementDue false body) f [] e)
-  where
-    outermost : {done : Syntax} → Reached all (statementAt body) done [] [] [] → Statements body all [] done
-    outermost (in-program statements) = statements
-
-    whole : {f : Frame} → Partial all (statementDue false body) f [] [] → Program all (doneOf f)
-    whole (at-statement place) = outermost place
-
--- the end of the text is taken only where a program may end
-record EndTaken (before : Control) (f : Frame) (around : List Held) (after : Control) (g : Frame) (outside : List Held) : Type 0 where
-  due : before ≡ statementDue false body
-  closed : around ≡ []
-  ended : after ≡ finished
-  same : g ≡ f
-  none : outside ≡ []
-
-module _ (after : Control) (g : Frame) (outside : List Held) where
-  never : {A : Type 0} → dead ≡ live after g outside → A
-  never e = absurd (let z : _≡_ {A = ℕ} 0 1 = cc in omega arith)
-
-  finish-taken : (f : Frame) (around : List Held) → finishIn f around ≡ live after g outside
-      → EndTaken (statementDue false body) f around after g outside
-  finish-taken f [] e = record { due = refl; closed = refl; ended = cc; same = cc; none = cc }
-  finish-taken f (h ∷ around) e = never e
-
-  end-taken : (control : Control) (f : Frame) (around : List Held) (spot : Spot)
-      → take (live control f around) (token endOfText spot) ≡ live after g outside → EndTaken control f around after g outside
-  end-taken (statementDue true scope) f around spot e = never e
-  end-taken (statementDue false body) f around spot e = finish-taken f around e
-  end-taken (statementDue false block) f around spot e = never e
-  end-taken (nameFirst scope) f around spot e = never e
-  end-taken (returnFirst scope) f around spot e = by-line (spot .line) e
-    where
-      by-line : (line : Bool) → act (look endOfText (row (returnFirst scope) line)) (spot .mark) f around ≡ live after g outside
-          → EndTaken (returnFirst scope) f around after g outside
-      by-line true e = never e
-      by-line false e = never e
-  end-taken (ifFirst scope) f around spot e = never e
-  end-taken (operandDue ending target) f around spot e = never e
-  end-taken (operandDone (byStatement scope) target) f around spot e = never e
-  end-taken (operandDone (byReturn scope) target) f around spot e = never e
-  end-taken (operandDone byParen target) f around spot e = never e
-  end-taken (operandDone byBrace target) f around spot e = never e
-  end-taken (dotLast ending target) f around spot e = never e
-  end-taken (functionFirst role) f around spot e = never e
-  end-taken (functionNamed role) f around spot e = never e
-  end-taken (parameterPast declared) f around spot e = never e
-  end-taken (parameterPast (operandIn ending target)) f around spot e = never e
-  end-taken objectOpened f around spot e = never e
-  end-taken propertyNamed f around spot e = never e
-  end-taken parameterDue f around spot e = never e
-  end-taken parameterNamed f around spot e = never e
-  end-taken finished f around spot e = never e
-
 -- behind the end of the text the machine lives only if the text was a program
 pub record Ended (all : List Token) (control : Control) (f : Frame) (around : List Held) : Type 0 where
   pub at-end : control ≡ finished
   pub closed : around ≡ []
   pub program : Program all (doneOf f)
 
+module _ (all : List Token) (spot : Spot) (after : Control) (g : Frame) (outside : List Held) where
+  never : {A : Type 0} {place : ℕ} → dead place ≡ live after g outside → A
+  never e = absurd (let z : _≡_ {A = ℕ} 0 1 = cc in omega arith)
+
+  finish-taken : {done : Syntax} {around : List Held} → Reached all (statementAt (among body)) done [] around []
+      → finishIn (spot .first) (frame done [] [] nil) around ≡ live after g outside → Ended all after g outside
+  finish-taken {done} (in-program statements) e =
+      let same : frame done [] [] nil ≡ g = cc in
+      record { at-end = cc; closed = cc; program = subst (λ (f : Frame). Program all (doneOf f)) same statements }
+  finish-taken (in-declaration outer statements) e = never e
+  finish-taken (in-function outer waits statements) e = never e
+
+  abbrev Takes : Control → Frame → List Held → Type 0
+  Takes control f around = take (live control f around) (token endOfText spot) ≡ live after g outside
+
+  -- the text's end, once the nest is left
+  abbrev Later : List Held → Type 0
+  Later [] = Unit {0}
+  Later (h ∷ around) = (control : Control) (f : Frame) → Partial all control f around [] → Takes control f around → Ended all after g outside
+
+  end-taken : {control : Control} {f : Frame} {around : List Held} → Later around → Partial all control f around [] → Takes control f around
+      → Ended all after g outside
+  end-taken later (at-statement {scope = body} place) e = finish-taken place e
+  end-taken later (at-statement {scope = block} place) e = never e
+  end-taken later (at-inner-statement place) e = never e
+  end-taken later (behind-name place) e = never e
+  end-taken {f = f} {around = around} later (behind-return {setting = setting} place) e = by-line (spot .line) e
+    where
+      by-line : (line : Bool) → act (look endOfText (row (returnFirst setting) line)) endOfText spot f around ≡ live after g outside
+          → Ended all after g outside
+      by-line true e = never e
+      by-line false e = never e
+  end-taken later (behind-if place) e = never e
+  end-taken later (behind-then outer condition inner) e = later _ _ (with-statement outer (statement-if condition inner)) e
+  end-taken later (at-operand outer waits) e = never e
+  end-taken later (behind-operand {ending = byStatement setting} outer waits chain) e = never e
+  end-taken later (behind-operand {ending = byReturn setting} outer waits chain) e = never e
+  end-taken later (behind-operand {ending = byParen} outer waits chain) e = never e
+  end-taken later (behind-operand {ending = byBrace} outer waits chain) e = never e
+  end-taken later (behind-dot outer waits chain) e = never e
+  end-taken later (behind-function place) e = never e
+  end-taken later (behind-function-name place) e = never e
+  end-taken later (at-parameter place) e = never e
+  end-taken later (behind-parameter place) e = never e
+  end-taken later (at-function-body (declaration-at place)) e = never e
+  end-taken later (at-function-body (operand-at outer waits)) e = never e
+  end-taken later (in-braces outer waits) e = never e
+  end-taken later (behind-property outer waits) e = never e
+  end-taken later (behind-end statements) e = never e
+
+  each-end-taken : (around : List Held) (control : Control) (f : Frame) → Partial all control f around [] → Takes control f around
+      → Ended all after g outside
+  each-end-taken [] control f p e = end-taken tt p e
+  each-end-taken (h ∷ around) control f p e = end-taken (each-end-taken around) p e
+
 pub sound-to-end : (all : List Token) (spot : Spot) (control : Control) (f : Frame) (around : List Held)
     → run start (all ++ (token endOfText spot ∷ [])) ≡ live control f around → Ended all control f around
 sound-to-end all spot control f around e = go (run start all) refl (sym (run-append all (token endOfText spot ∷ []) start) ∙ e)
   where
     go : (state : State) → run start all ≡ state → take state (token endOfText spot) ≡ live control f around → Ended all control f around
-    go dead runs taken = never control f around taken
-    go (live before g outside) runs taken =
-        let t = end-taken control f around before g outside spot taken in
-        record {
-          at-end = t .ended;
-          closed = t .none;
-          program = sound all f (cc (runs, t .due, t .closed, t .same));
-        }
+    go (dead place) runs taken = never all spot control f around taken
+    go (live before g outside) runs taken = each-end-taken all spot control f around outside before g (run-partial all before g outside runs) taken
+
+-- what the machine takes with the text's end behind it is a program
+pub sound : (all : List Token) (spot : Spot) (f : Frame) → run start (all ++ (token endOfText spot ∷ [])) ≡ live finished f [] → Program all (doneOf f)
+sound all spot f e = (sound-to-end all spot finished f [] e) .program

@@ -6,12 +6,13 @@ use Prim.Native.Nat.{ℕ, _≤_}
 use lib.Dec.{T, eqb, leb, eqb→eq, eqb-refl, leb→le}
 use Rattle.text.proofs.Range.{and-left, and-right}
 use Rattle.grammar.specs.Grammar.{Operator, operator, operators, isAmong, isOperator, precedence}
-use Rattle.grammar.specs.Machine.{Ending, operandDue, Action, fail, goto, Entry, on, look, takeOperator, operatorRow, unlessLine, threshold}
+use Rattle.grammar.specs.Machine.{Ending, operandDue, Action, fail, goto, Entry, on, otherwise, look, takeOperator, operatorRow, unlessLine, threshold}
 
 -- a property of each entry of a row
 abbrev pub EachEntry : (ℕ → Action → Type 0) → List Entry → Type 0
 EachEntry Holds [] = Unit {0}
 EachEntry Holds (on class action ∷ rest) = Holds class action × EachEntry Holds rest
+EachEntry Holds (otherwise action ∷ rest) = (class : ℕ) → Holds class action
 
 -- what each entry has, and failure has, is had by what is looked up
 pub looked-up : (Holds : ℕ → Action → Type 0) (row : List Entry) → EachEntry Holds row → ((class : ℕ) → Holds class fail) → (class : ℕ)
@@ -22,11 +23,13 @@ looked-up Holds (on x action ∷ rest) each none class = go (eqb class x) (λ sa
     go : (b : Bool) → (T b → T (eqb class x)) → Holds class (look class rest) → Holds class (cond b action (look class rest))
     go true same later = rw (eqb→eq class x (same tt)) (each .0)
     go false same later = later
+looked-up Holds (otherwise action ∷ rest) each none class = each class
 
 pub map-entries : (Holds Then : ℕ → Action → Type 0) (row : List Entry) → ((class : ℕ) (action : Action) → Holds class action → Then class action)
     → EachEntry Holds row → EachEntry Then row
 map-entries Holds Then [] f each = tt
 map-entries Holds Then (on class action ∷ rest) f each = (f class action (each .0), map-entries Holds Then rest f (each .1))
+map-entries Holds Then (otherwise action ∷ rest) f each = λ class. f class action (each class)
 
 -- an entry for another class is passed over
 pub look-past : (class x : ℕ) (action : Action) (rest : List Entry) → T (not (eqb class x)) → look class (on x action ∷ rest) ≡ look class rest

@@ -1,17 +1,17 @@
 -- The theorems of derivations.
 use mathlib.Core.Path.{_≡_, sym, ap, subst, _∙_}
 use mathlib.Core.List.{List, [], _∷_, _++_, append-assoc}
-use mathlib.Core.Bool.{false}
 use Prim.Native.Nat.{ℕ}
 use native.Mathlib.Omega.{arith}
 use Rattle.elements.specs.declared.Element.{Element}
 use Rattle.prefix.specs.Trees.{Trees}
 use Rattle.prefix.specs.Reading.{Limits, accepted, reading}
-use Rattle.grammar.specs.Tokens.{tokens}
-use Rattle.grammar.specs.Grammar.{body, Program}
+use Rattle.grammar.specs.Tokens.{Spot, token, tokens}
+use Rattle.grammar.specs.Grammar.{Program}
 use Rattle.grammar.specs.Derivations.{Derivation, BeginsProgram}
 use Rattle.grammar.specs.TreeElements.{elementsOf}
-use Rattle.grammar.specs.Machine.{dead, live, Control, Frame, frame, Held, doneOf, statementDue, run, start}
+use Rattle.grammar.specs.Machine.{dead, live, Control, Frame, frame, Held, doneOf, endOfText, finished, run, start}
+use Rattle.grammar.proofs.Ran.{anywhere}
 use Rattle.grammar.proofs.Complete.{complete, one-tree}
 use Rattle.grammar.proofs.Sound.{sound}
 use Rattle.grammar.proofs.Programs.{program-read}
@@ -29,7 +29,7 @@ use Rattle.grammar.proofs.Begins.{begins, begins-not, still-going, same
 -- exactly the slashes that the derivation takes as one.
 pub no-program-differs : (text : List ℕ) (d : Derivation text) → ReadAs text (d .elements)
 no-program-differs text d =
-    let r = program-read text (d .cut) (frame (d .parts) [] [] _, complete (d .steps)) in
+    let r = program-read text (d .cut) (frame (d .parts) [] [] _, complete anywhere (d .steps)) in
     record { trees = r .0; reads = r .1; same = r .2 }
 
 -- Demand 3: "any two grammar derivations take every slash alike and have one syntax tree".
@@ -48,10 +48,10 @@ slashes-by-kind text d = choice-answers text (d .cut)
 
 -- A text that is read, and whose elements the machine takes to where a program may end, is a program.
 pub derivation-of : (text : List ℕ) (limits : Limits) (trees : Trees) (f : Frame) → reading text limits ≡ accepted trees
-    → run start (tokens (elementsOf trees)) ≡ live (statementDue false body) f [] → Derivation text
-derivation-of text limits trees f a r =
+    → (stop : Spot) → run start (tokens (elementsOf trees) ++ (token endOfText stop ∷ [])) ≡ live finished f [] → Derivation text
+derivation-of text limits trees f a stop r =
     let c = reading-cuts text limits trees a in
-    record { choice = c .choice; elements = elementsOf trees; cut = c .cut; parts = doneOf f; steps = sound (tokens (elementsOf trees)) f r }
+    record { choice = c .choice; elements = elementsOf trees; cut = c .cut; parts = doneOf f; steps = sound (tokens (elementsOf trees)) stop f r }
 
 -- Elements that begin a program with others behind them begin one: what begins none stays so.
 pub begins-shorter : (text : List ℕ) (es fs : List Element) → BeginsProgram text (es ++ fs) → BeginsProgram text es
@@ -70,8 +70,8 @@ begins-shorter text es fs b =
 -- with a derivation begins with the elements before it, and none begins with these and the element.
 pub first-refused : (text : List ℕ) (limits : Limits) (trees : Trees) → reading text limits ≡ accepted trees
     → (before after : List Element) (e : Element) → elementsOf trees ≡ before ++ (e ∷ after)
-    → (control : Control) (f : Frame) (around : List Held) → run start (tokens before) ≡ live control f around
-    → run start (tokens (before ++ (e ∷ []))) ≡ dead
+    → (control : Control) (f : Frame) (around : List Held) {place : ℕ} → run start (tokens before) ≡ live control f around
+    → run start (tokens (before ++ (e ∷ []))) ≡ dead place
     → BeginsProgram text before × (BeginsProgram text (before ++ (e ∷ [])) → ⊥)
 first-refused text limits trees a before after e split control f around alive stops = (
   begins text (elementsOf trees) before (e ∷ after) (reading-cuts text limits trees a) split control f around alive (still-going before control f around alive),

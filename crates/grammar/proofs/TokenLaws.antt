@@ -4,25 +4,19 @@ use mathlib.Core.Bool.{Bool, true, false, not, cond, _&&_, _||_}
 use mathlib.Core.List.{List, [], _∷_}
 use Prim.Native.Nat.{ℕ, _+_}
 use native.Mathlib.Omega.{arith}
+use borrow.Author.Tests.{eqb-true}
 use lib.Dec.{T, eqb, eqb→eq}
 use Rattle.text.specs.Runs.{same}
+use Rattle.vocabulary.specs.Vocabulary.{Row, words, signs, tokenClass, rowAt}
+use Rattle.vocabulary.proofs.RowLaws.{eachRow, at-row, eachOther, at-other}
 use Rattle.signs.specs.Signs.{longestSign, longestOf}
-use Rattle.elements.specs.Elements.{delimiterKind, nameKind, wordKind, numberKind, stringKind, patternKind, signKind, isWord, isSign}
+use Rattle.elements.specs.Elements.{delimiterKind, nameKind, wordKind, numberKind, stringKind, patternKind, signKind, delimiter, isSign}
 use Rattle.elements.specs.declared.Element.{Element}
 use Rattle.grammar.specs.Cuts.{isCloser}
 use Rattle.grammar.specs.Tokens.{
   Token,
   token,
   Spot,
-  divide,
-  plus,
-  assign,
-  colon,
-  semicolon,
-  dot,
-  returnWord,
-  functionWord,
-  ifWord,
   wordClass,
   signClass,
   delimiterClass,
@@ -38,46 +32,51 @@ use Rattle.grammar.proofs.Counting.{Counting, counting-none, counting-c
 use Rattle.grammar.proofs.OwnMarks.{OwnMarks, own-marks}
 use Rattle.grammar.proofs.Unfinished.{BeforeEnd, none-before, more-before}
 
--- a test that fails at each class of words, or of signs, fails at the class of any
+-- a test that fails at both choices fails
 neither : (test : ℕ → Bool) (b : Bool) (x y : ℕ) → test x ≡ false → test y ≡ false → test (cond b x y) ≡ false
 neither test true x y p q = p
 neither test false x y p q = q
 
-no-word : (test : ℕ → Bool) (which : ℕ) → test returnWord ≡ false → test functionWord ≡ false → test ifWord ≡ false → test 0 ≡ false
-    → test (wordClass which) ≡ false
-no-word test which a b c none =
-    neither test (isWord "return" which) _ _ a (neither test (isWord "function" which) _ _ b (neither test (isWord "if" which) _ _ c none))
+fails : (b : Bool) → T (not b) → b ≡ false
+fails true t = absurd t
+fails false t = refl
 
-no-sign : (test : ℕ → Bool) (which : ℕ) → test divide ≡ false → test plus ≡ false → test assign ≡ false → test colon ≡ false
-    → test semicolon ≡ false → test dot ≡ false → test 0 ≡ false → test (signClass which) ≡ false
-no-sign test which a b c d e f none =
-    neither test (isSign "/" which) _ _ a
-    (neither test (isSign "+" which) _ _ b
-    (neither test (isSign "=" which) _ _ c
-    (neither test (isSign ":" which) _ _ d (neither test (isSign ";" which) _ _ e (neither test (isSign "." which) _ _ f none)))))
+-- a test that fails at the class of each word, of each sign, and of each sign that is no delimiter, fails at any number's
+module _ (test : ℕ → Bool) (none : T (not (test 0))) where
+  abbrev failsAt : Row → Bool
+  failsAt row = not (test (tokenClass row))
 
-apart : (which x y : ℕ) → T (not (eqb x y)) → T (eqb which x) → T (not (eqb which y))
-apart which x y differ h = rw (eqb→eq which x h) differ
+  no-word : T (eachRow (λ number row. failsAt row) 1 words) → (which : ℕ) → test (wordClass which) ≡ false
+  no-word t which = fails (test (wordClass which)) (at-row (λ number row. failsAt row) words t which none)
+
+  no-delimiter : T (eachRow (λ number row. failsAt row) 1 signs) → (which : ℕ) → test (delimiterClass which) ≡ false
+  no-delimiter t which =
+      neither test (delimiter which) (tokenClass (rowAt signs which)) 0
+      (fails (test (tokenClass (rowAt signs which))) (at-row (λ number row. failsAt row) signs t which none)) (fails (test 0) none)
+
+  no-sign : T (eachOther failsAt delimiter signs) → (which : ℕ) → test (signClass which) ≡ false
+  no-sign t which = go (delimiter which) refl
+    where
+      go : (b : Bool) → delimiter which ≡ b → test (cond b 0 (tokenClass (rowAt signs which))) ≡ false
+      go true is = fails (test 0) none
+      go false other = fails (test (tokenClass (rowAt signs which))) (at-other failsAt delimiter signs t none which other)
 
 delimiter-closing : (which : ℕ) → isClosing (delimiterClass which) ≡ (isSign ")" which || isSign "}" which)
-unfolding longestSign longestOf same
-delimiter-closing which =
-    go (isSign "(" which) (isSign ")" which) (isSign "{" which) (isSign "}" which) (apart which _ _ tt) (apart which _ _ tt) (apart which _ _ tt)
+unfolding rowAt delimiter longestSign longestOf same
+delimiter-closing which = go (isSign ")" which) (isSign "}" which) refl refl
   where
-    go : (a b c d : Bool) → (T a → T (not b)) → (T a → T (not d)) → (T c → T (not d))
-        → isClosing (cond a 24 (cond b 25 (cond c 26 (cond d 27 0)))) ≡ (b || d)
-    go true true c d p q r = absurd (p tt)
-    go true false c true p q r = absurd (q tt)
-    go true false c false p q r = refl
-    go false true c d p q r = refl
-    go false false true true p q r = absurd (r tt)
-    go false false true false p q r = refl
-    go false false false true p q r = refl
-    go false false false false p q r = refl
+    go : (a b : Bool) → isSign ")" which ≡ a → isSign "}" which ≡ b → isClosing (delimiterClass which) ≡ (a || b)
+    go true b p q = rw (eqb-true which _ p)
+    go false true p q = rw (eqb-true which _ q)
+    go false false p q =
+        neither isClosing (delimiter which) (tokenClass (rowAt signs which)) 0
+        (fails (isClosing (tokenClass (rowAt signs which)))
+        (at-other (λ row. not (isClosing (tokenClass row))) (λ which. isSign ")" which || isSign "}" which) signs tt tt which (rw (p, q))))
+        refl
 
 -- a token is a closer exactly if its element is
 pub closing-class : (e : Element) → isClosing (classOf e) ≡ isCloser e
-unfolding classOf
+unfolding classOf longestSign longestOf same
 closing-class e = go (eqb (e .kind) delimiterKind) refl
   where
     go : (b : Bool) → eqb (e .kind) delimiterKind ≡ b
@@ -86,11 +85,11 @@ closing-class e = go (eqb (e .kind) delimiterKind) refl
     go false is =
         rw is
         (neither isClosing (eqb (e .kind) nameKind) _ _ refl
-        (neither isClosing (eqb (e .kind) wordKind) _ _ (no-word isClosing (e .which) refl refl refl refl)
+        (neither isClosing (eqb (e .kind) wordKind) _ _ (no-word isClosing tt tt (e .which))
         (neither isClosing (eqb (e .kind) numberKind) _ _ refl
         (neither isClosing (eqb (e .kind) stringKind) _ _ refl
         (neither isClosing (eqb (e .kind) patternKind) _ _ refl
-        (neither isClosing (eqb (e .kind) signKind) _ _ (no-sign isClosing (e .which) refl refl refl refl refl refl refl) refl))))))
+        (neither isClosing (eqb (e .kind) signKind) _ _ (no-sign isClosing tt tt (e .which)) refl))))))
 
 passed : (b : Bool) (n k total : ℕ) → n + (cond b 0 1 + k) ≡ total → cond b n (n + 1) + k ≡ total
 passed true n k total e = omega arith
@@ -120,19 +119,16 @@ element-marks es program = own-marks (tokens-counting (countTreeTokens (tokens e
 
 -- no element has the class of the end of the text
 no-end-class : (e : Element) → eqb (classOf e) endOfText ≡ false
-unfolding classOf
+unfolding classOf longestSign longestOf same
 no-end-class e =
     let test : ℕ → Bool = λ class. eqb class endOfText in
     neither test (eqb (e .kind) nameKind) _ _ refl
-    (neither test (eqb (e .kind) wordKind) _ _ (no-word test (e .which) refl refl refl refl)
+    (neither test (eqb (e .kind) wordKind) _ _ (no-word test tt tt (e .which))
     (neither test (eqb (e .kind) numberKind) _ _ refl
     (neither test (eqb (e .kind) stringKind) _ _ refl
     (neither test (eqb (e .kind) patternKind) _ _ refl
-    (neither test (eqb (e .kind) signKind) _ _ (no-sign test (e .which) refl refl refl refl refl refl refl)
-    (neither test (eqb (e .kind) delimiterKind) _ _
-    (neither test (isSign "(" (e .which)) _ _ refl
-    (neither test (isSign ")" (e .which)) _ _ refl
-    (neither test (isSign "{" (e .which)) _ _ refl (neither test (isSign "}" (e .which)) _ _ refl refl)))) refl))))))
+    (neither test (eqb (e .kind) signKind) _ _ (no-sign test tt tt (e .which))
+    (neither test (eqb (e .kind) delimiterKind) _ _ (no-delimiter test tt tt (e .which)) refl))))))
 
 pub tokens-before-end : (before : ℕ) (es : List Element) → BeforeEnd (tokensFrom before es)
 unfolding tokensFrom

@@ -1,20 +1,24 @@
 -- A run that lives can be completed to a program, and one that is dead cannot.
-use mathlib.Core.Path.{_≡_, refl, _∙_, ap}
+use mathlib.Core.Path.{_≡_, refl, sym, _∙_, ap}
 use mathlib.Core.Bool.{Bool, true, false}
 use mathlib.Core.List.{List, [], _∷_, _++_}
 use Prim.Native.Nat.{ℕ}
 use native.Mathlib.Omega.{arith}
 use Rattle.grammar.specs.Tokens.{Token, token, Spot, name, colon, semicolon, openParen, closeParen, openBrace, closeBrace, returnWord}
 use Rattle.grammar.specs.Syntax.{Syntax}
-use Rattle.grammar.specs.Grammar.{Scope, Program}
+use Rattle.grammar.specs.Grammar.{Program}
 use Rattle.grammar.specs.Machine.{
   endOfText,
   Pending,
   Frame,
   doneOf,
+  ifNest,
+  Setting,
+  inNest,
   Role,
   Control,
   statementDue,
+  behindStatement,
   operandDone,
   parameterPast,
   finished,
@@ -25,7 +29,8 @@ use Rattle.grammar.specs.Machine.{
   run,
   start,
 }
-use Rattle.grammar.proofs.Complete.{complete, complete-to-end, run-append}
+use Rattle.grammar.proofs.Ran.{ran, ran-is-run, ran-append, stays-dead, anywhere}
+use Rattle.grammar.proofs.Complete.{complete, complete-to-end}
 use Rattle.grammar.proofs.Places.{
   Place,
   statementAt,
@@ -54,6 +59,7 @@ use Rattle.grammar.proofs.Partial.{
   behind-name,
   behind-return,
   behind-if,
+  behind-then,
   at-operand,
   behind-operand,
   behind-dot,
@@ -83,10 +89,12 @@ use Rattle.grammar.proofs.Completion.{
   ends-run,
   Completion,
   through,
+  out-of-nest,
 }
 
 -- a statement that must come: `return ;`
-inner-statement : {scope : Scope} {around : List Held} → Completion (statementDue false scope) around → Completion (statementDue true scope) around
+inner-statement : {setting : Setting} {around : List Held} → Completion (behindStatement setting) around
+    → Completion (statementDue true setting) around
 inner-statement c = record {
   classes = returnWord ∷ semicolon ∷ c .classes;
   spelled = more-spelled spelled-return (more-spelled spelled-semicolon (c .spelled));
@@ -95,22 +103,22 @@ inner-statement c = record {
 
 -- how a place is left: where a statement may start, by the closer of what is around; an expression, by its ending
 abbrev Left : Place → List Held → Type 0
-Left (statementAt scope) around = Completion (statementDue false scope) around
+Left (statementAt setting) around = Completion (behindStatement setting) around
 Left (expressionAt ending) around = (target : Bool) → Completion (operandDone ending target) around
 
 left : {all : List Token} {place : Place} {done : Syntax} {starts : List Pending} {around : List Held} {here : List Token}
     → Reached all place done starts around here → Left place around
-left (in-program statements) = record { classes = []; spelled = none-spelled; ends = λ f. (f, refl) }
+left (in-program statements) = record { classes = []; spelled = none-spelled; ends = λ f stop. (f, refl) }
 left (in-block outer statements) = let c = left outer in through spelled-close-brace c λ f closer. c .ends _
 left (in-declaration outer statements) = let c = left outer in through spelled-close-brace c λ f closer. c .ends _
 left (in-function {target = behind} outer waits statements) = let c = left outer behind in through spelled-close-brace c λ f closer. c .ends _
-left (after-if outer condition) = left outer
+left (after-if outer condition) = out-of-nest (left outer)
 left (after-label outer) = left outer
 left (in-expression allowed outer) = λ target. let c = left outer in through spelled-semicolon c λ f end. c .ends _
 left (in-return same outer) = λ target. let c = left outer in through spelled-semicolon c λ f end. c .ends _
 left (in-parens {target = behind} outer waits) = λ target. let c = left outer behind in through spelled-close-paren c λ f closer. c .ends _
 left (in-call {target = behind} outer waits callee) = λ target. let c = left outer behind in through spelled-close-paren c λ f closer. c .ends _
-left (in-condition outer) = λ target. let c = inner-statement (left outer) in through spelled-close-paren c λ f closer. c .ends _
+left (in-condition outer) = λ target. let c = inner-statement {setting = inNest ifNest} (out-of-nest (left outer)) in through spelled-close-paren c λ f closer. c .ends _
 left (in-object {target = behind} outer waits) = λ target. let c = left outer behind in through spelled-close-brace c λ f closer. c .ends _
 
 -- the body of a function: `{ }`
@@ -135,16 +143,17 @@ function-body (operand-at {target = target} outer waits) =
 completion : {all : List Token} {control : Control} {f : Frame} {around : List Held} {here : List Token} → Partial all control f around here
     → (control ≡ finished → ⊥) → Completion control around
 completion (at-statement place) more = left place
-completion (at-inner-statement place) more = inner-statement (left place)
+completion (at-inner-statement {setting = setting} place) more = inner-statement {setting = setting} (left place)
 completion (behind-name place) more = let c = left place in through spelled-semicolon c λ f end. c .ends _
 completion (behind-return place) more = let c = left place in through spelled-semicolon c λ f end. c .ends _
 completion (behind-if place) more =
-    let c = inner-statement (left place) in
+    let c = inner-statement {setting = inNest ifNest} (out-of-nest (left place)) in
     record {
       classes = openParen ∷ name ∷ closeParen ∷ c .classes;
       spelled = more-spelled spelled-open-paren (more-spelled spelled-name (more-spelled spelled-close-paren (c .spelled)));
       ends = λ f opener called closer. c .ends _;
     }
+completion (behind-then outer condition inner) more = out-of-nest (left outer)
 completion (at-operand {target = target} outer waits) more = let c = left outer target in through spelled-name c λ f called. c .ends _
 completion (behind-operand {target = target} outer waits chain) more = left outer target
 completion (behind-dot {target = target} outer waits chain) more = let c = left outer target in through spelled-name c λ f called. c .ends _
@@ -196,23 +205,26 @@ viable all control f around e going =
       classes = c .classes;
       spelled = c .spelled;
       completes = λ more tokens.
-          let r = ends-run (live control f around) tokens (c .ends f) in
-          (doneOf (r .0), sound (all ++ more) (r .0) (run-append all more start ∙ ap (λ (state : State). run state more) e ∙ r .1));
+          let r = ends-run (live control f around) tokens (c .ends f) anywhere in (
+            doneOf (r .0),
+            sound (all ++ more) anywhere (r .0)
+                (ran-is-run anywhere start (all ++ more) ∙ ran-append anywhere all more start ∙ ap (λ (state : State). ran anywhere state more) e ∙ r .1),
+          );
     }
 
-stays-dead : (more : List Token) → run dead more ≡ dead
-stays-dead [] = refl
-stays-dead (t ∷ more) = stays-dead more
-
-pub refused : (all : List Token) → run start all ≡ dead → (more : List Token) (parts : Syntax) → Program (all ++ more) parts → ⊥
-refused all e more parts program =
-    let dies : run start (all ++ more) ≡ dead = run-append all more start ∙ ap (λ (state : State). run state more) e ∙ stays-dead more in
-    let lives = complete program in
+pub refused : (all : List Token) {place : ℕ} → run start all ≡ dead place → (more : List Token) (parts : Syntax) → Program (all ++ more) parts → ⊥
+refused all {place} e more parts program =
+    let dies : ran anywhere start (all ++ more) ≡ dead place =
+    ran-append anywhere all more start
+    ∙ ap (λ (state : State). ran anywhere state more) e
+    ∙ sym (ran-is-run anywhere (dead place) more)
+    ∙ stays-dead place (more ++ (token endOfText anywhere ∷ [])) in
+    let lives = complete anywhere program in
     let z : _≡_ {A = ℕ} 0 1 = cc in
     omega arith
 
 -- at the end of the text too
-pub refused-at-end : (all : List Token) (spot : Spot) → run start (all ++ (token endOfText spot ∷ [])) ≡ dead → (parts : Syntax)
+pub refused-at-end : (all : List Token) (spot : Spot) {place : ℕ} → run start (all ++ (token endOfText spot ∷ [])) ≡ dead place → (parts : Syntax)
     → Program all parts → ⊥
 refused-at-end all spot dies parts program =
     let lives = complete-to-end spot program in

@@ -1,9 +1,10 @@
 -- Document 01, Grammar: derivations, one constructor for each step. Each part leads from the tokens before it to the tokens
 -- after it, and has a syntax tree.
-use Prim.Native.Nat.{ℕ, _+_, _≤_}
+use Prim.Native.Nat.{ℕ, zero, suc, _+_, _≤_}
 use mathlib.Core.Bool.{Bool, true, false, not, cond, _||_}
-use mathlib.Core.List.{List, [], _∷_}
+use mathlib.Core.List.{List, [], _∷_, _++_}
 use lib.Dec.{T, eqb}
+use Rattle.vocabulary.specs.Vocabulary.{Row, barred, taken, words, signs}
 use Rattle.grammar.specs.Tokens.{
   Token,
   token,
@@ -12,8 +13,6 @@ use Rattle.grammar.specs.Tokens.{
   number,
   string,
   pattern,
-  divide,
-  plus,
   assign,
   colon,
   semicolon,
@@ -39,8 +38,15 @@ pub data Leaf : ℕ → Type 0 where
 pub data Operator : Type 0 where
   operator : ℕ → ℕ → Operator
 
+-- the words and signs that have a precedence
+abbrev pub operatorsIn : List Row → List Operator
+operatorsIn [] = []
+operatorsIn (barred t ∷ rows) = operatorsIn rows
+operatorsIn (taken t rule class zero ∷ rows) = operatorsIn rows
+operatorsIn (taken t rule class (suc precedence) ∷ rows) = operator class (suc precedence) ∷ operatorsIn rows
+
 abbrev pub operators : List Operator
-operators = operator divide 2 ∷ operator plus 1 ∷ []
+operators = operatorsIn (words ++ signs)
 
 abbrev pub isAmong : List Operator → ℕ → Bool
 isAmong [] class = false

@@ -4,13 +4,13 @@ use Prim.Native.Nat.{ℕ}
 use mathlib.Core.Bool.{Bool, true, false, cond}
 use mathlib.Core.List.{List, [], _∷_}
 use lib.Dec.{eqb, leb}
-use Rattle.grammar.specs.Tokens.{Token, token, name, number, string, pattern, assign, colon, semicolon, dot, openParen, closeParen, openBrace, closeBrace, returnWord, functionWord, ifWord}
+use Rattle.grammar.specs.Tokens.{Token, token, Spot, name, number, string, pattern, assign, colon, semicolon, dot, openParen, closeParen, openBrace, closeBrace, returnWord, functionWord, ifWord}
 use Rattle.grammar.specs.Syntax.{Syntax, nil, node, snoc, objectSyntax, parenthesisedSyntax, functionSyntax, memberSyntax, callSyntax, expressionSyntax, bareReturnSyntax, fullReturnSyntax, blockSyntax, labelSyntax, ifSyntax, declarationSyntax}
 use Rattle.grammar.specs.Grammar.{Scope, body, block, Operator, operator, operators, precedence}
 
 -- behind the last token of a text stands its end
 abbrev pub endOfText : ℕ
-endOfText = 31
+endOfText = 128
 
 -- what waits for a part on its right: an operator with its left part, or the beginning of a statement; kind, mark, part
 pub data Pending : Type 0 where
@@ -53,9 +53,9 @@ markOf (snoc before last) = 0
 abbrev pub heldWord : ℕ → Syntax
 heldWord mark = node 0 mark nil nil
 
--- what a token does to the frame
+-- what a token does to the frame; a name that a statement starts with is a label or an operand
 pub data Effect : Type 0 where
-  keep takeMember endExpression endReturn endBareReturn takeLabel holdWord startReturn : Effect
+  keep takeName takeMember endExpression endReturn endBareReturn takeLabel holdWord startReturn : Effect
   takeLeaf takeOperator : ℕ → Effect
 
 abbrev pub await : ℕ → ℕ → Frame → Frame
@@ -78,6 +78,7 @@ threshold class = cond (eqb class assign) 1 (precedence class)
 
 abbrev pub affect : Effect → ℕ → Frame → Frame
 affect keep mark f = f
+affect takeName mark (frame done starts waiting operand) = frame done starts waiting (node name mark nil nil)
 affect takeMember mark (frame done starts waiting operand) = frame done starts waiting (node memberSyntax mark operand nil)
 affect endExpression mark (frame done starts waiting operand) = completeExpression mark (reduce 0 done starts waiting operand)
 affect endReturn mark (frame done starts waiting operand) = completeReturn (reduce 0 done starts waiting operand)
@@ -88,9 +89,9 @@ affect startReturn mark (frame done starts waiting operand) = frame done (pendin
 affect (takeLeaf class) mark (frame done starts waiting operand) = frame done starts waiting (node class mark nil nil)
 affect (takeOperator class) mark (frame done starts waiting operand) = await class mark (reduce (threshold class) done starts waiting operand)
 
--- what a group that closes does to the frame around it, with its mark and its value
+-- what a group or nest that closes does to the frame around it, with its mark and its value
 pub data Closing : Type 0 where
-  toParens toCall toObject toBlock toCondition toParameter toDeclaration toFunction : Closing
+  toParens toCall toObject toBlock toCondition toParameter toDeclaration toFunction toStatement : Closing
 
 abbrev pub close : Closing → ℕ → Syntax → Frame → Frame
 close toParens mark value (frame done starts waiting operand) = frame done starts waiting (node parenthesisedSyntax mark value nil)
@@ -101,19 +102,36 @@ close toCondition mark value (frame done starts waiting operand) = frame done (p
 close toParameter mark value f = f
 close toDeclaration mark value (frame done starts waiting operand) = completeStatement done starts (node declarationSyntax (markOf operand) value nil)
 close toFunction mark value (frame done starts waiting operand) = frame done starts waiting (node functionSyntax (markOf operand) value nil)
+close toStatement mark value (frame done starts waiting operand) = completeStatement done starts value
 
--- the value of a group that closes
+-- the last of statements
+abbrev pub lastOf : Syntax → Syntax
+lastOf nil = nil
+lastOf (node kind mark left right) = nil
+lastOf (snoc before last) = last
+
+-- the value of a group or nest that closes
 pub data Value : Type 0 where
-  noValue expressionValue statementsValue : Value
+  noValue expressionValue statementsValue statementValue : Value
 
 abbrev pub valueOf : Value → Frame → Syntax
 valueOf noValue f = nil
 valueOf expressionValue (frame done starts waiting operand) = operandOf (reduce 0 done starts waiting operand)
 valueOf statementsValue f = doneOf f
+valueOf statementValue f = lastOf (doneOf f)
 
--- what ends an expression: the `;` of an expression statement or of a return, in a scope; `)`; the `}` of an object
+-- a part of a level that holds one statement: that of an `if`
+pub data Nest : Type 0 where
+  ifNest : Nest
+
+-- where a statement stands: among the statements of a scope, or alone in a nest
+pub data Setting : Type 0 where
+  among : Scope → Setting
+  inNest : Nest → Setting
+
+-- what ends an expression: the `;` of an expression statement or of a return, in a setting; `)`; the `}` of an object
 pub data Ending : Type 0 where
-  byStatement byReturn : Scope → Ending
+  byStatement byReturn : Setting → Ending
   byParen byBrace : Ending
 
 -- what a function is: a declaration, or an operand of an expression that may yet be assigned to or not
@@ -124,27 +142,36 @@ pub data Role : Type 0 where
 -- Where the machine stands. A Boolean of an expression says whether its chain may be assigned to; that of a statement whether
 -- one must come.
 pub data Control : Type 0 where
-  statementDue : Bool → Scope → Control
-  nameFirst returnFirst ifFirst : Scope → Control
+  statementDue : Bool → Setting → Control
+  statementDone : Nest → Control
+  nameFirst returnFirst : Setting → Control
   operandDue operandDone dotLast : Ending → Bool → Control
   functionFirst functionNamed parameterPast : Role → Control
-  objectOpened propertyNamed parameterDue parameterNamed finished : Control
+  ifFirst objectOpened propertyNamed parameterDue parameterNamed finished : Control
 
--- what to do: nothing more; go on; open a group, with the control for its inside and the one behind it; close it; or end
+-- behind a statement: another may come, or its nest is done
+abbrev pub behindStatement : Setting → Control
+behindStatement (among scope) = statementDue false (among scope)
+behindStatement (inNest nest) = statementDone nest
+
+-- what to do: nothing more; go on; open a group or a nest, with the control for its inside and the one behind it; close the
+-- group; leave the nest before the token, which is for what stands around it; or end
 pub data Action : Type 0 where
   fail : Action
   goto : Control → Effect → Action
-  push : Control → Control → Closing → Action
-  pop : Value → Action
+  push enter : Control → Control → Closing → Action
+  pop leave : Value → Action
   finish : Action
 
--- a row of the machine's table: actions by the class of the token
+-- a row of the machine's table: actions by the class of the token, and for any other
 pub data Entry : Type 0 where
   on : ℕ → Action → Entry
+  otherwise : Action → Entry
 
 abbrev pub look : ℕ → List Entry → Action
 look class [] = fail
 look class (on x action ∷ rest) = cond (eqb class x) action (look class rest)
+look class (otherwise action ∷ rest) = action
 
 abbrev pub leaves : Ending → Bool → List Entry → List Entry
 leaves ending target rest =
@@ -162,10 +189,12 @@ operand ending target =
     ∷ leaves ending target []
 
 -- what a place that needs no statement takes besides
-abbrev pub noStatement : Bool → Scope → List Entry
-noStatement true scope = []
-noStatement false body = on functionWord (goto (functionFirst declared) holdWord) ∷ on closeBrace (pop statementsValue) ∷ on endOfText finish ∷ []
-noStatement false block = on closeBrace (pop statementsValue) ∷ []
+abbrev pub noStatement : Bool → Setting → List Entry
+noStatement true setting = []
+noStatement false (among body) =
+    on functionWord (goto (functionFirst declared) holdWord) ∷ on closeBrace (pop statementsValue) ∷ on endOfText finish ∷ []
+noStatement false (among block) = on closeBrace (pop statementsValue) ∷ []
+noStatement false (inNest nest) = []
 
 abbrev pub operatorRow : Ending → List Operator → List Entry → List Entry
 operatorRow ending [] rest = rest
@@ -173,8 +202,8 @@ operatorRow ending (operator class precedence ∷ more) rest =
     on class (goto (operandDue ending false) (takeOperator class)) ∷ operatorRow ending more rest
 
 abbrev pub endingEntry : Ending → Entry
-endingEntry (byStatement scope) = on semicolon (goto (statementDue false scope) endExpression)
-endingEntry (byReturn scope) = on semicolon (goto (statementDue false scope) endReturn)
+endingEntry (byStatement setting) = on semicolon (goto (behindStatement setting) endExpression)
+endingEntry (byReturn setting) = on semicolon (goto (behindStatement setting) endReturn)
 endingEntry byParen = on closeParen (pop expressionValue)
 endingEntry byBrace = on closeBrace (pop expressionValue)
 
@@ -195,8 +224,8 @@ abbrev pub afterOperand : Ending → Bool → List Entry
 afterOperand ending target = operatorRow ending operators (besidesOperators ending target)
 
 abbrev pub afterParameter : Role → Entry
-afterParameter declared = on openBrace (push (statementDue false body) (statementDue false body) toDeclaration)
-afterParameter (operandIn ending target) = on openBrace (push (statementDue false body) (operandDone ending target) toFunction)
+afterParameter declared = on openBrace (push (statementDue false (among body)) (statementDue false (among body)) toDeclaration)
+afterParameter (operandIn ending target) = on openBrace (push (statementDue false (among body)) (operandDone ending target) toFunction)
 
 abbrev pub unlessLine : Bool → List Entry → List Entry
 unlessLine true row = []
@@ -204,15 +233,16 @@ unlessLine false row = row
 
 -- the table: the row of a control, by whether a line end lies before the token
 abbrev pub row : Control → Bool → List Entry
-row (statementDue must scope) line =
-    on openBrace (push (statementDue false block) (statementDue false scope) toBlock)
-    ∷ on ifWord (goto (ifFirst scope) holdWord)
-    ∷ on returnWord (goto (returnFirst scope) startReturn)
-    ∷ on name (goto (nameFirst scope) (takeLeaf name))
-    ∷ leaves (byStatement scope) true (noStatement must scope)
-row (nameFirst scope) line = on colon (goto (statementDue true scope) takeLabel) ∷ afterOperand (byStatement scope) true
-row (returnFirst scope) line = on semicolon (goto (statementDue false scope) endBareReturn) ∷ unlessLine line (operand (byReturn scope) true)
-row (ifFirst scope) line = on openParen (push (operandDue byParen true) (statementDue true scope) toCondition) ∷ []
+row (statementDue must setting) line =
+    on openBrace (push (statementDue false (among block)) (behindStatement setting) toBlock)
+    ∷ on ifWord (enter ifFirst (behindStatement setting) toStatement)
+    ∷ on returnWord (goto (returnFirst setting) startReturn)
+    ∷ on name (goto (nameFirst setting) takeName)
+    ∷ leaves (byStatement setting) true (noStatement must setting)
+row (statementDone ifNest) line = otherwise (leave statementValue) ∷ []
+row (nameFirst setting) line = on colon (goto (statementDue true setting) takeLabel) ∷ afterOperand (byStatement setting) true
+row (returnFirst setting) line = on semicolon (goto (behindStatement setting) endBareReturn) ∷ unlessLine line (operand (byReturn setting) true)
+row ifFirst line = on openParen (push (operandDue byParen true) (statementDue true (inNest ifNest)) toCondition) ∷ []
 row (operandDue ending target) line = operand ending target
 row (operandDone ending target) line = afterOperand ending target
 row (dotLast ending target) line = on name (goto (operandDone ending target) takeMember) ∷ []
@@ -225,37 +255,52 @@ row parameterDue line = on name (goto parameterNamed keep) ∷ []
 row parameterNamed line = on closeParen (pop noValue) ∷ []
 row finished line = []
 
--- a group that is open: the control behind it, what it does when it closes, its mark, and the frame around it
+-- a group or a nest that is open: the control behind it, what it does when it closes, its mark, and the frame around it
 pub data Held : Type 0 where
-  held : Control → Closing → ℕ → Frame → Held
+  held nested : Control → Closing → ℕ → Frame → Held
 
--- the machine's state: dead, or a control with the innermost level's frame and the groups that are open
+-- the machine's state: dead, by the token at a place; or a control with the innermost level's frame and what is open
 pub data State : Type 0 where
-  dead : State
+  dead : ℕ → State
   live : Control → Frame → List Held → State
 
-abbrev pub popTo : Syntax → List Held → State
-popTo value [] = dead
-popTo value (held behind closing mark f ∷ around) = live behind (close closing mark value f) around
+abbrev pub popTo : ℕ → Syntax → List Held → State
+popTo place value [] = dead place
+popTo place value (held behind closing mark f ∷ around) = live behind (close closing mark value f) around
+popTo place value (nested behind closing mark f ∷ around) = dead place
 
-abbrev pub finishIn : Frame → List Held → State
-finishIn f [] = live finished f []
-finishIn f (h ∷ around) = dead
+abbrev pub finishIn : ℕ → Frame → List Held → State
+finishIn place f [] = live finished f []
+finishIn place f (h ∷ around) = dead place
 
-abbrev pub act : Action → ℕ → Frame → List Held → State
-act fail mark f around = dead
-act (goto control effect) mark f around = live control (affect effect mark f) around
-act (push inside behind closing) mark f around = live inside empty (held behind closing mark f ∷ around)
-act (pop value) mark f around = popTo (valueOf value f) around
-act finish mark f around = finishIn f around
+-- what an action does, and what is done to leave a nest with a value
+abbrev pub actBy : (Syntax → State) → Action → Spot → Frame → List Held → State
+actBy out fail spot f around = dead (spot .first)
+actBy out (goto control effect) spot f around = live control (affect effect (spot .mark) f) around
+actBy out (push inside behind closing) spot f around = live inside empty (held behind closing (spot .mark) f ∷ around)
+actBy out (enter inside behind closing) spot f around =
+    live inside (frame nil [] [] (heldWord (spot .mark))) (nested behind closing (spot .mark) f ∷ around)
+actBy out (pop value) spot f around = popTo (spot .first) (valueOf value f) around
+actBy out (leave value) spot f around = out (valueOf value f)
+actBy out finish spot f around = finishIn (spot .first) f around
+
+-- a nest is left with a value: the control behind it takes the token
+abbrev pub leaveTo : ℕ → Spot → List Held → Syntax → State
+leaveTo class spot [] value = dead (spot .first)
+leaveTo class spot (held behind closing opened f ∷ around) value = dead (spot .first)
+leaveTo class spot (nested behind closing opened f ∷ around) value =
+    actBy (leaveTo class spot around) (look class (row behind (spot .line))) spot (close closing opened value f) around
+
+abbrev pub act : Action → ℕ → Spot → Frame → List Held → State
+act action class spot f around = actBy (leaveTo class spot around) action spot f around
 
 abbrev pub take : State → Token → State
-take dead t = dead
-take (live control f around) (token class spot) = act (look class (row control (spot .line))) (spot .mark) f around
+take (dead place) t = dead place
+take (live control f around) (token class spot) = act (look class (row control (spot .line))) class spot f around
 
 abbrev pub run : State → List Token → State
 run state [] = state
 run state (t ∷ ts) = run (take state t) ts
 
 abbrev pub start : State
-start = live (statementDue false body) empty []
+start = live (statementDue false (among body)) empty []

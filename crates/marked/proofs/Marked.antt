@@ -17,11 +17,11 @@ use Rattle.reader.specs.Read.{readingFor}
 use Rattle.grammar.specs.Tokens.{classOf, tokensFrom}
 use Rattle.grammar.specs.Syntax.{syntaxRecords}
 use Rattle.grammar.specs.TreeElements.{elementsOf}
-use Rattle.parser.specs.Parse.{fateOf, parsingFor}
+use Rattle.parser.specs.Parse.{stateAfter, parsingFor}
 use Rattle.respacer.specs.Respaced.{addElement, addCloser, addTrees}
 use Rattle.respacer.specs.Respace.{wholeReading}
 use Rattle.marked.specs.Marked.{allHold, readings}
 
 pub all-hold : T (allHold readings)
-unfolding blank lineEnd illegal letter digit nameByte Runs.run Runs.same placeIn wordNumber taken longestSign longestOf gap numberFrom quote stringRest patternRest elementAt elementFrom named delimiter count elementClass groupClass backwards opensObject opensPattern step turn readOn reading records readingFor classOf tokensFrom syntaxRecords elementsOf fateOf parsingFor addElement addCloser addTrees wholeReading
+unfolding blank lineEnd illegal letter digit nameByte Runs.run Runs.same placeIn wordNumber taken longestSign longestOf gap numberFrom quote stringRest patternRest elementAt elementFrom named delimiter count elementClass groupClass backwards opensObject opensPattern step turn readOn reading records readingFor classOf tokensFrom syntaxRecords elementsOf stateAfter parsingFor addElement addCloser addTrees wholeReading
 all-hold = tt

@@ -1,4 +1,4 @@
--- The whole table: what `program` answers by the statements, and what `parse` answers by that.
+-- The whole table: what `program` answers by its statements, and what `parse` answers by that.
 use mathlib.Core.Path.{_≡_, refl, sym, ap, subst, _∙_}
 use mathlib.Core.List.{List, [], _∷_, _++_}
 use mathlib.Core.Bool.{Bool, false, cond}
@@ -17,58 +17,81 @@ use Rattle.reader.specs.Read.{readLimits, readingFor, tableAfter}
 use Rattle.reader.proofs.CellLaws.{records-length}
 use Rattle.grammar.specs.Tokens.{Token, tokens}
 use Rattle.grammar.specs.Syntax.{Syntax, nil, size, syntaxRecords, programSyntax, programTree}
-use Rattle.grammar.specs.Grammar.{body, statementsForm, Program}
 use Rattle.grammar.specs.TreeElements.{elementsOf}
-use Rattle.grammar.specs.Machine.{finished, statementDue, live, frame, empty}
-use Rattle.grammar.proofs.Complete.{complete, complete-to-end}
-use Rattle.grammar.proofs.Counts.{few-parts}
-use Rattle.grammar.proofs.CountTrees.{count-tokens}
-use Rattle.parser.specs.Parts.{Part, part, countOf, Fine, tokensAt}
-use Rattle.parser.specs.Follow.{Fate, stands, follow}
-use Rattle.parser.specs.Written.{putRecord, putSyntax}
-use Rattle.parser.specs.Says.{Says, AtEnd, Success, Judged, judged-bad, judged-full, judged-program}
-use Rattle.parser.specs.Parse.{noProgram, syntaxFull, Parsing, program, denied, endSpot, endToken, fateOf, partsBy, partsOf, judged, fitting, parsed, parsingFor, answerOf, treesAfter, syntaxAfter}
-use Rattle.parser.specs.declared.Parsed.{Parsed}
-use Rattle.parser.specs.declared.Parsed.the-variants.{Done, Bad}
-use Rattle.parser.proofs.FollowLaws.{Tied, run-followed}
-use Rattle.parser.proofs.Verdicts.{tied-finished}
-use Rattle.parser.proofs.SaidLaws.{says-success, says-fails}
-use Rattle.parser.proofs.ProgramPaths.{program-derives, program-written, program-count, program-dies}
+use Rattle.grammar.specs.Machine.{endOfText, State, dead, live, finished, frame, run, start}
+use Rattle.controls.specs.Numbers.{settingBy}
+use Rattle.waiting.specs.Written.{putRecord, putSyntax}
+use Rattle.parts.specs.Parts.{Part, part, countOf, Fine, tokensAt}
+use Rattle.parts.proofs.ReadParts.{reading-fine, reading-tokens}
+use Rattle.levels.specs.Runs.{Through, ran-through, ran-dead, RanStatements}
+use Rattle.levels.specs.declared.Parsed.{Parsed}
+use Rattle.levels.specs.declared.Parsed.the-variants.{Done, Bad}
+use Rattle.parser.specs.Parse.{noProgram, syntaxFull, Parsing, program, denied, endToken, stateAfter, judged, fitting, parsed, parsingFor, answerOf, treesAfter, syntaxAfter}
+use Rattle.parser.specs.Judged.{stateBehind, Built, Judged, judged-bad, judged-full, judged-program}
 use Rattle.parser.proofs.WrittenCells.{syntax-written, syntax-kept-length}
 use Rattle.parser.proofs.AcceptedReadings.{AcceptedReading, accepted-reading}
-use Rattle.parser.proofs.ReadParts.{reading-fine, reading-tokens}
 
-module _ {p : Part} {table middle : List ℕ} {r : Parsed} (says : Says (statementsForm body) AtEnd p 0 0 table r middle) where
+-- the statements of the whole table, up to the text's end
+module _ {p : Part} {table stack middle stack′ : List ℕ} where
+  bad : {place : ℕ} → RanStatements 0 endOfText p 0 0 table stack (Bad place) middle stack′ → stateBehind p ≡ dead place
+  unfolding settingBy
+  bad (ran-dead dies) = dies [] 0 []
+
+  done : {n : ℕ} → RanStatements 0 endOfText p 0 0 table stack (Done n) middle stack′ → (parts : Syntax) × Built p parts × (n ≡ size parts) × (middle ≡ putSyntax table 0 parts)
+  unfolding settingBy
+  done (ran-through t) =
+      (t .value, record { ends = t .runs [] 0 []; few = omega (arith, t .count-is, t .passes) }, omega (arith, t .count-is), t .cells-are)
+
+module _ {p : Part} {table stack middle stack′ : List ℕ} {r : Parsed} (ran : RanStatements 0 endOfText p 0 0 table stack r middle stack′) where
+  ran-as : {s : Parsed} → r ≡ s → RanStatements 0 endOfText p 0 0 table stack s middle stack′
+  ran-as e = subst (λ (x : Parsed). RanStatements 0 endOfText p 0 0 table stack x middle stack′) e ran
+
   pub judge-bad : {place : ℕ} {after : List ℕ} → r ≡ Bad place → Judged p table (Answer.Refused noProgram place) after
-  judge-bad e = judged-bad (says-fails says e)
+  judge-bad e = judged-bad (bad (ran-as e))
 
-  module _ {j n all : ℕ} {after : List ℕ} (e : r ≡ Done j n) (counts : all ≡ n + 1) (wrote : after ≡ putRecord middle n programSyntax (countOf (p .cells)) (n - 0 + 1)) where
-    s : Success (statementsForm body) AtEnd p 0 0 table j n middle
-    s = says-success says e
+  module _ {n : ℕ} (e : r ≡ Done n) where
+    parts : Syntax
+    parts = done (ran-as e) .0
 
-    written : after ≡ putSyntax table 0 (programTree (countOf (p .cells)) (s .syntax))
-    written = wrote ∙ program-written s (countOf (p .cells))
+    built : Built p parts
+    unfolding parts
+    built = done (ran-as e) .1
 
-    number : all ≡ size (programTree (countOf (p .cells)) (s .syntax))
-    number = counts ∙ program-count s (countOf (p .cells))
+    size-is : n ≡ size parts
+    unfolding parts
+    size-is = done (ran-as e) .2
 
-    kept : length after ≡ length table
-    kept = ap length written ∙ syntax-kept-length (programTree (countOf (p .cells)) (s .syntax)) table 0
+    pub few-records : n ≤ countOf (p .cells)
+    few-records = omega (arith, size-is, built .few)
 
-    pub judge-full : all ≤ mostSyntax → syntaxRoom (length after) < all → Judged p table (Answer.Refused syntaxFull (p .close)) after
-    judge-full few h = judged-full (s .syntax) (program-derives s) (omega (arith, number, kept))
+    module _ {all : ℕ} {after : List ℕ} (counts : all ≡ n + 1) (wrote : after ≡ putRecord middle n programSyntax (countOf (p .cells)) (n - 0 + 1)) where
+      tree : Syntax
+      tree = programTree (countOf (p .cells)) parts
 
-    pub judge-program : all ≤ syntaxRoom (length after) → Judged p table (Answer.Accepted all) after
-    judge-program h = judged-program (s .syntax) (program-derives s) number (omega (arith, kept)) written
+      written : after ≡ putSyntax table 0 tree
+      unfolding parts tree putSyntax
+      written =
+          let d = done (ran-as e) in
+          let own : n - 0 + 1 ≡ size (d .0) + 0 + 1 = omega (arith, d .2) in
+          let at : n ≡ 0 + size (d .0) + 0 = omega (arith, d .2) in
+          wrote ∙ ap (λ (k : ℕ). putRecord middle n programSyntax (countOf (p .cells)) k) own
+          ∙ ap (λ (k : ℕ). putRecord middle k programSyntax (countOf (p .cells)) (size (d .0) + 0 + 1)) at
+          ∙ ap (λ (cells : List ℕ). putRecord cells (0 + size (d .0) + 0) programSyntax (countOf (p .cells)) (size (d .0) + 0 + 1)) (d .3)
 
--- the machine takes the tokens of a program to the end, and has built its parts
-program-fate : (end : ℕ) (trees : Trees) (v : Syntax) → Program (tokens (elementsOf trees)) v → (fateOf end trees ≡ stands finished []) × (partsOf trees ≡ v)
-unfolding fateOf
-program-fate end trees v steps =
-    let all = tokens (elementsOf trees) ++ (endToken end ∷ []) in
-    let tied : Tied (follow (statementDue false body) [] all) (live finished (frame v [] [] nil) []) =
-    rw (complete-to-end (endSpot end) steps) at (run-followed (statementDue false body) empty [] all) in
-    (tied-finished tied, ap partsBy (complete steps))
+      number : all ≡ size tree
+      unfolding tree
+      number = omega (arith, counts, size-is)
+
+      kept : length after ≡ length table
+      kept = ap length written ∙ syntax-kept-length tree table 0
+
+      pub judge-full : all ≤ mostSyntax → syntaxRoom (length after) < all → Judged p table (Answer.Refused syntaxFull (p .close)) after
+      unfolding tree
+      judge-full few h = judged-full parts built (omega (arith, number, kept))
+
+      pub judge-program : all ≤ syntaxRoom (length after) → Judged p table (Answer.Accepted all) after
+      unfolding tree
+      judge-program h = judged-program parts built number (omega (arith, kept)) written
 
 -- what `read` leaves where it accepts
 pub record ReadDone (text table now : List ℕ) (number : ℕ) : Type 0 where
@@ -132,42 +155,33 @@ module _ {text table now : List ℕ} {n : ℕ} (d : ReadDone text table now n) w
         | Answer.Refused number place ↦ parsingFor text (length table) room ≡ denied number place
       ]
 
-  by-reading : (room : ℕ) → parsingFor text (length table) room ≡ fitting (length text) (syntaxRoom room) (judged (d .trees) (fateOf (length text) (d .trees)))
-  unfolding parsingFor
-  by-reading room = ap (parsed (length text) (syntaxRoom room)) (d .reads)
+  by-state : (room : ℕ) {state : State} → stateBehind whole ≡ state
+      → parsingFor text (length table) room ≡ fitting (length text) (syntaxRoom room) (judged (d .trees) state)
+  unfolding parsingFor stateAfter
+  by-state room e =
+      ap (parsed (length text) (syntaxRoom room)) (d .reads)
+      ∙ ap (λ (ts : List Token). fitting (length text) (syntaxRoom room) (judged (d .trees) (run start (ts ++ (endToken (length text) ∷ []))))) (sym all-tokens)
+      ∙ ap (λ (z : State). fitting (length text) (syntaxRoom room) (judged (d .trees) z)) e
 
-  by-program : (room : ℕ) (v : Syntax) → Program (tokensAt whole 0) v
+  by-program : (room : ℕ) (v : Syntax) → Built whole v
       → parsingFor text (length table) room ≡ fitting (length text) (syntaxRoom room) (program (d .trees) (programTree (countOf (records (d .trees))) v))
-  by-program room v steps =
-      let f = program-fate (length text) (d .trees) v (subst (λ (ts : List Token). Program ts v) all-tokens steps) in
-      let same : programTree (count (d .trees)) (partsOf (d .trees)) ≡ programTree (countOf (records (d .trees))) v = cc (f .1, all-count) in
-      by-reading room
-      ∙ ap (λ (z : Fate). fitting (length text) (syntaxRoom room) (judged (d .trees) z)) (f .0)
-      ∙ ap (λ (w : Syntax). fitting (length text) (syntaxRoom room) (program (d .trees) w)) same
-
-  few-records : (v : Syntax) → Program (tokensAt whole 0) v → size (programTree (countOf (records (d .trees))) v) ≤ mostSyntax
-  few-records v steps =
-      let p : Program (tokens (elementsOf (d .trees))) v = subst (λ (ts : List Token). Program ts v) all-tokens steps in
-      omega (arith, few-parts p, count-tokens 0 (elementsOf (d .trees)), known .counted, few-trees)
+  by-program room v built =
+      by-state room (built .ends)
+      ∙ ap (λ (n : ℕ). fitting (length text) (syntaxRoom room) (program (d .trees) (programTree n v))) (sym all-count)
 
   pub judged-parses : {syntax after : List ℕ} {answer : Answer} → Judged whole syntax answer after → Parses (length syntax) syntax answer after
-  unfolding fateOf
-  judged-parses {syntax} (judged-bad {place = place} fails) =
-      by-reading (length syntax)
-      ∙ ap (λ (z : Fate). fitting (length text) (syntaxRoom (length syntax)) (judged (d .trees) z))
-      (ap (λ (ts : List Token). follow (statementDue false body) [] (ts ++ (endToken (length text) ∷ []))) (sym all-tokens)
-      ∙ program-dies fails (endSpot (length text)) refl)
-  judged-parses {syntax} (judged-full v steps more) =
-      by-program (length syntax) v steps
+  judged-parses {syntax} (judged-bad dies) = by-state (length syntax) dies
+  judged-parses {syntax} (judged-full v built more) =
+      by-program (length syntax) v built
       ∙ ap (λ (b : Bool). cond b (program (d .trees) (programTree (countOf (records (d .trees))) v)) (denied syntaxFull (length text)))
       (lt-leb (size (programTree (countOf (records (d .trees))) v)) (syntaxRoom (length syntax)) (omega arith))
-  judged-parses {syntax} (judged-program {n = n} v steps counts fits wrote) =
+  judged-parses {syntax} (judged-program {n = n} v built counts fits wrote) =
       let tree = programTree (countOf (records (d .trees))) v in
       let cells : size tree * syntaxWidth ≡ syntaxWidth * size tree = omega arith in (
         tree,
-        by-program (length syntax) v steps
+        by-program (length syntax) v built
             ∙ ap (λ (b : Bool). cond b (program (d .trees) tree) (denied syntaxFull (length text)))
-            (le-leb (size tree) (syntaxRoom (length syntax)) (omega (arith, few-records v steps))),
+            (le-leb (size tree) (syntaxRoom (length syntax)) (omega (arith, built .few, all-count, few-trees))),
         counts,
         wrote ∙ syntax-written tree syntax (omega arith) ∙ ap (λ (k : ℕ). syntaxRecords tree ++ drop k syntax) cells,
       )

@@ -15,35 +15,34 @@ use Rattle.reader.proofs.Formed.{Formed, reading-formed}
 use Rattle.grammar.specs.Syntax.{Syntax, size, programTree}
 use Rattle.grammar.specs.Derivations.{Derivation, countTrees, syntaxTree, deepestFrom, WithinLimits, LongEnough}
 use Rattle.grammar.specs.TreeElements.{elementsOf}
-use Rattle.grammar.specs.Machine.{Control}
+use Rattle.grammar.specs.Machine.{State, dead, live, Control, Frame, Held, doneOf}
 use Rattle.grammar.proofs.TreeSizes.{count-elements, deepest-elements}
 use Rattle.grammar.proofs.Theorems.{no-program-differs, few-parts-each-marked}
-use Rattle.parser.specs.Follow.{Fate, stands, died}
 use Rattle.tables.specs.Records.{syntaxRoom}
-use Rattle.parser.specs.Parse.{syntaxFull, Parsing, program, denied, fateOf, judged, fitting, parsed, parsingFor, partsOf, answerOf, treesAfter, syntaxAfter}
+use Rattle.parser.specs.Parse.{syntaxFull, Parsing, program, denied, stateAfter, judged, fitting, parsed, parsingFor, answerOf, treesAfter, syntaxAfter}
 use Rattle.parser.proofs.AcceptedReadings.{AcceptedReading, accepted-reading}
 use Rattle.parser.specs.Verdict.{Verdict, as-read, no-program, syntax-full, accepts, Left}
 use Rattle.parser.proofs.Verdicts.{accepted-derives, refused-derives, derives-accepted, no-derivation}
 
 module _ (text : List ℕ) (treeCells syntaxCells : ℕ) where
   -- the machine at the end of the elements of an accepted reading
-  module _ (trees : Trees) (r : readingFor text treeCells ≡ accepted trees) (control : Control) (behinds : List Control)
-      (f : fateOf (length text) trees ≡ stands control behinds) where
+  module _ (trees : Trees) (r : readingFor text treeCells ≡ accepted trees) (control : Control) (f : Frame) (around : List Held)
+      (e : stateAfter (length text) trees ≡ live control f around) where
     a : AcceptedReading text treeCells trees
     a = accepted-reading text treeCells trees r
 
-    judged-program : (b : Bool) → leb (size (programTree (count trees) (partsOf trees))) (syntaxRoom syntaxCells) ≡ b
-        → Verdict text treeCells syntaxCells (cond b (program trees (programTree (count trees) (partsOf trees))) (denied syntaxFull (length text)))
+    judged-program : (b : Bool) → leb (size (programTree (count trees) (doneOf f))) (syntaxRoom syntaxCells) ≡ b
+        → Verdict text treeCells syntaxCells (cond b (program trees (programTree (count trees) (doneOf f))) (denied syntaxFull (length text)))
     judged-program b q =
-        let d = accepted-derives text (readLimits treeCells) trees (a .reads) control behinds f in
+        let d = accepted-derives text (readLimits treeCells) trees (a .reads) control f around e in
         let elements : countTrees (d .0 .elements) ≡ count trees = ap countTrees (d .1) ∙ a .counted in
         let deep : deepestFrom 0 (d .0 .elements) ≡ deepest trees = ap (deepestFrom 0) (d .1) ∙ a .deep-as in
-        let same : programTree (count trees) (partsOf trees) ≡ syntaxTree (d .0) = cc in
+        let same : programTree (count trees) (doneOf f) ≡ syntaxTree (d .0) = cc in
         go (d .0) (d .1) elements deep same b (subst (λ (v : Syntax). leb (size v) (syntaxRoom syntaxCells) ≡ b) same q)
       where
         go : (d : Derivation text) → d .elements ≡ elementsOf trees → countTrees (d .elements) ≡ count trees → deepestFrom 0 (d .elements) ≡ deepest trees
-            → programTree (count trees) (partsOf trees) ≡ syntaxTree d → (b : Bool) → leb (size (syntaxTree d)) (syntaxRoom syntaxCells) ≡ b
-            → Verdict text treeCells syntaxCells (cond b (program trees (programTree (count trees) (partsOf trees))) (denied syntaxFull (length text)))
+            → programTree (count trees) (doneOf f) ≡ syntaxTree d → (b : Bool) → leb (size (syntaxTree d)) (syntaxRoom syntaxCells) ≡ b
+            → Verdict text treeCells syntaxCells (cond b (program trees (programTree (count trees) (doneOf f))) (denied syntaxFull (length text)))
         go d elements counted depth same true fit =
             let few : size (syntaxTree d) ≤ syntaxRoom syntaxCells = leb-true (size (syntaxTree d)) (syntaxRoom syntaxCells) fit in
             accepts
@@ -66,22 +65,22 @@ module _ (text : List ℕ) (treeCells syntaxCells : ℕ) where
               more = omega (arith, few-parts-each-marked text d .few, a .room);
             })
 
-  by-fate : (trees : Trees) → readingFor text treeCells ≡ accepted trees → (fate : Fate) → fateOf (length text) trees ≡ fate
-      → Verdict text treeCells syntaxCells (fitting (length text) (syntaxRoom syntaxCells) (judged trees fate))
-  by-fate trees r (stands control behinds) f =
-      judged-program trees r control behinds f (leb (size (programTree (count trees) (partsOf trees))) (syntaxRoom syntaxCells)) refl
-  by-fate trees r (died place) f =
+  by-state : (trees : Trees) → readingFor text treeCells ≡ accepted trees → (state : State) → stateAfter (length text) trees ≡ state
+      → Verdict text treeCells syntaxCells (fitting (length text) (syntaxRoom syntaxCells) (judged trees state))
+  by-state trees r (live control f around) e =
+      judged-program trees r control f around e (leb (size (programTree (count trees) (doneOf f))) (syntaxRoom syntaxCells)) refl
+  by-state trees r (dead place) e =
       let a = accepted-reading text treeCells trees r in
       no-program
       (record {
         trees = trees;
         reads = r;
-        first = refused-derives text (readLimits treeCells) trees (a .reads) place f;
-        none = no-derivation text (readLimits treeCells) trees (a .reads) place f;
+        first = refused-derives text (readLimits treeCells) trees (a .reads) place e;
+        none = no-derivation text (readLimits treeCells) trees (a .reads) place e;
       })
 
   by-reading : (r : Reading) → readingFor text treeCells ≡ r → Verdict text treeCells syntaxCells (parsed (length text) (syntaxRoom syntaxCells) r)
-  by-reading (accepted trees) r = by-fate trees r (fateOf (length text) trees) refl
+  by-reading (accepted trees) r = by-state trees r (stateAfter (length text) trees) refl
   by-reading (refused number place) r = as-read r
 
   -- Of every text and all tables: what parsing answers, by derivations and the reading.
@@ -103,12 +102,12 @@ accepts-all text treeCells syntaxCells d limits tables =
     read-fits text treeCells trees (r .reads) (limits .few-bytes) (omega (arith, tables .trees-fit, limits .few-trees)) (omega (arith, limits .shallow)) in
     let a = accepted-reading text treeCells trees reads in
     let s = derives-accepted text (readLimits treeCells) trees (a .reads) d in
-    let same : programTree (count trees) (partsOf trees) ≡ syntaxTree d = cc in
+    let same : programTree (count trees) (d .parts) ≡ syntaxTree d = cc in
     let fit : leb (size (syntaxTree d)) (syntaxRoom syntaxCells) ≡ true =
     le-leb (size (syntaxTree d)) (syntaxRoom syntaxCells) (omega (arith, tables .parts-fit, limits .few-parts)) in (
       trees,
       ap (parsed (length text) (syntaxRoom syntaxCells)) reads
-          ∙ ap (λ (z : Fate). fitting (length text) (syntaxRoom syntaxCells) (judged trees z)) (s .2)
+          ∙ ap (λ (z : State). fitting (length text) (syntaxRoom syntaxCells) (judged trees z)) (s .1)
           ∙ ap (λ (v : Syntax). fitting (length text) (syntaxRoom syntaxCells) (program trees v)) same
           ∙ ap (λ (b : Bool). cond b (program trees (syntaxTree d)) (denied syntaxFull (length text))) fit,
       r .same,

@@ -2,7 +2,7 @@
 -- those so far begin no program.
 use mathlib.Core.Path.{_≡_, refl, sym, ap, subst, _∙_}
 use mathlib.Core.List.{List, [], _∷_, _++_, append-nil}
-use mathlib.Core.Bool.{false, cond}
+use mathlib.Core.Bool.{cond}
 use Prim.Native.Nat.{ℕ, _+_}
 use native.Mathlib.Omega.{arith}
 use lib.ListN.{length}
@@ -13,18 +13,17 @@ use Rattle.prefix.proofs.LimitLaws.{accepted-unlimited}
 use Rattle.grammar.specs.Cuts.{isCloser}
 use Rattle.grammar.specs.Tokens.{Token, token, Spot, tokenOf, tokensFrom, tokens}
 use Rattle.grammar.specs.Syntax.{nil}
-use Rattle.grammar.specs.Grammar.{body, Program}
+use Rattle.grammar.specs.Grammar.{Program}
 use Rattle.grammar.specs.Derivations.{Derivation}
 use Rattle.grammar.specs.TreeElements.{elementsOf}
-use Rattle.grammar.specs.Machine.{State, dead, live, Control, finished, Frame, frame, empty, doneOf, statementDue, take, run, start}
-use Rattle.grammar.proofs.Complete.{complete, complete-to-end, run-append}
+use Rattle.grammar.specs.Machine.{dead, live, Control, finished, Frame, frame, Held, doneOf, run, start}
+use Rattle.grammar.proofs.Complete.{complete-to-end}
 use Rattle.grammar.proofs.Sound.{sound-to-end}
 use Rattle.grammar.proofs.ReadCuts.{reading-cuts}
+use Rattle.grammar.proofs.Deaths.{Death, death}
 use Rattle.grammar.proofs.Begins.{begins, still-going}
 use Rattle.grammar.proofs.Theorems.{no-program-differs, first-refused}
-use Rattle.parser.specs.Follow.{Fate, stands, died, follow}
-use Rattle.parser.specs.Parse.{endSpot, endToken, fateOf, partsBy, partsOf}
-use Rattle.parser.proofs.FollowLaws.{run-followed, Tied, tied-live, tied-stands, DiesAt, died-there}
+use Rattle.parser.specs.Parse.{endSpot, endToken, stateAfter}
 use Rattle.parser.specs.Verdict.{Refuses, at-element, at-end}
 
 -- a token among those of elements and one behind them: that of an element, with the elements before it, or the last
@@ -56,9 +55,6 @@ find mark (e ∷ es) end (x ∷ before) class spot after q =
         let t : x ≡ tokenOf mark e = cc in
         on-end (cc) last
 
-pub tied-finished : {fate : Fate} {f : Frame} → Tied fate (live finished f []) → fate ≡ stands finished []
-tied-finished tied-live = refl
-
 module _ (text : List ℕ) (limits : Limits) (trees : Trees) (a : reading text limits ≡ accepted trees) where
   abbrev es : List Element
   es = elementsOf trees
@@ -66,54 +62,49 @@ module _ (text : List ℕ) (limits : Limits) (trees : Trees) (a : reading text l
   abbrev all : List Token
   all = tokens es ++ (endToken (length text) ∷ [])
 
-  -- where the machine stands at the end, the text has a derivation, and the machine has built its parts
-  pub accepted-derives : (control : Control) (behinds : List Control) → fateOf (length text) trees ≡ stands control behinds
-      → (d : Derivation text) × (d .elements ≡ es) × (d .parts ≡ partsOf trees)
-  unfolding fateOf
-  accepted-derives control behinds e =
-      let tied : Tied (stands control behinds) (run start all) = rw e at (run-followed (statementDue false body) empty [] all) in
-      let s = tied-stands tied in
-      let ended = sound-to-end (tokens es) (endSpot (length text)) control (s .f) (s .around) (s .is) in
+  -- where the machine lives at the end, the text has a derivation, and the machine has built its parts
+  pub accepted-derives : (control : Control) (f : Frame) (around : List Held) → stateAfter (length text) trees ≡ live control f around
+      → (d : Derivation text) × (d .elements ≡ es) × (d .parts ≡ doneOf f)
+  unfolding stateAfter
+  accepted-derives control f around e =
+      let ended = sound-to-end (tokens es) (endSpot (length text)) control f around e in
       let cuts = reading-cuts text limits trees a in (
-        record { choice = cuts .choice; elements = es; cut = cuts .cut; parts = doneOf (s .f); steps = ended .program },
+        record { choice = cuts .choice; elements = es; cut = cuts .cut; parts = doneOf f; steps = ended .program },
         refl,
-        sym (ap partsBy (complete (ended .program))),
+        refl,
       )
 
-  -- where it dies, the elements so far begin no program
-  pub refused-derives : (place : ℕ) → fateOf (length text) trees ≡ died place → Refuses text es place
-  unfolding fateOf
-  refused-derives place e = go (died-there all (statementDue false body) empty [] place e)
+  -- where it is dead, the elements so far begin no program
+  pub refused-derives : (place : ℕ) → stateAfter (length text) trees ≡ dead place → Refuses text es place
+  unfolding stateAfter
+  refused-derives place e = go (death all place e)
     where
-      go : DiesAt start all place → Refuses text es place
+      go : Death start all place → Refuses text es place
       go d = by (find 0 es (endToken (length text)) (d .before) (d .class) (d .spot) (d .after) (d .split))
         where
           by : Where 0 es (endToken (length text)) (d .before) (d .class) (d .spot) → Refuses text es place
           by (on-element firsts f rest split are one here) =
               let alive : run start (tokens firsts) ≡ live (d .control) (d .f) (d .around) = rw are at (d .alive) in
-              let stops : run start (tokens (firsts ++ (f ∷ []))) ≡ dead =
-              ap (run start) (sym one) ∙ run-append (d .before) (token (d .class) (d .spot) ∷ []) start ∙ ap (λ (z : State). take z (token (d .class) (d .spot))) (d .alive) ∙ d .dies in
-              let r = first-refused text limits trees a firsts rest f split (d .control) (d .f) (d .around) alive stops in
+              let r = first-refused text limits trees a firsts rest f split (d .control) (d .f) (d .around) alive (rw one at (d .dies)) in
               subst (λ (n : ℕ). Refuses text es n) (sym here ∙ d .here) (at-element firsts f rest split (r .0) (r .1))
           by (on-end are last) =
               let alive : run start (tokens es) ≡ live (d .control) (d .f) (d .around) = rw are at (d .alive) in
               let b = begins text es es [] (reading-cuts text limits trees a) (sym (append-nil es)) (d .control) (d .f) (d .around) alive (still-going es (d .control) (d .f) (d .around) alive) in
               subst (λ (n : ℕ). Refuses text es n) (sym (ap firstOf last) ∙ d .here) (at-end b)
 
-  -- a derivation's elements are those of the reading, and the machine takes them to the end
-  pub derives-accepted : (d : Derivation text) → (elementsOf trees ≡ d .elements) × (d .parts ≡ partsOf trees) × (fateOf (length text) trees ≡ stands finished [])
-  unfolding fateOf
+  -- a derivation's elements are those of the reading, and the machine takes them to the end and builds its parts
+  pub derives-accepted : (d : Derivation text)
+      → (elementsOf trees ≡ d .elements) × (stateAfter (length text) trees ≡ live finished (frame (d .parts) [] [] nil) [])
+  unfolding stateAfter
   derives-accepted d =
       let r = no-program-differs text d in
       let same-trees : trees ≡ r .trees = cc (accepted-unlimited text limits trees a) in
       let same : es ≡ d .elements = ap elementsOf same-trees ∙ r .same in
       let steps : Program (tokens es) (d .parts) = subst (λ (fs : List Element). Program (tokens fs) (d .parts)) (sym same) (d .steps) in
-      let tied : Tied (follow (statementDue false body) [] all) (live finished (frame (d .parts) [] [] nil) []) =
-      rw (complete-to-end (endSpot (length text)) steps) at (run-followed (statementDue false body) empty [] all) in
-      (same, sym (ap partsBy (complete steps)), tied-finished tied)
+      (same, complete-to-end (endSpot (length text)) steps)
 
-  pub no-derivation : (place : ℕ) → fateOf (length text) trees ≡ died place → Derivation text → ⊥
+  pub no-derivation : (place : ℕ) → stateAfter (length text) trees ≡ dead place → Derivation text → ⊥
   no-derivation place e d =
-      let s = derives-accepted d .2 in
+      let s = derives-accepted d .1 in
       let z : _≡_ {A = ℕ} 0 1 = cc in
       omega arith

@@ -10,11 +10,9 @@ use Rattle.prefix.specs.Reading.{Reading, accepted, refused}
 use Rattle.reader.specs.Read.{readingFor, tableAfter}
 use Rattle.grammar.specs.Tokens.{Token, token, Spot, tokens}
 use Rattle.tables.specs.Records.{syntaxWidth, syntaxRoom}
-use Rattle.grammar.specs.Syntax.{Syntax, nil, size, syntaxRecords, programTree}
-use Rattle.grammar.specs.Grammar.{body}
+use Rattle.grammar.specs.Syntax.{Syntax, size, syntaxRecords, programTree}
 use Rattle.grammar.specs.TreeElements.{elementsOf}
-use Rattle.grammar.specs.Machine.{endOfText, State, dead, live, doneOf, statementDue, run, start}
-use Rattle.parser.specs.Follow.{Fate, stands, died, follow}
+use Rattle.grammar.specs.Machine.{endOfText, State, dead, live, doneOf, run, start}
 
 -- Document 01, Refused texts, row 13, no program: "first element with which the elements so far begin no program (limits aside);
 -- text length if none"
@@ -37,24 +35,16 @@ endSpot end = record { line = false; mark = 0; first = end }
 abbrev pub endToken : ℕ → Token
 endToken end = token endOfText (endSpot end)
 
--- the parts that the token machine has built of the elements of trees
-abbrev pub partsBy : State → Syntax
-partsBy dead = nil
-partsBy (live control f around) = doneOf f
-
-abbrev pub partsOf : Trees → Syntax
-partsOf trees = partsBy (run start (tokens (elementsOf trees)))
-
 -- where the token machine is behind the elements of trees and the text's end
-unfoldable pub fateOf : ℕ → Trees → Fate
-fateOf end trees = follow (statementDue false body) [] (tokens (elementsOf trees) ++ (endToken end ∷ []))
+unfoldable pub stateAfter : ℕ → Trees → State
+stateAfter end trees = run start (tokens (elementsOf trees) ++ (endToken end ∷ []))
 
 -- what the machine follows to the end is a program, with the syntax tree that it has built; else the place where it stops
 -- answers. It takes what has a derivation, and nothing else, and it stops at the first element with which those so far begin no
 -- program (proofs/Theorems.antt).
-abbrev pub judged : Trees → Fate → Parsing
-judged trees (stands control behinds) = program trees (programTree (count trees) (partsOf trees))
-judged trees (died place) = denied noProgram place
+abbrev pub judged : Trees → State → Parsing
+judged trees (live control f around) = program trees (programTree (count trees) (doneOf f))
+judged trees (dead place) = denied noProgram place
 
 -- "13 before 14"
 abbrev pub fitting : ℕ → ℕ → Parsing → Parsing
@@ -63,7 +53,7 @@ fitting end room (denied number place) = denied number place
 
 -- "13 to 15 follow a full reading"
 abbrev pub parsed : ℕ → ℕ → Reading → Parsing
-parsed end room (accepted trees) = fitting end room (judged trees (fateOf end trees))
+parsed end room (accepted trees) = fitting end room (judged trees (stateAfter end trees))
 parsed end room (refused number place) = denied number place
 
 -- the parsing of a text with tables of so many numbers, for trees and for syntax

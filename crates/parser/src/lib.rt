@@ -1,59 +1,44 @@
 // The parser: tree records to syntax records.
 ghost use mathlib.Core.Path.{_≡_};
 ghost use lib.ListN.{length};
-ghost use Prim.Native.Nat.{_+_, _≤_};
-ghost use Rattle.parser.specs.Parts.{Fine, part, countOf, sizeAt};
-ghost use Rattle.parser.specs.Says.{Judged};
+ghost use Prim.Native.Nat.{_*_, _≤_};
+ghost use Rattle.waiting.specs.Waiting.{width};
+ghost use Rattle.parts.specs.Parts.{Fine, part, countOf};
+ghost use Rattle.parser.specs.Judged.{Judged};
 ghost use Rattle.parser.specs.Parse.{parsingFor, answerOf, treesAfter, syntaxAfter};
-ghost use Rattle.parser.specs.Parameters.{parameterAt};
-
-mod classes;
-mod descent;
-mod labels;
-mod parts;
-mod records;
-
 use answers::Answer;
+use controls::classes;
+use levels::Parsed;
 use tables::TreeRecord;
-
-// What a parser answers: the next record of the part and the number of syntax records so far; or the place where no program
-// begins.
-enum Parsed {
-    Done(usize, usize),
-    Bad(usize),
-}
-
-// The parameter of a function: the inside of the group of an index is one name.
-fn parameter(text: &[u8], trees: &[u32], at: usize, count: usize) -> Parsed
-    requires { ⌜ (1 ≤ sizeAt (now trees) at) × (at + sizeAt (now trees) at ≤ countOf (now trees)) ⌝ }
-    ensures { λ r. ⌜ r ≡ parameterAt (now (text .entry)) (now (trees .entry)) at count ⌝ }
-{
-    let within = parts::inside(trees, at);
-    let close = parts::closer_at(trees, at);
-    if parts::class_at(text, within, 0) != classes::NAME {
-        return Parsed::Bad(parts::place_at(within, close, 0));
-    }
-    if parts::size_at(trees, at) != 2 {
-        return Parsed::Bad(parts::place_at(within, close, 1));
-    }
-    Parsed::Done(at + 2, count)
-}
+use waiting::records;
 
 // The numbers that document 01's table gives a text that is no program, and a syntax table that is too short.
 pub const NO_PROGRAM: u32 = 13;
 
 pub const SYNTAX_FULL: u32 = 14;
 
-// The program of a text's tree records, with what was written left in the table where it is refused.
-fn program(text: &[u8], trees: &[u32], syntax: &mut [u32]) -> Answer
-    requires { ⌜ Fine (part (now text) (now trees) 0 (length (now text))) ⌝ }
+// The program of a text's tree records, with what was written left in the table where it is refused. Each record lets one part wait at
+// most.
+fn program(text: &[u8], trees: &[u32], waiting: &mut [u16], syntax: &mut [u32]) -> Answer
+    requires { ⌜ Fine (part (now text) (now trees) 0 (length (now text))) × (countOf (now trees) * width ≤ length (now waiting)) ⌝ }
     ensures { λ r. ⌜ Judged (part (now (text .entry)) (now (trees .entry)) 0 (length (now (text .entry)))) (now (syntax .entry)) r (now (syntax .exit)) ⌝ }
 {
     let number = trees.len() / TreeRecord::WIDTH;
-    let body = descent::stmts(text, trees, 0, text.len(), syntax, 0, true);
+    let body = levels::statements(
+        text,
+        trees,
+        0,
+        text.len(),
+        classes::END_OF_TEXT,
+        controls::BODY,
+        waiting,
+        0,
+        syntax,
+        0,
+    );
     match body {
         Parsed::Bad(place) => Answer::Refused(NO_PROGRAM, place),
-        Parsed::Done(_, n) => {
+        Parsed::Done(n) => {
             let all = records::put(syntax, n, records::PROGRAM, number, 0);
             if tables::syntax_room(syntax.len()) < all {
                 return Answer::Refused(SYNTAX_FULL, text.len());
@@ -61,6 +46,35 @@ fn program(text: &[u8], trees: &[u32], syntax: &mut [u32]) -> Answer
             Answer::Accepted(all)
         }
     }
+}
+
+// For up to so many records a short stack is made, since a long one takes more time than they do.
+const FEW: usize = 128;
+
+fn program_of_few(text: &[u8], trees: &[u32], syntax: &mut [u32]) -> Answer
+    requires { ⌜ Fine (part (now text) (now trees) 0 (length (now text))) × (countOf (now trees) ≤ 128) ⌝ }
+    ensures { λ r. ⌜ Judged (part (now (text .entry)) (now (trees .entry)) 0 (length (now (text .entry)))) (now (syntax .entry)) r (now (syntax .exit)) ⌝ }
+{
+    let mut waiting = [0u16; 384];
+    program(text, trees, &mut waiting, syntax)
+}
+
+fn program_of_many(text: &[u8], trees: &[u32], syntax: &mut [u32]) -> Answer
+    requires { ⌜ Fine (part (now text) (now trees) 0 (length (now text))) ⌝ }
+    ensures { λ r. ⌜ Judged (part (now (text .entry)) (now (trees .entry)) 0 (length (now (text .entry)))) (now (syntax .entry)) r (now (syntax .exit)) ⌝ }
+{
+    let mut waiting = [0u16; 49152];
+    program(text, trees, &mut waiting, syntax)
+}
+
+fn program_of(text: &[u8], trees: &[u32], syntax: &mut [u32]) -> Answer
+    requires { ⌜ Fine (part (now text) (now trees) 0 (length (now text))) ⌝ }
+    ensures { λ r. ⌜ Judged (part (now (text .entry)) (now (trees .entry)) 0 (length (now (text .entry)))) (now (syntax .entry)) r (now (syntax .exit)) ⌝ }
+{
+    if trees.len() / TreeRecord::WIDTH <= FEW {
+        return program_of_few(text, trees, syntax);
+    }
+    program_of_many(text, trees, syntax)
 }
 
 // Parses a text: the count of its syntax records, which the syntax table then starts with, as the tree table starts with its tree
@@ -75,7 +89,7 @@ pub fn parse(text: &[u8], trees: &mut [u32], syntax: &mut [u32]) -> Answer
             Answer::Refused(number, place)
         }
         Answer::Accepted(count) => {
-            let answer = program(text, &trees[0..TreeRecord::WIDTH * count], syntax);
+            let answer = program_of(text, &trees[0..TreeRecord::WIDTH * count], syntax);
             match answer {
                 Answer::Accepted(n) => Answer::Accepted(n),
                 Answer::Refused(number, place) => {

@@ -1,6 +1,6 @@
 pub mod Finite
 pub mod SummaryLaws
-pub mod LevelWordLaws
+pub mod LevelNumberLaws
 pub mod StateLaws
 pub mod StepLaws
 pub mod ReadingLaws

@@ -9,15 +9,15 @@ use lib.ListN.{length, getD, set, length-set}
 use lib.Seq.{getD-set-same, getD-set-other}
 use Rattle.elements.specs.declared.Element.{Element}
 use Rattle.prefix.specs.Trees.{Trees, none, leaf, group, count}
-use Rattle.prefix.specs.Rule.{backwards}
+use Rattle.prefix.specs.Rule.{elementClass, groupClass, backwards}
 use Rattle.prefix.specs.Levels.{Levels, text, inside, depth, number, onTop, slashOpens, braceOpens}
 use Rattle.prefix.specs.Reading.{Limits, addLeaf, openGroup, closes, closeGroup, deep, wrongCloser, treesFull}
-use Rattle.prefix.specs.Summary.{summary, wordOf}
-use Rattle.prefix.specs.LevelWords.{slashByWord, braceByWord, leafWord, groupWord}
+use Rattle.prefix.specs.Summary.{nothing, summary, code, summaries, levelNumber}
+use Rattle.prefix.specs.LevelNumbers.{slashByLevel, braceByLevel, levelAfter}
 use Rattle.prefix.specs.Held.{Stack, Held, closed, Follows, leaf-added, group-opened, group-closed, stopped}
 use Rattle.prefix.specs.declared.State.{State}
 use Rattle.prefix.specs.declared.Advanced.{Advanced}
-use Rattle.prefix.proofs.LevelWordLaws.{slash-opens-right, brace-opens-right, leaf-added-word, group-added-word, kind-of-word}
+use Rattle.prefix.proofs.LevelNumberLaws.{slash-opens-right, brace-opens-right, leaf-added-level, group-added-level, kind-of-level}
 
 -- a tree more on the innermost level
 module _ (add : Trees → Trees) where
@@ -42,27 +42,27 @@ stack-set mark stack i v (inside around kind first line trees) h s = (
   stack-set mark stack i v around (omega arith) (s .2),
 )
 
-pub held-start : (mark : Levels → ℕ → ℕ) (stack : List ℕ) → Held mark stack (record { word = 7; depth = 0; number = 0 }) (text none)
-unfolding wordOf summary backwards count
-held-start mark stack = record { word-is = refl; depth-is = refl; number-is = refl; stacked = tt; fits = omega arith }
+pub held-start : (mark : Levels → ℕ → ℕ) (stack : List ℕ) → Held mark stack (record { level = code nothing; depth = 0; number = 0 }) (text none)
+unfolding levelNumber summary backwards count
+held-start mark stack = record { level-is = refl; depth-is = refl; number-is = refl; stacked = tt; fits = omega arith }
 
 module _ (mark : Levels → ℕ → ℕ) (stack : List ℕ) (state : State) (levels : Levels) (h : Held mark stack state levels) where
-  pub held-slash : (r : Bool) → r ≡ slashByWord (state .word) → r ≡ slashOpens levels
-  held-slash r e = e ∙ ap slashByWord (h .word-is) ∙ slash-opens-right levels
+  pub held-slash : (r : Bool) → r ≡ slashByLevel (state .level) → r ≡ slashOpens levels
+  held-slash r e = e ∙ ap slashByLevel (h .level-is) ∙ slash-opens-right levels
 
   module _ (limits : Limits) (e : Element) where
     pub leaf-full : limits .room ≤ state .number → Follows (limits .room) mark stack e levels (Advanced.Stopped treesFull (e .first)) (addLeaf limits levels e)
     leaf-full full = rw (le-leb (limits .room) (number levels) (omega (arith, h .number-is))) stopped
 
-    pub leaf-done : (word : ℕ) → word ≡ leafWord (state .word) e → state .number < limits .room
-        → Follows (limits .room) mark stack e levels (Advanced.Leaf (record { word = word; depth = state .depth; number = state .number + 1 })) (addLeaf limits levels e)
+    pub leaf-done : (level : ℕ) → level ≡ levelAfter (state .level) (elementClass e) (e .line) → state .number < limits .room
+        → Follows (limits .room) mark stack e levels (Advanced.Leaf (record { level = level; depth = state .depth; number = state .number + 1 })) (addLeaf limits levels e)
     unfolding count
-    leaf-done word w some =
+    leaf-done level w some =
         let add : Trees → Trees = λ before. leaf before e in
         rw (lt-leb (limits .room) (number levels) (omega (arith, h .number-is)))
-        (leaf-added {state = record { word = word; depth = state .depth; number = state .number + 1 }} (omega (arith, h .number-is))
+        (leaf-added {state = record { level = level; depth = state .depth; number = state .number + 1 }} (omega (arith, h .number-is))
         (record {
-          word-is = w ∙ ap (λ (x : ℕ). leafWord x e) (h .word-is) ∙ leaf-added-word levels e;
+          level-is = w ∙ ap (λ (x : ℕ). levelAfter x (elementClass e) (e .line)) (h .level-is) ∙ leaf-added-level levels e;
           depth-is = h .depth-is ∙ sym (depth-on-top add levels);
           number-is = omega (arith, number-on-top add 1 (λ trees. refl) levels, h .number-is);
           stacked = stack-on-top add mark stack levels (h .stacked);
@@ -79,26 +79,26 @@ module _ (mark : Levels → ℕ → ℕ) (stack : List ℕ) (state : State) (lev
           rw (lt-leb (limits .groups) (depth levels) (omega (arith, h .depth-is)), le-leb (limits .room) (number levels) (omega (arith, h .number-is))) stopped
 
       pub open-done : (m : ℕ) → m ≡ mark levels (e .first) → state .depth < limits .groups → state .number < limits .room → limits .groups ≡ length stack / 2
-          → Follows (limits .room) mark (set (set stack (2 * state .depth) (state .word)) (2 * state .depth + 1) m) e levels
-          (Advanced.Opened kind (record { word = 16 * kind + 7; depth = state .depth + 1; number = state .number + 1 }))
+          → Follows (limits .room) mark (set (set stack (2 * state .depth) (state .level)) (2 * state .depth + 1) m) e levels
+          (Advanced.Opened kind (record { level = summaries * kind + code nothing; depth = state .depth + 1; number = state .number + 1 }))
           (openGroup limits levels kind e)
-      unfolding wordOf summary backwards count
+      unfolding levelNumber summary backwards count
       open-done m marked shallow some groups =
           let i = 2 * state .depth in
-          let lower : List ℕ = set stack i (state .word) in
+          let lower : List ℕ = set stack i (state .level) in
           let same : 2 * depth levels ≡ i = omega (arith, h .depth-is) in
           rw (lt-leb (limits .groups) (depth levels) (omega (arith, h .depth-is)), lt-leb (limits .room) (number levels) (omega (arith, h .number-is)))
-          (group-opened {kind = kind} {state = record { word = 16 * kind + 7; depth = state .depth + 1; number = state .number + 1 }} (omega (arith, h .number-is))
+          (group-opened {kind = kind} {state = record { level = summaries * kind + code nothing; depth = state .depth + 1; number = state .number + 1 }} (omega (arith, h .number-is))
           (record {
-            word-is = refl;
+            level-is = refl;
             depth-is = omega (arith, h .depth-is);
             number-is = omega (arith, h .number-is);
             stacked = (
-              rw same (getD-set-other lower (i + 1) i m 0 (omega arith) ∙ getD-set-same stack i (state .word) 0 (omega arith)) ∙ h .word-is,
-              rw same (getD-set-same lower (i + 1) m 0 (rw (length-set stack i (state .word)) (omega arith))) ∙ marked,
-              stack-set mark lower (i + 1) m levels (omega arith) (stack-set mark stack i (state .word) levels (omega arith) (h .stacked)),
+              rw same (getD-set-other lower (i + 1) i m 0 (omega arith) ∙ getD-set-same stack i (state .level) 0 (omega arith)) ∙ h .level-is,
+              rw same (getD-set-same lower (i + 1) m 0 (rw (length-set stack i (state .level)) (omega arith))) ∙ marked,
+              stack-set mark lower (i + 1) m levels (omega arith) (stack-set mark stack i (state .level) levels (omega arith) (h .stacked)),
             );
-            fits = rw (length-set lower (i + 1) m, length-set stack i (state .word)) (omega arith);
+            fits = rw (length-set lower (i + 1) m, length-set stack i (state .level)) (omega arith);
           }))
 
 pub close-none : (mark : Levels → ℕ → ℕ) (stack : List ℕ) (state : State) (levels : Levels) → Held mark stack state levels → (room : ℕ) (e : Element) → state .depth ≡ 0
@@ -107,33 +107,33 @@ close-none mark stack state (text trees) h room e z = stopped
 close-none mark stack state (inside around kind first line trees) h room e z = absurd (omega (arith, h .depth-is))
 
 pub close-other : (mark : Levels → ℕ → ℕ) (stack : List ℕ) (state : State) (levels : Levels) → Held mark stack state levels → (room : ℕ) (e : Element)
-    → (state .depth ≡ 0 → ⊥) → closes (e .which) (state .word / 16) ≡ false
+    → (state .depth ≡ 0 → ⊥) → closes (e .which) (state .level / summaries) ≡ false
     → Follows room mark stack e levels (Advanced.Stopped wrongCloser (e .first)) (closeGroup levels e)
 close-other mark stack state (text trees) h room e z c = stopped
 close-other mark stack state (inside around kind first line trees) h room e z c =
-    let k : state .word / 16 ≡ kind = ap (λ (w : ℕ). w / 16) (h .word-is) ∙ kind-of-word (inside around kind first line trees) in
+    let k : state .level / summaries ≡ kind = ap (λ (w : ℕ). w / summaries) (h .level-is) ∙ kind-of-level (inside around kind first line trees) in
     rw (rw k at c) stopped
 
 pub close-done : (mark : Levels → ℕ → ℕ) (stack : List ℕ) (state : State) (levels : Levels) → Held mark stack state levels → (room : ℕ) (e : Element)
-    → (state .depth ≡ 0 → ⊥) → closes (e .which) (state .word / 16) ≡ true
-    → (word : ℕ) → word ≡ groupWord (getD stack (2 * (state .depth - 1)) 0) (state .word / 16)
+    → (state .depth ≡ 0 → ⊥) → closes (e .which) (state .level / summaries) ≡ true
+    → (level : ℕ) → ((line : Bool) → level ≡ levelAfter (getD stack (2 * (state .depth - 1)) 0) (groupClass (state .level / summaries)) line)
     → Follows room mark stack e levels
-    (Advanced.Closed (getD stack (2 * (state .depth - 1) + 1) 0) (record { word = word; depth = state .depth - 1; number = state .number }))
+    (Advanced.Closed (getD stack (2 * (state .depth - 1) + 1) 0) (record { level = level; depth = state .depth - 1; number = state .number }))
     (closeGroup levels e)
 unfolding count
-close-done mark stack state (text trees) h room e z c word w = absurd (z (h .depth-is))
-close-done mark stack state (inside around kind first line trees) h room e z c word w =
+close-done mark stack state (text trees) h room e z c level w = absurd (z (h .depth-is))
+close-done mark stack state (inside around kind first line trees) h room e z c level w =
     let add : Trees → Trees = λ before. group before kind first (e .end) line trees in
-    let k : state .word / 16 ≡ kind = ap (λ (w : ℕ). w / 16) (h .word-is) ∙ kind-of-word (inside around kind first line trees) in
+    let k : state .level / summaries ≡ kind = ap (λ (w : ℕ). w / summaries) (h .level-is) ∙ kind-of-level (inside around kind first line trees) in
     let below : state .depth - 1 ≡ depth around = omega (arith, h .depth-is) in
     rw (rw k at c)
     (group-closed
     {m = getD stack (2 * (state .depth - 1) + 1) 0}
-    {state = record { word = word; depth = state .depth - 1; number = state .number }}
+    {state = record { level = level; depth = state .depth - 1; number = state .number }}
     {after = onTop add around}
     (closed {around = around} {kind = kind} {first = first} {line = line} {trees = trees} (rw below (h .stacked .1)))
     (record {
-      word-is = rw (below, k, h .stacked .0) at w ∙ group-added-word around kind first (e .end) line trees;
+      level-is = rw (below, k, h .stacked .0) at (w line) ∙ group-added-level around kind first (e .end) line trees;
       depth-is = below ∙ sym (depth-on-top add around);
       number-is = omega (arith, number-on-top add (count trees + 1) (λ t. refl) around, h .number-is);
       stacked = stack-on-top add mark stack around (h .stacked .2);
@@ -145,5 +145,5 @@ pub not-deeper : (mark : Levels → ℕ → ℕ) (stack : List ℕ) (state : Sta
 not-deeper mark stack state levels h deeper = omega (arith, h .fits)
 
 pub held-brace : (mark : Levels → ℕ → ℕ) (stack : List ℕ) (state : State) (levels : Levels) → Held mark stack state levels → (line r : Bool)
-    → braceByWord (state .word) line ≡ r → braceOpens levels line ≡ r
-held-brace mark stack state levels h line r e = sym (ap (λ (w : ℕ). braceByWord w line) (h .word-is) ∙ brace-opens-right levels line) ∙ e
+    → braceByLevel (state .level) line ≡ r → braceOpens levels line ≡ r
+held-brace mark stack state levels h line r e = sym (ap (λ (w : ℕ). braceByLevel w line) (h .level-is) ∙ brace-opens-right levels line) ∙ e

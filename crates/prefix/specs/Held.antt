@@ -7,7 +7,7 @@ use Rattle.elements.specs.declared.Element.{Element}
 use Rattle.prefix.specs.Trees.{Trees, none, leaf, group}
 use Rattle.prefix.specs.Levels.{Levels, text, inside, depth, number, onTop}
 use Rattle.prefix.specs.Reading.{Step, stop, more}
-use Rattle.prefix.specs.Summary.{wordOf}
+use Rattle.prefix.specs.Summary.{levelNumber}
 use Rattle.prefix.specs.declared.State.{State}
 use Rattle.prefix.specs.declared.Advanced.{Advanced}
 
@@ -16,10 +16,10 @@ use Rattle.prefix.specs.declared.Advanced.{Advanced}
 abbrev pub Stack : (Levels → ℕ → ℕ) → List ℕ → Levels → Type 0
 Stack mark stack (text trees) = Unit {0}
 Stack mark stack (inside around kind first line trees) =
-    (getD stack (2 * depth around) 0 ≡ wordOf around) × (getD stack (2 * depth around + 1) 0 ≡ mark around first) × Stack mark stack around
+    (getD stack (2 * depth around) 0 ≡ levelNumber around) × (getD stack (2 * depth around + 1) 0 ≡ mark around first) × Stack mark stack around
 
 pub record Held (mark : Levels → ℕ → ℕ) (stack : List ℕ) (state : State) (levels : Levels) : Type 0 where
-  pub word-is : state .word ≡ wordOf levels
+  pub level-is : state .level ≡ levelNumber levels
   pub depth-is : state .depth ≡ depth levels
   pub number-is : state .number ≡ number levels
   pub stacked : Stack mark stack levels

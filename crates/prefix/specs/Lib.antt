@@ -3,6 +3,6 @@ pub mod Rule
 pub mod Levels
 pub mod Reading
 pub mod Summary
-pub mod LevelWords
+pub mod LevelNumbers
 pub mod Held
 pub mod Limits

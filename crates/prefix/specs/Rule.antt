@@ -1,50 +1,24 @@
 -- Document 01, Prefix rule: over the trees before on the same level. "Last" is the tree before, on the same level.
 use Prim.Native.Nat.{ℕ}
-use mathlib.Core.Bool.{Bool, true, false, not, cond, _&&_, _||_}
+use mathlib.Core.Bool.{Bool, true, false, not, cond, _&&_}
 use mathlib.Core.List.{List, [], _∷_}
 use lib.Dec.{eqb}
-use Rattle.elements.specs.Elements.{nameKind, wordKind, signKind, isWord, isSign}
+use Rattle.elements.specs.Elements.{nameKind, wordKind, signKind}
 use Rattle.elements.specs.declared.Element.{Element}
+use Rattle.vocabulary.specs.Vocabulary.{words, signs, ruleClass, rowAt}
+pub use Rattle.vocabulary.specs.RuleClasses.{Class, name, literal, operator, colon, other, returnWord, functionWord, ifWord, parens, object, block, rank}
 use Rattle.prefix.specs.Trees.{Trees, none, leaf, group, parenKind, objectKind}
 
--- Trees as far as the rule tells them apart.
-pub data Class : Type 0 where
-  -- a name
-  name : Class
-  -- a number, string or regular expression
-  literal : Class
-  -- `/`, `+` or `=`
-  operator : Class
-  -- `:`
-  colon : Class
-  -- any other sign or reserved word
-  other : Class
-  -- the words `return`, `function` and `if`
-  returnWord : Class
-  functionWord : Class
-  ifWord : Class
-  -- `( )`, an object and a block
-  parens : Class
-  object : Class
-  block : Class
-
--- the class of the reserved word of a number
+-- the class of the reserved word, and of the sign, of a number
 abbrev pub wordClass : ℕ → Class
-wordClass which =
-    cond (isWord "return" which) returnWord
-    (cond (isWord "function" which) functionWord
-    (cond (isWord "if" which) ifWord
-    other))
+wordClass which = ruleClass (rowAt words which)
 
--- the class of the sign of a number
 abbrev pub signClass : ℕ → Class
-signClass which =
-    cond (isSign "/" which || isSign "+" which || isSign "=" which) operator
-    (cond (isSign ":" which) colon
-    other)
+signClass which = ruleClass (rowAt signs which)
 
 -- the class of an element that is no delimiter: kinds 1, 2 and 6, and else a number, string or regular expression
 unfoldable pub elementClass : Element → Class
+unfolding rowAt
 elementClass e =
     cond (eqb (e .kind) nameKind) name
     (cond (eqb (e .kind) wordKind) (wordClass (e .which))
@@ -84,20 +58,6 @@ objectAfter expression block line = false
 unfoldable pub opensObject : Bool → List Before → Bool → Bool
 opensObject expression [] line = expression
 opensObject expression (tree last l ∷ before) line = objectAfter expression last line
-
--- classes told apart by numbers
-abbrev pub rank : Class → ℕ
-rank name = 0
-rank literal = 1
-rank operator = 2
-rank colon = 3
-rank other = 4
-rank returnWord = 5
-rank functionWord = 6
-rank ifWord = 7
-rank parens = 8
-rank object = 9
-rank block = 10
 
 -- the last tree is of a class
 abbrev pub endsWith : Class → List Before → Bool

@@ -121,10 +121,15 @@ code afterIf = 12
 code afterIfParens = 13
 code afterBlock = 14
 
--- and for a level: the kind of its group, and its summary
-abbrev pub wordFor : ℕ → Summary → ℕ
-wordFor kind s = 16 * kind + code s
+-- room for summaries in the number of a level
+abbrev pub summaries : ℕ
+summaries = 64
 
--- the word of the innermost level
-unfoldable pub wordOf : Levels → ℕ
-wordOf levels = wordFor (kindOf levels) (summary (isExpression (kindOf levels)) (backwards (treesOf levels)))
+-- The number that the code keeps for a level: its summary below 64; the kind of its group, below 32, times 64; and from 2,048 up
+-- room for a count, which is 0 so far.
+abbrev pub levelFor : ℕ → Summary → ℕ
+levelFor kind s = summaries * kind + code s
+
+-- the number of the innermost level
+unfoldable pub levelNumber : Levels → ℕ
+levelNumber levels = levelFor (kindOf levels) (summary (isExpression (kindOf levels)) (backwards (treesOf levels)))

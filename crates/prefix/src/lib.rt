@@ -28,10 +28,10 @@ pub const UNCLOSED: u32 = 11;
 
 pub const TREES_FULL: u32 = 12;
 
-// The state of a reading: the word of the innermost level, how many groups are open, how many records there are so far.
+// The state of a reading: the number of the innermost level, how many groups are open, how many records there are so far.
 // The stack that is lent beside it has two numbers for each open group.
 pub struct State {
-    pub word: u32,
+    pub level: u32,
     pub depth: usize,
     pub number: usize,
 }
@@ -50,7 +50,7 @@ pub fn start() -> State
     ensures { λ r. ⌜ ((mark : Levels → ℕ → ℕ) (stack : List ℕ) → Held mark stack r (text none)) ⌝ }
 {
     State {
-        word: rule::NOTHING,
+        level: rule::NOTHING,
         depth: 0,
         number: 0,
     }
@@ -60,7 +60,7 @@ pub fn start() -> State
 pub fn slash_opens(state: State) -> bool
     ensures { λ r. ⌜ ((mark : Levels → ℕ → ℕ) (stack : List ℕ) (levels : Levels) → Held mark stack state levels → r ≡ slashOpens levels) ⌝ }
 {
-    rule::slash_opens(state.word)
+    rule::slash_opens(state.level)
 }
 
 fn add_leaf(state: State, room: usize, e: Element) -> Advanced
@@ -71,7 +71,7 @@ fn add_leaf(state: State, room: usize, e: Element) -> Advanced
         return Advanced::Stopped(TREES_FULL, e.first);
     }
     Advanced::Leaf(State {
-        word: rule::after_leaf(state.word, e),
+        level: rule::after_leaf(state.level, e),
         depth: state.depth,
         number: number + 1,
     })
@@ -96,12 +96,12 @@ fn open_group(
     if room <= number {
         return Advanced::Stopped(TREES_FULL, e.first);
     }
-    stack[2 * depth] = state.word;
+    stack[2 * depth] = state.level;
     stack[2 * depth + 1] = mark;
     Advanced::Opened(
         kind,
         State {
-            word: 16 * kind + rule::NOTHING,
+            level: rule::SUMMARIES * kind + rule::NOTHING,
             depth: depth + 1,
             number: number + 1,
         },
@@ -131,7 +131,7 @@ fn close_group(stack: &[u32], state: State, e: Element) -> Advanced
     if stack.len() / 2 < depth {
         return Advanced::Stopped(WRONG_CLOSER, e.first);
     }
-    let kind = state.word / 16;
+    let kind = state.level / rule::SUMMARIES;
     if !is_closed_by(kind, e.which) {
         return Advanced::Stopped(WRONG_CLOSER, e.first);
     }
@@ -140,7 +140,7 @@ fn close_group(stack: &[u32], state: State, e: Element) -> Advanced
     Advanced::Closed(
         mark,
         State {
-            word: rule::after_group(around, kind),
+            level: rule::after_group(around, kind),
             depth: depth - 1,
             number: state.number,
         },
@@ -159,7 +159,7 @@ pub fn advance(stack: &mut [u32], state: State, room: usize, mark: u32, e: Eleme
         return open_group(stack, state, room, mark, PARENS, e);
     }
     if e.which == signs::OPEN_BRACE {
-        if rule::brace_opens(state.word, e.line) {
+        if rule::brace_opens(state.level, e.line) {
             return open_group(stack, state, room, mark, OBJECT, e);
         }
         return open_group(stack, state, room, mark, BLOCK, e);

@@ -1,12 +1,19 @@
-// The prefix rule by a summary of the trees before on a level. The word of a level is 16 times the kind of its group (0 for
-// the whole text) and the number of its summary.
+// The prefix rule by a summary of the trees before on a level. The number of a level is that of its summary, which is below 64,
+// and 64 times the kind of its group, which is below 32 (0 for the whole text). From 2,048 up there is room for a count, which is
+// 0 so far.
 ghost use mathlib.Core.Path.{_≡_};
-ghost use Prim.Native.Nat.{_+_, _*_, _/_};
+ghost use Prim.Native.Nat.{_/_};
+ghost use mathlib.Core.Bool.{Bool};
 ghost use Rattle.prefix.specs.Levels.{isExpression};
-ghost use Rattle.prefix.specs.LevelWords.{slashByWord, braceByWord, nameWord, reservedWord, signWord, leafWord, parensWord, blockWord, groupWord};
+ghost use Rattle.prefix.specs.Rule.{wordClass, signClass, elementClass, groupClass};
+ghost use Rattle.prefix.specs.Summary.{summaries};
+ghost use Rattle.prefix.specs.LevelNumbers.{slashByLevel, braceByLevel, levelAfterName, levelAfterParens, levelAfterBlock, levelAfter};
 use crate::OBJECT;
 use crate::PARENS;
 use elements::Element;
+
+// Room for summaries in the number of a level.
+pub const SUMMARIES: u32 = 64;
 
 // The summaries: after an operand; after the name, the parentheses and the word of a function, in a statement's place and in
 // an operand's; and by what stands last. A slash divides after the first five.
@@ -41,17 +48,17 @@ const AFTER_IF_PARENS: u32 = 13;
 const AFTER_BLOCK: u32 = 14;
 
 // Whether a slash opens a regular expression.
-pub fn slash_opens(word: u32) -> bool
-    ensures { λ r. ⌜ r ≡ slashByWord word ⌝ }
+pub fn slash_opens(level: u32) -> bool
+    ensures { λ r. ⌜ r ≡ slashByLevel level ⌝ }
 {
-    OPERAND_FUNCTION_PARENS < word % 16
+    OPERAND_FUNCTION_PARENS < level % SUMMARIES
 }
 
-// Whether the level of a word is an expression level.
-fn is_expression(word: u32) -> bool
-    ensures { λ r. ⌜ r ≡ isExpression (word / 16) ⌝ }
+// Whether a level is an expression level.
+fn is_expression(level: u32) -> bool
+    ensures { λ r. ⌜ r ≡ isExpression (level / summaries) ⌝ }
 {
-    let kind = word / 16;
+    let kind = level / SUMMARIES;
     if kind == PARENS {
         return true;
     }
@@ -59,10 +66,10 @@ fn is_expression(word: u32) -> bool
 }
 
 // Whether a brace opens an object, where a line end lies before it or not.
-pub fn brace_opens(word: u32, line: bool) -> bool
-    ensures { λ r. ⌜ r ≡ braceByWord word line ⌝ }
+pub fn brace_opens(level: u32, line: bool) -> bool
+    ensures { λ r. ⌜ r ≡ braceByLevel level line ⌝ }
 {
-    let summary = word % 16;
+    let summary = level % SUMMARIES;
     if summary == AFTER_OPERATOR {
         return true;
     }
@@ -70,124 +77,124 @@ pub fn brace_opens(word: u32, line: bool) -> bool
         return !line;
     }
     if summary == NOTHING {
-        return is_expression(word);
+        return is_expression(level);
     }
     if summary == AFTER_COLON {
-        return is_expression(word);
+        return is_expression(level);
     }
     false
 }
 
-// The word after a name.
-fn after_name(word: u32) -> u32
-    ensures { λ r. ⌜ r ≡ nameWord word ⌝ }
+// The level after a name.
+fn after_name(level: u32) -> u32
+    ensures { λ r. ⌜ r ≡ levelAfterName level ⌝ }
 {
-    let level = 16 * (word / 16);
-    let summary = word % 16;
+    let base = SUMMARIES * (level / SUMMARIES);
+    let summary = level % SUMMARIES;
     if summary == STATEMENT_FUNCTION {
-        return level + STATEMENT_FUNCTION_NAME;
+        return base + STATEMENT_FUNCTION_NAME;
     }
     if summary == OPERAND_FUNCTION {
-        return level + OPERAND_FUNCTION_NAME;
+        return base + OPERAND_FUNCTION_NAME;
     }
-    level + OPERAND
+    base + OPERAND
 }
 
-// The word after a reserved word.
-fn after_word(word: u32, which: u32, line: bool) -> u32
-    ensures { λ r. ⌜ r ≡ reservedWord word which line ⌝ }
+// The level after a reserved word.
+fn after_word(level: u32, which: u32, line: bool) -> u32
+    ensures { λ r. ⌜ r ≡ levelAfter level (wordClass which) line ⌝ }
 {
-    let level = 16 * (word / 16);
+    let base = SUMMARIES * (level / SUMMARIES);
     if which == words::RETURN {
-        return level + AFTER_RETURN;
+        return base + AFTER_RETURN;
     }
     if which == words::FUNCTION {
-        if brace_opens(word, line) {
-            return level + OPERAND_FUNCTION;
+        if brace_opens(level, line) {
+            return base + OPERAND_FUNCTION;
         }
-        return level + STATEMENT_FUNCTION;
+        return base + STATEMENT_FUNCTION;
     }
     if which == words::IF {
-        return level + AFTER_IF;
+        return base + AFTER_IF;
     }
-    level + AFTER_OTHER
+    base + AFTER_OTHER
 }
 
-// The word after a sign.
-fn after_sign(word: u32, which: u32) -> u32
-    ensures { λ r. ⌜ r ≡ signWord word which ⌝ }
+// The level after a sign.
+fn after_sign(level: u32, which: u32) -> u32
+    ensures { λ r. ⌜ ((line : Bool) → r ≡ levelAfter level (signClass which) line) ⌝ }
 {
-    let level = 16 * (word / 16);
+    let base = SUMMARIES * (level / SUMMARIES);
     if which == signs::SLASH {
-        return level + AFTER_OPERATOR;
+        return base + AFTER_OPERATOR;
     }
     if which == signs::PLUS {
-        return level + AFTER_OPERATOR;
+        return base + AFTER_OPERATOR;
     }
     if which == signs::ASSIGN {
-        return level + AFTER_OPERATOR;
+        return base + AFTER_OPERATOR;
     }
     if which == signs::COLON {
-        return level + AFTER_COLON;
+        return base + AFTER_COLON;
     }
-    level + AFTER_OTHER
+    base + AFTER_OTHER
 }
 
-// The word after an element that is no delimiter.
-pub fn after_leaf(word: u32, e: Element) -> u32
-    ensures { λ r. ⌜ r ≡ leafWord word e ⌝ }
+// The level after an element that is no delimiter.
+pub fn after_leaf(level: u32, e: Element) -> u32
+    ensures { λ r. ⌜ r ≡ levelAfter level (elementClass e) (e .line) ⌝ }
 {
     if e.kind == elements::NAME {
-        return after_name(word);
+        return after_name(level);
     }
     if e.kind == elements::WORD {
-        return after_word(word, e.which, e.line);
+        return after_word(level, e.which, e.line);
     }
     if e.kind == elements::SIGN {
-        return after_sign(word, e.which);
+        return after_sign(level, e.which);
     }
-    16 * (word / 16) + OPERAND
+    SUMMARIES * (level / SUMMARIES) + OPERAND
 }
 
-// The word after `( )`.
-fn after_parens(word: u32) -> u32
-    ensures { λ r. ⌜ r ≡ parensWord word ⌝ }
+// The level after `( )`.
+fn after_parens(level: u32) -> u32
+    ensures { λ r. ⌜ r ≡ levelAfterParens level ⌝ }
 {
-    let level = 16 * (word / 16);
-    let summary = word % 16;
+    let base = SUMMARIES * (level / SUMMARIES);
+    let summary = level % SUMMARIES;
     if summary == AFTER_IF {
-        return level + AFTER_IF_PARENS;
+        return base + AFTER_IF_PARENS;
     }
     if summary == STATEMENT_FUNCTION_NAME {
-        return level + STATEMENT_FUNCTION_PARENS;
+        return base + STATEMENT_FUNCTION_PARENS;
     }
     if summary == OPERAND_FUNCTION_NAME {
-        return level + OPERAND_FUNCTION_PARENS;
+        return base + OPERAND_FUNCTION_PARENS;
     }
-    level + OPERAND
+    base + OPERAND
 }
 
-// The word after a block.
-fn after_block(word: u32) -> u32
-    ensures { λ r. ⌜ r ≡ blockWord word ⌝ }
+// The level after a block.
+fn after_block(level: u32) -> u32
+    ensures { λ r. ⌜ r ≡ levelAfterBlock level ⌝ }
 {
-    let level = 16 * (word / 16);
-    let summary = word % 16;
+    let base = SUMMARIES * (level / SUMMARIES);
+    let summary = level % SUMMARIES;
     if summary == OPERAND_FUNCTION_PARENS {
-        return level + OPERAND;
+        return base + OPERAND;
     }
-    level + AFTER_BLOCK
+    base + AFTER_BLOCK
 }
 
-// The word after a group of a kind.
-pub fn after_group(word: u32, kind: u32) -> u32
-    ensures { λ r. ⌜ r ≡ groupWord word kind ⌝ }
+// The level after a group of a kind.
+pub fn after_group(level: u32, kind: u32) -> u32
+    ensures { λ r. ⌜ ((line : Bool) → r ≡ levelAfter level (groupClass kind) line) ⌝ }
 {
     if kind == PARENS {
-        return after_parens(word);
+        return after_parens(level);
     }
     if kind == OBJECT {
-        return 16 * (word / 16) + OPERAND;
+        return SUMMARIES * (level / SUMMARIES) + OPERAND;
     }
-    after_block(word)
+    after_block(level)
 }

@@ -12,7 +12,8 @@ use Rattle.text.specs.Bytes.{blank, lineEnd}
 use Rattle.text.specs.Runs.{same}
 use Rattle.text.proofs.Laws.{same-length}
 use Rattle.text.proofs.Range.{and-left, and-right}
-use Rattle.signs.specs.Signs.{Spelled, spelling, isLegal, signs, startsWith, size, longer, longestOf, longestSign}
+use Rattle.vocabulary.specs.Vocabulary.{Row, spelling, isTaken, signs}
+use Rattle.signs.specs.Signs.{startsWith, size, longer, longestOf, longestSign}
 use Rattle.signs.specs.declared.Longest.{Longest}
 use Rattle.signs.specs.declared.Longest.the-variants.{None, Sign}
 
@@ -35,20 +36,20 @@ starts-within (a ∷ p) (b ∷ s) t = let h = starts-within p s (and-right (eqb 
 module _ (s : List ℕ) where
   -- what holds of the sign found so far, and of each longer sign that the text starts with, holds of the longest
   module _ (P : Longest → Type 0)
-      (taken : (number : ℕ) (best : Longest) (g : Spelled) → P best → size best < length (spelling g) →
-      T (startsWith (spelling g) s) → P (Sign number (length (spelling g)) (isLegal g))) where
-    longer-keeps : (number : ℕ) (best : Longest) (g : Spelled) → P best → P (longer s number best g)
+      (taken : (number : ℕ) (best : Longest) (g : Row) → P best → size best < length (spelling g) →
+      T (startsWith (spelling g) s) → P (Sign number (length (spelling g)) (isTaken g))) where
+    longer-keeps : (number : ℕ) (best : Longest) (g : Row) → P best → P (longer s number best g)
     longer-keeps number best g kept =
         go (ltb (size best) (length (spelling g))) (startsWith (spelling g) s)
         (ltb→lt (size best) (length (spelling g))) (λ t. t)
       where
         go : (t u : Bool) → (T t → size best < length (spelling g)) → (T u → T (startsWith (spelling g) s)) →
-            P (cond (t && u) (Sign number (length (spelling g)) (isLegal g)) best)
+            P (cond (t && u) (Sign number (length (spelling g)) (isTaken g)) best)
         go true true f e = taken number best g kept (f tt) (e tt)
         go true false f e = kept
         go false u f e = kept
 
-    longestOf-keeps : (gs : List Spelled) (number : ℕ) (best : Longest) → P best → P (longestOf s number best gs)
+    longestOf-keeps : (gs : List Row) (number : ℕ) (best : Longest) → P best → P (longestOf s number best gs)
     unfolding longestOf
     longestOf-keeps [] number best h = h
     longestOf-keeps (g ∷ gs) number best h = longestOf-keeps gs (number + 1) (longer s number best g) (longer-keeps number best g h)
@@ -63,7 +64,7 @@ module _ (s : List ℕ) where
   longest-fits k n l e =
       rw e at (longestOf-keeps Within (λ number best g h f t. (omega arith, starts-within (spelling g) s t)) signs 1 None tt)
 
-  longestOf-size : (gs : List Spelled) (number : ℕ) (best : Longest) → size best ≤ size (longestOf s number best gs)
+  longestOf-size : (gs : List Row) (number : ℕ) (best : Longest) → size best ≤ size (longestOf s number best gs)
   longestOf-size gs number best = longestOf-keeps (λ b. size best ≤ size b) (λ m b g h f t. omega arith) gs number best (omega arith)
 
 -- no blank or line end is among the bytes
@@ -71,7 +72,7 @@ abbrev unbroken : List ℕ → Bool
 unbroken [] = true
 unbroken (b ∷ p) = not (blank b || lineEnd b) && unbroken p
 
-abbrev allUnbroken : List Spelled → Bool
+abbrev allUnbroken : List Row → Bool
 allUnbroken [] = true
 allUnbroken (g ∷ gs) = unbroken (spelling g) && allUnbroken gs
 
@@ -92,19 +93,19 @@ module _ (x : ℕ) (u : List ℕ) (gap : (blank x || lineEnd x) ≡ true) where
       (sym (and-assoc (eqb a b) (startsWith p s) (leb (length p) n)))
 
   module _ (s : List ℕ) (n : ℕ) (h : n ≤ length s) where
-    longer-own : (number : ℕ) (best : Longest) (g : Spelled) → T (unbroken (spelling g)) → size (longer s number best g) ≤ n →
+    longer-own : (number : ℕ) (best : Longest) (g : Row) → T (unbroken (spelling g)) → size (longer s number best g) ≤ n →
         longer (take n s ++ x ∷ u) number best g ≡ longer s number best g
     longer-own number best g t f =
         rw (starts-own (spelling g) s n h t) (go (ltb (size best) (length (spelling g))) (startsWith (spelling g) s) f)
       where
-        go : (t u : Bool) → size (cond (t && u) (Sign number (length (spelling g)) (isLegal g)) best) ≤ n →
-            cond (t && (u && leb (length (spelling g)) n)) (Sign number (length (spelling g)) (isLegal g)) best
-            ≡ cond (t && u) (Sign number (length (spelling g)) (isLegal g)) best
+        go : (t u : Bool) → size (cond (t && u) (Sign number (length (spelling g)) (isTaken g)) best) ≤ n →
+            cond (t && (u && leb (length (spelling g)) n)) (Sign number (length (spelling g)) (isTaken g)) best
+            ≡ cond (t && u) (Sign number (length (spelling g)) (isTaken g)) best
         go true true e = rw (le-leb (length (spelling g)) n e)
         go true false e = refl
         go false u e = refl
 
-    longestOf-own : (gs : List Spelled) (number : ℕ) (best : Longest) → T (allUnbroken gs) → size (longestOf s number best gs) ≤ n →
+    longestOf-own : (gs : List Row) (number : ℕ) (best : Longest) → T (allUnbroken gs) → size (longestOf s number best gs) ≤ n →
         longestOf (take n s ++ x ∷ u) number best gs ≡ longestOf s number best gs
     unfolding longestOf
     longestOf-own [] number best t f = refl

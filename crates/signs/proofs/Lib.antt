@@ -2,4 +2,4 @@ pub mod Laws
 pub mod Table
 pub mod Single
 pub mod Legal
-pub mod FirstBytes
+pub mod Spellings

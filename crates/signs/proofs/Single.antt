@@ -8,7 +8,8 @@ use borrow.Author.Tests.{ne-eqb}
 use lib.Dec.{eqb}
 use lib.ListN.{length, take, getD}
 use Rattle.text.specs.Runs.{same}
-use Rattle.signs.specs.Signs.{Spelled, spelling, signs, startsWith, longer, longestOf, longestSign}
+use Rattle.vocabulary.specs.Vocabulary.{Row, spelling, signs}
+use Rattle.signs.specs.Signs.{startsWith, longer, longestOf, longestSign}
 use Rattle.signs.specs.declared.Longest.{Longest}
 use Rattle.signs.specs.declared.Longest.the-variants.{None}
 
@@ -18,7 +19,7 @@ second b [] others = others
 second b (a ∷ []) others = others
 second b (a ∷ c ∷ p) others = cond (eqb a b) (c ∷ others) others
 
-abbrev pub seconds : ℕ → List Spelled → List ℕ
+abbrev pub seconds : ℕ → List Row → List ℕ
 seconds b [] = []
 seconds b (g ∷ gs) = second b (spelling g) (seconds b gs)
 
@@ -49,7 +50,7 @@ module _ (b : ℕ) where
       go true h = rw (ne-eqb c x (λ e. h .0 (sym e)))
       go false h = refl
 
-  longestOf-single : (gs : List Spelled) (number : ℕ) (best : Longest) (t : List ℕ) → NoneOf (seconds b gs) (getD t 0 0) →
+  longestOf-single : (gs : List Row) (number : ℕ) (best : Longest) (t : List ℕ) → NoneOf (seconds b gs) (getD t 0 0) →
       longestOf (b ∷ t) number best gs ≡ longestOf (b ∷ []) number best gs
   unfolding longestOf
   longestOf-single [] number best t h = refl

@@ -9,10 +9,11 @@ use borrow.Author.Tests.{lt-ltb, le-ltb}
 use lib.ListN.{length, take, drop, getD, replicate, drop-of-length-le, length-append}
 use lib.Seq.{drop-cons, take-append-seam}
 use Rattle.signs.specs.Rows.{row}
-use Rattle.signs.specs.Signs.{Spelled, barred, spelling, isLegal, signs, startsWith, size, longer, longestOf}
+use Rattle.vocabulary.specs.Vocabulary.{Row, spelling, isTaken, signs, noRow}
+use Rattle.signs.specs.Signs.{startsWith, size, longer, longestOf}
 use Rattle.signs.specs.declared.Longest.{Longest}
 use Rattle.signs.specs.declared.Longest.the-variants.{None, Sign}
-use Rattle.signs.specs.declared.Row.{Row}
+use Rattle.signs.specs.declared.Row.{Row as TableRow}
 
 -- the sign found so far, as the code keeps it: while there is none its length is 0
 abbrev pub found : ℕ → ℕ → Bool → Longest
@@ -28,7 +29,7 @@ found-some number zero l h = absurd (omega arith)
 found-some number (suc n) l h = refl
 
 -- the code at the row r of a sign g
-module _ (g : Spelled) (r : Row) (e : r ≡ row g) where
+module _ (g : Row) (r : TableRow) (e : r ≡ row g) where
   row-len : r .len ≤ length (r .bytes)
   row-len = rw e (omega (arith, length-append (spelling g) (replicate (4 - length (spelling g)) 0)))
 
@@ -40,7 +41,7 @@ module _ (g : Spelled) (r : Row) (e : r ≡ row g) where
         longer s m (found number n l) g ≡ found m (r .len) (r .legal)
     longer-taken h t =
         rw (size-found number n l, lt-ltb n (length (spelling g)) (rw e at h), rw row-spelling at t, e)
-        (sym (found-some m (length (spelling g)) (isLegal g) (omega (arith, rw e at h))))
+        (sym (found-some m (length (spelling g)) (isTaken g) (omega (arith, rw e at h))))
 
     longer-other : startsWith (take (r .len) (r .bytes)) s ≡ false → longer s m (found number n l) g ≡ found number n l
     longer-other t = rw (rw row-spelling at t, and-false)
@@ -48,41 +49,41 @@ module _ (g : Spelled) (r : Row) (e : r ≡ row g) where
     longer-short : r .len ≤ n → longer s m (found number n l) g ≡ found number n l
     longer-short h = rw (size-found number n l, le-ltb n (length (spelling g)) (rw e at h))
 
-map-at : (gs : List Spelled) (k : ℕ) (d : Row) (f : Spelled) → k < length gs → getD (map row gs) k d ≡ row (getD gs k f)
+map-at : (gs : List Row) (k : ℕ) (d : TableRow) (f : Row) → k < length gs → getD (map row gs) k d ≡ row (getD gs k f)
 map-at [] k d f h = absurd (omega arith)
 map-at (g ∷ gs) zero d f h = refl
 map-at (g ∷ gs) (suc k) d f h = map-at gs k d f (omega arith)
 
 -- the code's row past the table's end
-abbrev pub noRow : Row
-noRow = record { bytes = []; len = 0; legal = false }
+abbrev pub noTableRow : TableRow
+noTableRow = record { bytes = []; len = 0; legal = false }
 
 -- the scan at the table's row k
-module _ (table : List Row) (whole : table ≡ map row signs) (k : ℕ) (h : k < 48) where
-  at-row : getD table k noRow ≡ row (getD signs k (barred ""))
-  at-row = rw whole (map-at signs k noRow (barred "") h)
+module _ (table : List TableRow) (whole : table ≡ map row signs) (k : ℕ) (h : k < 48) where
+  at-row : getD table k noTableRow ≡ row (getD signs k noRow)
+  at-row = rw whole (map-at signs k noTableRow noRow h)
 
-  pub table-len : getD table k noRow .len ≤ length (getD table k noRow .bytes)
-  table-len = row-len (getD signs k (barred "")) (getD table k noRow) at-row
+  pub table-len : getD table k noTableRow .len ≤ length (getD table k noTableRow .bytes)
+  table-len = row-len (getD signs k noRow) (getD table k noTableRow) at-row
 
   module _ (s : List ℕ) (number n : ℕ) (l : Bool) where
-    step : (best : Longest) → longer s (k + 1) (found number n l) (getD signs k (barred "")) ≡ best →
+    step : (best : Longest) → longer s (k + 1) (found number n l) (getD signs k noRow) ≡ best →
         longestOf s (k + 1) (found number n l) (drop k signs) ≡ longestOf s (k + 1 + 1) best (drop (k + 1) signs)
     unfolding longestOf
-    step best e = rw (← e, add-one k, drop-cons signs k (barred "") h)
+    step best e = rw (← e, add-one k, drop-cons signs k noRow h)
 
-    pub scan-taken : n < getD table k noRow .len → startsWith (take (getD table k noRow .len) (getD table k noRow .bytes)) s ≡ true →
+    pub scan-taken : n < getD table k noTableRow .len → startsWith (take (getD table k noTableRow .len) (getD table k noTableRow .bytes)) s ≡ true →
         longestOf s (k + 1) (found number n l) (drop k signs)
-        ≡ longestOf s (k + 1 + 1) (found (k + 1) (getD table k noRow .len) (getD table k noRow .legal)) (drop (k + 1) signs)
-    scan-taken f t = step _ (longer-taken (getD signs k (barred "")) (getD table k noRow) at-row s (k + 1) number n l f t)
+        ≡ longestOf s (k + 1 + 1) (found (k + 1) (getD table k noTableRow .len) (getD table k noTableRow .legal)) (drop (k + 1) signs)
+    scan-taken f t = step _ (longer-taken (getD signs k noRow) (getD table k noTableRow) at-row s (k + 1) number n l f t)
 
-    pub scan-other : startsWith (take (getD table k noRow .len) (getD table k noRow .bytes)) s ≡ false →
+    pub scan-other : startsWith (take (getD table k noTableRow .len) (getD table k noTableRow .bytes)) s ≡ false →
         longestOf s (k + 1) (found number n l) (drop k signs) ≡ longestOf s (k + 1 + 1) (found number n l) (drop (k + 1) signs)
-    scan-other t = step _ (longer-other (getD signs k (barred "")) (getD table k noRow) at-row s (k + 1) number n l t)
+    scan-other t = step _ (longer-other (getD signs k noRow) (getD table k noTableRow) at-row s (k + 1) number n l t)
 
-    pub scan-short : getD table k noRow .len ≤ n →
+    pub scan-short : getD table k noTableRow .len ≤ n →
         longestOf s (k + 1) (found number n l) (drop k signs) ≡ longestOf s (k + 1 + 1) (found number n l) (drop (k + 1) signs)
-    scan-short f = step _ (longer-short (getD signs k (barred "")) (getD table k noRow) at-row s (k + 1) number n l f)
+    scan-short f = step _ (longer-short (getD signs k noRow) (getD table k noTableRow) at-row s (k + 1) number n l f)
 
 pub scan-end : (s : List ℕ) (best : Longest) (k : ℕ) → 48 ≤ k → longestOf s (k + 1) best (drop k signs) ≡ best
 unfolding longestOf

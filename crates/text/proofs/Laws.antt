@@ -6,12 +6,13 @@ use Prim.Native.Nat.{ℕ, suc, zero, _+_, _<_, _≤_}
 use native.Mathlib.Nat.{add-zero}
 use native.Mathlib.Omega.{arith}
 use borrow.Author.Tests.{eq-eqb, ne-eqb}
-use lib.Dec.{eqb}
+use lib.Dec.{T, eqb, eqb→eq}
 use lib.ListN.{length, getD, take, drop, drop-of-length-le, length-drop}
 use Rattle.text.specs.Bytes.{lineEnd, illegal}
 use Rattle.text.specs.Inside.{insideOf}
 use Rattle.text.specs.Runs.{run, same}
 use Rattle.text.proofs.Lists.{drop-at}
+use Rattle.text.proofs.Range.{and-left, and-right}
 
 pub run-le : (class : ℕ → Bool) (s : List ℕ) → run class s ≤ length s
 unfolding run
@@ -69,6 +70,14 @@ same-length [] [] h = absurd (h refl)
 same-length [] (y ∷ b) h = refl
 same-length (x ∷ a) [] h = refl
 same-length (x ∷ a) (y ∷ b) h = rw (same-length a b (λ e. h (ap suc e))) (and-false (eqb x y))
+
+pub same→eq : (a b : List ℕ) → T (same a b) → a ≡ b
+unfolding same
+same→eq [] [] t = refl
+same→eq [] (y ∷ b) t = absurd t
+same→eq (x ∷ a) [] t = absurd t
+same→eq (x ∷ a) (y ∷ b) t =
+    rw (eqb→eq x y (and-left (eqb x y) (same a b) t), same→eq a b (and-right (eqb x y) (same a b) t))
 
 module _ (a b : List ℕ) (i : ℕ) where
   pub same-end : length a ≤ i → length b ≤ i → same (drop i a) (drop i b) ≡ true

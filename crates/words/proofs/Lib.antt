@@ -1,3 +1,3 @@
 pub mod Laws
 pub mod Tried
-pub mod FirstBytes
+pub mod Spellings

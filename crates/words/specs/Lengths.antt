@@ -1,22 +1,20 @@
 -- The reserved words by their length, which is how the code looks for them. Machinery: no public contract cites it.
 use Prim.Native.Nat.{ℕ, _+_}
-use Prim.Native.String.{String}
 use mathlib.Core.List.{List, [], _∷_}
 use mathlib.Core.Bool.{Bool, cond, _&&_}
 use lib.Dec.{eqb, ltb}
 use lib.ListN.{length}
-use Rattle.text.specs.Quoted.{bytes}
 use Rattle.text.specs.Runs.{same}
-use Rattle.words.specs.Words.{words}
+use Rattle.vocabulary.specs.Vocabulary.{Row, spelling, words}
 
 -- a number where the name is the word, else the other number
 unfoldable pub chosen : List ℕ → List ℕ → ℕ → ℕ → ℕ
 chosen name word number other = cond (same name word) number other
 
 -- the place of a name among those words whose length passes a test
-unfoldable pub placeAmong : (ℕ → Bool) → List ℕ → ℕ → List String → ℕ
+unfoldable pub placeAmong : (ℕ → Bool) → List ℕ → ℕ → List Row → ℕ
 placeAmong keep name n [] = 0
-placeAmong keep name n (w ∷ ws) = cond (keep (length (bytes w)) && same name (bytes w)) n (placeAmong keep name (n + 1) ws)
+placeAmong keep name n (w ∷ ws) = cond (keep (length (spelling w)) && same name (spelling w)) n (placeAmong keep name (n + 1) ws)
 
 -- the number of a name among the reserved words of a length
 unfoldable pub wordOf : (ℕ → Bool) → List ℕ → ℕ

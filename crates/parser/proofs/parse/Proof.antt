@@ -23,28 +23,28 @@ enum-known-read-2 : tie.Need-enum-known-read-2
 enum-known-read-2 c = search needs
 
 -- src/lib.rt:78:50
-mul-program : tie.Need-mul-program
-mul-program c =
+mul-program-of : tie.Need-mul-program-of
+mul-program-of c =
     let d = read-done _ ((c .before .before .before .before .before .before .before .before .before .before .args) .trees .now) _ _ _ (c .before .before .before .before .before .read .ensures .0) (c .before .before .before .before .before .read .ensures .1) (c .before .read3 .given .1) in
     omega (arith, d .few)
 
 -- src/lib.rt:78:40
-sub-program : tie.Need-sub-program
-sub-program c = search needs
+sub-program-of : tie.Need-sub-program-of
+sub-program-of c = search needs
 
 -- src/lib.rt:78:40
-part-program-start : tie.Need-part-program-start
-part-program-start c = search needs
+part-program-of-start : tie.Need-part-program-of-start
+part-program-of-start c = search needs
 
 -- src/lib.rt:78:40
-part-program-end : tie.Need-part-program-end
-part-program-end c =
+part-program-of-end : tie.Need-part-program-of-end
+part-program-of-end c =
     let d = read-done _ ((c .before .before .before .before .before .before .before .before .before .before .before .args) .trees .now) _ _ _ (c .before .before .before .before .before .before .read .ensures .0) (c .before .before .before .before .before .before .read .ensures .1) (c .before .before .read3 .given .1) in
     omega (arith, d .within)
 
 -- src/lib.rt:78:17
-program-requires : tie.Need-program-requires
-program-requires c κs =
+program-of-requires : tie.Need-program-of-requires
+program-of-requires c κs =
     front-fine (read-done _ ((c .before .before .before .before .before .before .before .before .before .before .before .before .before .args) .trees .now) _ _ _ (c .before .before .before .before .before .before .before .before .read .ensures .0) (c .before .before .before .before .before .before .before .before .read .ensures .1) (c .before .before .before .before .read3 .given .1)) _
 
 -- src/lib.rt:80:34
@@ -91,7 +91,7 @@ returns-2 : tie.Need-returns-2
 returns-2 c =
     let a = c .before .before .before .before .before .before .before .before .before .before .before .before .before .before .before .before .before .before .before .args in
     let d = read-done _ ((c .before .before .before .before .before .before .before .before .before .before .before .before .before .before .before .before .before .before .before .args) .trees .now) _ _ _ (c .before .before .before .before .before .before .before .before .before .before .before .before .before .before .read .ensures .0) (c .before .before .before .before .before .before .before .before .before .before .before .before .before .before .read .ensures .1) (c .before .before .before .before .before .before .before .before .before .before .read3 .given .1) in
-    judged-accepted (a .text .now) (a .trees .now) (a .syntax .now) d (c .before .before .before .before .before .program .ensures) (c .before .answer .given .1)
+    judged-accepted (a .text .now) (a .trees .now) (a .syntax .now) d (c .before .before .before .before .before .program-of .ensures) (c .before .answer .given .1)
 
 -- src/lib.rt:68:1
 same-length-5 : tie.Need-same-length-5
@@ -106,7 +106,7 @@ returns-3 : tie.Need-returns-3
 returns-3 c =
     let a = c .before .before .before .before .before .before .before .before .before .before .before .before .before .before .before .before .before .before .before .before .before .before .before .before .before .before .before .args in
     let d = read-done _ ((c .before .before .before .before .before .before .before .before .before .before .before .before .before .before .before .before .before .before .before .before .before .before .before .before .before .before .before .args) .trees .now) _ _ _ (c .before .before .before .before .before .before .before .before .before .before .before .before .before .before .before .before .before .before .before .before .before .before .read .ensures .0) (c .before .before .before .before .before .before .before .before .before .before .before .before .before .before .before .before .before .before .before .before .before .before .read .ensures .1) (c .before .before .before .before .before .before .before .before .before .before .before .before .before .before .before .before .before .before .read3 .given .1) in
-    let e = judged-refused (a .text .now) (a .trees .now) (a .syntax .now) d (c .before .before .before .before .before .before .before .before .before .before .before .before .before .program .ensures) (c .before .before .before .before .before .before .before .before .before .answer2 .given .1) in
+    let e = judged-refused (a .text .now) (a .trees .now) (a .syntax .now) d (c .before .before .before .before .before .before .before .before .before .before .before .before .before .program-of .ensures) (c .before .before .before .before .before .before .before .before .before .answer2 .given .1) in
     answers-refused (a .text .now) (a .trees .now) (a .syntax .now) e
     (c .before .before .before .before .before .before .clear2 .ensures ∙ ap (λ n. replicate n 0) (c .before .before .before .before .before .before .before .before .before .before .before .before .before .before .before .before .before .before .before .before .before .trees .given))
     (c .before .before .clear3 .ensures ∙ ap (λ n. replicate n 0) (c .before .before .before .before .before .before .before .before .before .before .before .before .syntax2 .given))
@@ -119,11 +119,11 @@ parse-spec =
     enum-known-read
     clear-requires
     enum-known-read-2
-    mul-program
-    sub-program
-    part-program-start
-    part-program-end
-    program-requires
+    mul-program-of
+    sub-program-of
+    part-program-of-start
+    part-program-of-end
+    program-of-requires
     enum-known-answer
     enum-known-answer-2
     clear-requires-2

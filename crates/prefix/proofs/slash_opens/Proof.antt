@@ -1,4 +1,4 @@
--- The word of the innermost level says what the rule says.
+-- The number of the innermost level says what the rule says.
 use borrow.Author.Needs.{needs}
 use Rattle.prefix.proofs.StateLaws.{held-slash}
 use borrow.Author.Needs.{needs}

@@ -1,8 +1,8 @@
--- `after_group` is `groupWord`, test for test.
+-- `after_group` is `levelAfter`, by the class of the group, test for test.
 use borrow.Author.Needs.{needs}
 use borrow.Author.Tests.{eq-eqb, ne-eqb}
-use Rattle.prefix.specs.LevelWords.{groupWord}
-use borrow.Author.Needs.{needs}
+use Rattle.prefix.specs.Rule.{groupClass}
+use Rattle.prefix.specs.LevelNumbers.{levelAfter}
 use Rattle.prefix.proofs.rule.after_group.Statement.{statement}
 use Rattle.prefix.proofs.rule.after_group.Tie as tie
 
@@ -10,8 +10,8 @@ after-parens-requires : tie.Need-after-parens-requires
 after-parens-requires c κs = search needs
 
 returns : tie.Need-returns
-unfolding groupWord
-returns c = rw (eq-eqb _ 7 (c .before .if1 .taken)) (c .after-parens .ensures)
+unfolding levelAfter groupClass
+returns c = λ line. rw (eq-eqb _ 7 (c .before .if1 .taken)) (c .after-parens .ensures)
 
 mul-result : tie.Need-mul-result
 mul-result c = search needs
@@ -20,15 +20,15 @@ add-result : tie.Need-add-result
 add-result c = search needs
 
 returns-2 : tie.Need-returns-2
-unfolding groupWord
-returns-2 c = rw (ne-eqb _ 7 (c .before .if1 .left), eq-eqb _ 8 (c .if2 .taken))
+unfolding levelAfter groupClass
+returns-2 c = λ line. rw (ne-eqb _ 7 (c .before .if1 .left), eq-eqb _ 8 (c .if2 .taken))
 
 after-block-requires : tie.Need-after-block-requires
 after-block-requires c κs = search needs
 
 returns-3 : tie.Need-returns-3
-unfolding groupWord
-returns-3 c = rw (ne-eqb _ 7 (c .before .before .if1 .left), ne-eqb _ 8 (c .before .if2 .left)) (c .after-block .ensures)
+unfolding levelAfter groupClass
+returns-3 c = λ line. rw (ne-eqb _ 7 (c .before .before .if1 .left), ne-eqb _ 8 (c .before .if2 .left)) (c .after-block .ensures)
 
 pub after-group-spec : {M : Type 1} → statement M
 after-group-spec =

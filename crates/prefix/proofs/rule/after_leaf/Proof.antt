@@ -1,8 +1,8 @@
--- `after_leaf` is `leafWord`, test for test.
+-- `after_leaf` is `levelAfter`, by the class of the element, test for test.
 use borrow.Author.Needs.{needs}
 use borrow.Author.Tests.{eq-eqb, ne-eqb}
-use Rattle.prefix.specs.LevelWords.{leafWord}
-use borrow.Author.Needs.{needs}
+use Rattle.prefix.specs.Rule.{elementClass}
+use Rattle.prefix.specs.LevelNumbers.{levelAfter}
 use Rattle.prefix.proofs.rule.after_leaf.Statement.{statement}
 use Rattle.prefix.proofs.rule.after_leaf.Tie as tie
 
@@ -10,23 +10,23 @@ after-name-requires : tie.Need-after-name-requires
 after-name-requires c κs = search needs
 
 returns : tie.Need-returns
-unfolding leafWord
+unfolding levelAfter elementClass
 returns c = rw (eq-eqb _ 1 (c .before .if1 .taken)) (c .after-name .ensures)
 
 after-word-requires : tie.Need-after-word-requires
 after-word-requires c κs = search needs
 
 returns-2 : tie.Need-returns-2
-unfolding leafWord
+unfolding levelAfter elementClass
 returns-2 c = rw (ne-eqb _ 1 (c .before .before .before .if1 .left), eq-eqb _ 2 (c .before .if2 .taken)) (c .after-word .ensures)
 
 after-sign-requires : tie.Need-after-sign-requires
 after-sign-requires c κs = search needs
 
 returns-3 : tie.Need-returns-3
-unfolding leafWord
+unfolding levelAfter elementClass
 returns-3 c =
-    rw (ne-eqb _ 1 (c .before .before .before .before .before .if1 .left), ne-eqb _ 2 (c .before .before .before .if2 .left), eq-eqb _ 6 (c .before .if3 .taken)) (c .after-sign .ensures)
+    rw (ne-eqb _ 1 (c .before .before .before .before .before .if1 .left), ne-eqb _ 2 (c .before .before .before .if2 .left), eq-eqb _ 6 (c .before .if3 .taken)) (c .after-sign .ensures _)
 
 mul-result : tie.Need-mul-result
 mul-result c = search needs
@@ -35,7 +35,7 @@ add-result : tie.Need-add-result
 add-result c = search needs
 
 returns-4 : tie.Need-returns-4
-unfolding leafWord
+unfolding levelAfter elementClass
 returns-4 c = rw (ne-eqb _ 1 (c .before .before .before .before .if1 .left), ne-eqb _ 2 (c .before .before .if2 .left), ne-eqb _ 6 (c .if3 .left))
 
 pub after-leaf-spec : {M : Type 1} → statement M

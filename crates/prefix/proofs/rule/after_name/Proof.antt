@@ -1,35 +1,34 @@
--- `after_name` is `nameWord`, test for test.
+-- `after_name` is `levelAfterName`, test for test.
 use borrow.Author.Needs.{needs}
 use borrow.Author.Tests.{eq-eqb, ne-eqb}
-use Rattle.prefix.specs.LevelWords.{nameWord}
-use borrow.Author.Needs.{needs}
+use Rattle.prefix.specs.LevelNumbers.{levelAfterName}
 use Rattle.prefix.proofs.rule.after_name.Statement.{statement}
 use Rattle.prefix.proofs.rule.after_name.Tie as tie
 
-mul-level : tie.Need-mul-level
-mul-level c = search needs
+mul-base : tie.Need-mul-base
+mul-base c = search needs
 
 add-result : tie.Need-add-result
 add-result c = search needs
 
 returns : tie.Need-returns
-unfolding nameWord
+unfolding levelAfterName
 returns c = rw (eq-eqb _ 5 (c .if1 .taken))
 
 add-result-2 : tie.Need-add-result-2
 add-result-2 c = search needs
 
 returns-2 : tie.Need-returns-2
-unfolding nameWord
+unfolding levelAfterName
 returns-2 c = rw (ne-eqb _ 5 (c .before .if1 .left), eq-eqb _ 6 (c .if2 .taken))
 
 add-result-3 : tie.Need-add-result-3
 add-result-3 c = search needs
 
 returns-3 : tie.Need-returns-3
-unfolding nameWord
+unfolding levelAfterName
 returns-3 c = rw (ne-eqb _ 5 (c .before .if1 .left), ne-eqb _ 6 (c .if2 .left))
 
 pub after-name-spec : {M : Type 1} → statement M
 after-name-spec =
-    tie.close (tie.spec mul-level add-result returns add-result-2 returns-2 add-result-3 returns-3)
+    tie.close (tie.spec mul-base add-result returns add-result-2 returns-2 add-result-3 returns-3)

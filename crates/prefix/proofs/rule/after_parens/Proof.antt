@@ -1,47 +1,46 @@
--- `after_parens` is `parensWord`, test for test.
+-- `after_parens` is `levelAfterParens`, test for test.
 use borrow.Author.Needs.{needs}
 use borrow.Author.Tests.{eq-eqb, ne-eqb}
-use Rattle.prefix.specs.LevelWords.{parensWord}
-use borrow.Author.Needs.{needs}
+use Rattle.prefix.specs.LevelNumbers.{levelAfterParens}
 use Rattle.prefix.proofs.rule.after_parens.Statement.{statement}
 use Rattle.prefix.proofs.rule.after_parens.Tie as tie
 
-mul-level : tie.Need-mul-level
-mul-level c = search needs
+mul-base : tie.Need-mul-base
+mul-base c = search needs
 
 add-result : tie.Need-add-result
 add-result c = search needs
 
 returns : tie.Need-returns
-unfolding parensWord
+unfolding levelAfterParens
 returns c = rw (eq-eqb _ 12 (c .if1 .taken))
 
 add-result-2 : tie.Need-add-result-2
 add-result-2 c = search needs
 
 returns-2 : tie.Need-returns-2
-unfolding parensWord
+unfolding levelAfterParens
 returns-2 c = rw (ne-eqb _ 12 (c .before .if1 .left), eq-eqb _ 1 (c .if2 .taken))
 
 add-result-3 : tie.Need-add-result-3
 add-result-3 c = search needs
 
 returns-3 : tie.Need-returns-3
-unfolding parensWord
+unfolding levelAfterParens
 returns-3 c = rw (ne-eqb _ 12 (c .before .before .if1 .left), ne-eqb _ 1 (c .before .if2 .left), eq-eqb _ 2 (c .if3 .taken))
 
 add-result-4 : tie.Need-add-result-4
 add-result-4 c = search needs
 
 returns-4 : tie.Need-returns-4
-unfolding parensWord
+unfolding levelAfterParens
 returns-4 c = rw (ne-eqb _ 12 (c .before .before .if1 .left), ne-eqb _ 1 (c .before .if2 .left), ne-eqb _ 2 (c .if3 .left))
 
 pub after-parens-spec : {M : Type 1} → statement M
 after-parens-spec =
     tie.close
     (tie.spec
-    mul-level
+    mul-base
     add-result
     returns
     add-result-2

@@ -1,11 +1,11 @@
--- `slash_opens` is `slashByWord`.
+-- `slash_opens` is `slashByLevel`.
 use mathlib.Core.Path.{refl}
-use Rattle.prefix.specs.LevelWords.{slashByWord}
+use Rattle.prefix.specs.LevelNumbers.{slashByLevel}
 use Rattle.prefix.proofs.rule.slash_opens.Statement.{statement}
 use Rattle.prefix.proofs.rule.slash_opens.Tie as tie
 
 returns : tie.Need-returns
-unfolding slashByWord
+unfolding slashByLevel
 returns c = refl
 
 pub slash-opens-spec : {M : Type 1} → statement M

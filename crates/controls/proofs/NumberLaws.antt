@@ -1,0 +1,58 @@
+-- Numbers that the code does not name, and those that it tells from others.
+use mathlib.Core.Path.{_≡_, refl}
+use mathlib.Core.Bool.{Bool, true, false, cond}
+use Prim.Native.Nat.{ℕ, _+_, _≤_, _<_}
+use native.Mathlib.Omega.{arith}
+use borrow.Author.Tests.{eq-eqb, ne-eqb, eqb-false}
+use lib.Dec.{T, eqb, ltb, ltb→lt}
+use Rattle.grammar.specs.Grammar.{body, block}
+use Rattle.grammar.specs.Machine.{ifNest, among, inNest, byStatement, byReturn, byParen, byBrace, finished}
+use Rattle.controls.specs.Numbers.{settingBy, endingBy, controlBy}
+
+-- numbers that are passed one by one
+pub beyond : (k n : ℕ) → k ≤ n → (n ≡ k → ⊥) → k + 1 ≤ n
+beyond k n h other = omega arith
+
+module _ (setting : ℕ) where
+  pub no-body : (setting ≡ 0 → ⊥) → settingBy setting ≡ cond (eqb setting 1) (among block) (inNest ifNest)
+  unfolding settingBy
+  no-body h = rw (ne-eqb setting 0 h)
+
+  pub scope-setting : setting ≤ 1 → settingBy setting ≡ among (cond (eqb setting 0) body block)
+  unfolding settingBy
+  scope-setting h = go (eqb setting 0) refl
+    where
+      go : (b : Bool) → eqb setting 0 ≡ b → cond b (among body) (cond (eqb setting 1) (among block) (inNest ifNest)) ≡ among (cond b body block)
+      go true e = refl
+      go false e = let other = eqb-false setting 0 e in rw (eq-eqb setting 1 (omega (arith, other)))
+
+  pub nest-setting : 1 < setting → settingBy setting ≡ inNest ifNest
+  unfolding settingBy
+  nest-setting h = rw (ne-eqb setting 0 (λ e. omega arith), ne-eqb setting 1 (λ e. omega arith))
+
+module _ (ending setting : ℕ) where
+  -- an expression in a group, and in a statement
+  pub group-ending : (ending ≡ 0 → ⊥) → (ending ≡ 1 → ⊥) → endingBy ending setting ≡ cond (eqb ending 2) byParen byBrace
+  unfolding endingBy
+  group-ending a b = rw (ne-eqb ending 0 a, ne-eqb ending 1 b)
+
+  pub statement-ending : ending < 2
+      → endingBy ending setting ≡ cond (eqb ending 0) (byStatement (settingBy setting)) (byReturn (settingBy setting))
+  unfolding endingBy
+  statement-ending h = go (eqb ending 0) refl
+    where
+      go : (b : Bool) → eqb ending 0 ≡ b
+          → cond b (byStatement (settingBy setting)) (cond (eqb ending 1) (byReturn (settingBy setting)) (cond (eqb ending 2) byParen byBrace))
+          ≡ cond b (byStatement (settingBy setting)) (byReturn (settingBy setting))
+      go true e = refl
+      go false e = let other = eqb-false ending 0 e in rw (eq-eqb ending 1 (omega (arith, other)))
+
+module _ (place ending setting : ℕ) (flag : Bool) where
+  -- no place has a number past the last
+  pub past-places : 18 ≤ place → controlBy place ending setting flag ≡ finished
+  unfolding controlBy
+  past-places h =
+      simp (other 0 tt, other 1 tt, other 2 tt, other 3 tt, other 4 tt, other 5 tt, other 6 tt, other 7 tt, other 8 tt, other 9 tt, other 10 tt, other 11 tt, other 12 tt, other 13 tt, other 14 tt, other 15 tt, other 16 tt, other 17 tt)
+    where
+      other : (k : ℕ) → T (ltb k 18) → eqb place k ≡ false
+      other k l = ne-eqb place k (λ e. omega (arith, ltb→lt k 18 l))

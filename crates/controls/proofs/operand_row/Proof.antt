@@ -1,0 +1,64 @@
+-- `operand_row` is the machine's row, entry by entry.
+use borrow.Author.Needs.{needs}
+use mathlib.Core.Path.{sym, _∙_}
+use Rattle.controls.specs.Numbers.{endingBy, controlBy, effectBy, closingBy, insideBy}
+use Rattle.controls.specs.Steps.{to-leaf, to-function, past-parens, past-object, means-fail}
+use Rattle.controls.proofs.StepLaws.{goes, opens-group}
+use Rattle.controls.proofs.RowLaws.{leaf-row, no-operand}
+use Rattle.controls.proofs.operand_row.Statement.{statement}
+use Rattle.controls.proofs.operand_row.Tie as tie
+
+is-leaf-requires : tie.Need-is-leaf-requires
+is-leaf-requires c κs = search needs
+
+stand-requires : tie.Need-stand-requires
+stand-requires c κs = search needs
+
+returns : tie.Need-returns
+unfolding controlBy effectBy
+returns c = λ from due.
+    let a = c .before .before .before .args in
+    let l = leaf-row (a .class) (endingBy (a .ending) (a .setting)) (a .target) (sym (c .before .before .is-leaf .ensures) ∙ c .before .if1 .taken) in
+    rw (l .0) (goes (c .stand .ensures) (l .1) (to-leaf due))
+
+stand-requires-2 : tie.Need-stand-requires-2
+stand-requires-2 c κs = search needs
+
+returns-2 : tie.Need-returns-2
+unfolding controlBy closingBy insideBy
+returns-2 c = λ from due. rw (c .before .if2 .taken) (opens-group (c .stand2 .ensures) tt (past-parens due))
+
+stand-requires-3 : tie.Need-stand-requires-3
+stand-requires-3 c κs = search needs
+
+returns-3 : tie.Need-returns-3
+unfolding controlBy closingBy insideBy
+returns-3 c = λ from due. rw (c .before .if3 .taken) (opens-group (c .stand3 .ensures) tt (past-object due))
+
+stand-requires-4 : tie.Need-stand-requires-4
+stand-requires-4 c κs = search needs
+
+returns-4 : tie.Need-returns-4
+unfolding controlBy effectBy
+returns-4 c = λ from due. rw (c .before .if4 .taken) (goes (c .stand4 .ensures) tt (to-function due))
+
+returns-5 : tie.Need-returns-5
+returns-5 c = λ from due.
+    let a = c .before .before .before .before .before .args in
+    rw (no-operand (a .class) (endingBy (a .ending) (a .setting)) (a .target) (sym (c .before .before .before .before .is-leaf .ensures) ∙ c .before .before .before .if1 .left) (c .before .before .if2 .left) (c .before .if3 .left) (c .if4 .left))
+    means-fail
+
+pub operand-row-spec : {M : Type 1} → statement M
+operand-row-spec =
+    tie.close
+    (tie.spec
+    is-leaf-requires
+    stand-requires
+    returns
+    stand-requires-2
+    returns-2
+    stand-requires-3
+    returns-3
+    stand-requires-4
+    returns-4
+    returns-5)

@@ -1,0 +1,34 @@
+-- `semicolon_row` is the entry of an ending, at `;`.
+use borrow.Author.Needs.{needs}
+use lib.Dec.{eqb}
+use Rattle.controls.specs.Numbers.{endingBy, effectBy}
+use Rattle.controls.specs.Steps.{to-end, to-return-end, means-fail}
+use Rattle.controls.proofs.StepLaws.{goes}
+use Rattle.controls.proofs.RowLaws.{semicolon-group}
+use Rattle.controls.proofs.NumberLaws.{group-ending}
+use Rattle.controls.proofs.semicolon_row.Statement.{statement}
+use Rattle.controls.proofs.semicolon_row.Tie as tie
+
+behind-statement-requires : tie.Need-behind-statement-requires
+behind-statement-requires c κs = search needs
+
+returns : tie.Need-returns
+unfolding endingBy effectBy
+returns c = λ target. rw (c .before .if1 .taken) (goes (c .behind-statement .ensures) tt to-end)
+
+behind-statement-requires-2 : tie.Need-behind-statement-requires-2
+behind-statement-requires-2 c κs = search needs
+
+returns-2 : tie.Need-returns-2
+unfolding endingBy effectBy
+returns-2 c = λ target. rw (c .before .if2 .taken) (goes (c .behind-statement2 .ensures) tt to-return-end)
+
+returns-3 : tie.Need-returns-3
+returns-3 c = λ target.
+    let a = c .before .before .args in
+    rw (group-ending (a .ending) (a .setting) (c .before .if1 .left) (c .if2 .left), semicolon-group (eqb (a .ending) 2)) means-fail
+
+pub semicolon-row-spec : {M : Type 1} → statement M
+semicolon-row-spec =
+    tie.close
+    (tie.spec behind-statement-requires returns behind-statement-requires-2 returns-2 returns-3)

@@ -1,0 +1,154 @@
+-- The bytes of a reserved word or sign that is found are the spelling of its row, which is taken.
+use mathlib.Core.Path.{_≡_, refl, sym, _∙_}
+use mathlib.Core.List.{List, [], _∷_}
+use mathlib.Core.Bool.{Bool, true, false, cond, _&&_, _||_}
+use Prim.Native.Nat.{ℕ, _+_, _-_, _<_}
+use native.Mathlib.Omega.{arith}
+use borrow.Author.Tests.{eqb-false}
+use lib.Dec.{T, eqb}
+use lib.ListN.{length, getD, take, drop}
+use lib.Seq.{getD-take, getD-drop}
+use Rattle.text.specs.Quoted.{byte}
+use Rattle.text.specs.Bytes.{letter, digit, nameByte}
+use Rattle.text.specs.Runs.{run}
+use Rattle.vocabulary.specs.Vocabulary.{Row, words, signs, spelling, isTaken, rowAt}
+use Rattle.vocabulary.proofs.RowLaws.{eachTaken, at-taken}
+use Rattle.words.specs.Words.{wordNumber, taken}
+use Rattle.words.proofs.Spellings.{word-spelled}
+use Rattle.signs.specs.Signs.{longestSign}
+use Rattle.signs.specs.declared.Longest.{Longest}
+use Rattle.signs.proofs.Spellings.{longest-spelled}
+use Rattle.literals.specs.Numbers.{numberFrom}
+use Rattle.literals.specs.Strings.{quote, stringRest}
+use Rattle.literals.specs.Patterns.{patternRest}
+use Rattle.literals.specs.declared.Literal.{Literal}
+use Rattle.elements.specs.Elements.{
+  literal,
+  named,
+  delimiter,
+  signOrStray,
+  elementFrom,
+  elementAt,
+  delimiterKind,
+  wordKind,
+  numberKind,
+  stringKind,
+  patternKind,
+  signKind,
+}
+use Rattle.elements.specs.Parts.{partOf}
+use Rattle.elements.specs.declared.Element.{Element}
+use Rattle.elements.specs.declared.Next.{Next}
+use Rattle.elements.proofs.Choices.{cond-both, cond-known}
+use Rattle.elements.proofs.Bounds.{found-placed}
+use Rattle.elements.proofs.OwnBytes.{found-gap}
+use Rattle.elements.proofs.PartLaws.{found-part}
+
+-- bytes that are the spelling of the row of a number, which is taken
+pub record Spelled (rows : List Row) (own : List ℕ) (number : ℕ) : Type 0 where
+  pub spelled : own ≡ spelling (rowAt rows number)
+  pub taken : isTaken (rowAt rows number) ≡ true
+
+-- an element's own bytes are the first of s
+record ElementSpelled (s : List ℕ) (e : Element) : Type 0 where
+  word : e .kind ≡ wordKind → Spelled words (take (e .end - e .first) s) (e .which)
+  sign : e .kind ≡ signKind → Spelled signs (take (e .end - e .first) s) (e .which)
+  apart : e .kind ≡ signKind → delimiter (e .which) ≡ false
+
+abbrev NextSpelled : List ℕ → Next → Type 0
+NextSpelled s Next.End = Unit {0}
+NextSpelled s (Next.Found e) = ElementSpelled s e
+NextSpelled s (Next.Fault number at) = Unit {0}
+
+-- neither a word nor a sign
+other-spelled : (s : List ℕ) (e : Element) → (e .kind ≡ wordKind → ⊥) → (e .kind ≡ signKind → ⊥) → ElementSpelled s e
+other-spelled s e w g = record { word = λ k. absurd (w k); sign = λ k. absurd (g k); apart = λ k. absurd (g k) }
+
+module _ (line : Bool) (first : ℕ) (s : List ℕ) where
+  literal-spelled : (kind : ℕ) → (kind ≡ wordKind → ⊥) → (kind ≡ signKind → ⊥) → (l : Literal) → NextSpelled s (literal kind line first l)
+  literal-spelled kind w g (Literal.Ends end) = other-spelled s _ w g
+  literal-spelled kind w g (Literal.Fault number place) = tt
+
+  named-spelled : NextSpelled s (named line first s)
+  unfolding named taken
+  named-spelled =
+      let n = run nameByte s in
+      let number = wordNumber (take n s) in
+      let whole : first + n - first ≡ n = omega arith in
+      cond-known (NextSpelled s) (eqb number 0) (λ none. other-spelled s _ (λ k. omega arith) (λ k. omega arith)) λ some.
+      cond-known (NextSpelled s) (taken number)
+      (λ is. record {
+        word = λ k. rw whole (record { spelled = word-spelled (take n s) (eqb-false number 0 some); taken = is });
+        sign = λ k. absurd (omega arith);
+        apart = λ k. absurd (omega arith);
+      })
+      (λ barred. tt)
+
+  sign-spelled : (l : Longest) → longestSign s ≡ l → NextSpelled s (signOrStray line first l)
+  sign-spelled Longest.None e = tt
+  sign-spelled (Longest.Sign number n legal) e =
+      let is = longest-spelled s number n legal e in
+      let whole : first + n - first ≡ n = omega arith in
+      cond-known (NextSpelled s) legal
+      (λ allowed. record {
+        word = λ k. absurd (no-word (delimiter number) k);
+        sign = λ k. rw whole (record { spelled = is .own; taken = sym (is .allowed) ∙ allowed });
+        apart = λ k. no-delimiter (delimiter number) k;
+      })
+      (λ barred. tt)
+    where
+      no-word : (d : Bool) → cond d delimiterKind signKind ≡ wordKind → ⊥
+      no-word true k = omega arith
+      no-word false k = omega arith
+
+      no-delimiter : (d : Bool) → cond d delimiterKind signKind ≡ signKind → d ≡ false
+      no-delimiter true k = absurd (omega arith)
+      no-delimiter false k = refl
+
+from-spelled : (pattern line : Bool) (first : ℕ) (s : List ℕ) → NextSpelled s (elementFrom pattern line first s)
+unfolding elementFrom
+from-spelled pattern line first [] = tt
+from-spelled pattern line first (b ∷ t) =
+    let s = b ∷ t in
+    let P = NextSpelled s in
+    cond-both P (letter b) (named-spelled line first s)
+    (cond-both P (digit b) (literal-spelled line first s numberKind (λ k. omega arith) (λ k. omega arith) (numberFrom first s))
+    (cond-both P (quote b) (literal-spelled line first s stringKind (λ k. omega arith) (λ k. omega arith) (stringRest b first false (first + 1) t))
+    (cond-both P (pattern && eqb b (byte "/")) (literal-spelled line first s patternKind (λ k. omega arith) (λ k. omega arith) (patternRest first false false (first + 1) t))
+    (cond-both P (eqb b (byte ".") && digit (getD t 0 0)) tt
+    (sign-spelled line first s (longestSign s) refl)))))
+
+-- a test of a row's length, first byte and number
+abbrev pub byFirst : (ℕ → ℕ → ℕ → Bool) → ℕ → Row → Bool
+byFirst test number row = test (length (spelling row)) (getD (spelling row) 0 0) number
+
+module _ (s : List ℕ) (place : ℕ) (pattern : Bool) (e : Element) (found : elementAt s place pattern ≡ Next.Found e) where
+  found-spelled : ElementSpelled (drop (e .first) s) e
+  found-spelled = rw (found-gap s place pattern e found .1) at (from-spelled pattern (e .line) (e .first) (drop (e .first) s))
+
+  pub word-spelling : e .kind ≡ wordKind → Spelled words (partOf s e) (e .which)
+  word-spelling k = found-spelled .word k
+
+  pub sign-spelling : e .kind ≡ signKind → Spelled signs (partOf s e) (e .which)
+  sign-spelling k = found-spelled .sign k
+
+  pub sign-which : e .kind ≡ signKind → delimiter (e .which) ≡ false
+  sign-which k = found-spelled .apart k
+
+  -- what a test says of each row that is taken, it says of the bytes that such a row spells
+  row-passes : (test : ℕ → ℕ → ℕ → Bool) (rows : List Row) → T (eachTaken (byFirst test) rows) → Spelled rows (partOf s e) (e .which)
+      → T (test (e .end - e .first) (getD s (e .first) 0) (e .which))
+  row-passes test rows t is =
+      let some : 0 < e .end - e .first = omega (arith, found-placed s place pattern e found) in
+      let at : e .first + 0 ≡ e .first = omega arith in
+      rw (← is .spelled, found-part s place pattern e found, getD-take (e .end - e .first) (drop (e .first) s) 0 0 some, getD-drop (e .first) s 0 0, at)
+      at (at-taken (byFirst test) rows t (e .which) (is .taken))
+
+  pub word-passes : (test : ℕ → ℕ → ℕ → Bool) → T (eachTaken (byFirst test) words) → e .kind ≡ wordKind
+      → T (test (e .end - e .first) (getD s (e .first) 0) (e .which))
+  word-passes test t k = row-passes test words t (word-spelling k)
+
+  -- of signs, the delimiters are left out
+  pub sign-passes : (test : ℕ → ℕ → ℕ → Bool) → T (eachTaken (byFirst (λ len b number. delimiter number || test len b number)) signs)
+      → e .kind ≡ signKind → T (test (e .end - e .first) (getD s (e .first) 0) (e .which))
+  sign-passes test t k = rw (sign-which k) at (row-passes (λ len b number. delimiter number || test len b number) signs t (sign-spelling k))

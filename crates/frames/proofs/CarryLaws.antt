@@ -1,0 +1,314 @@
+-- A level with the parts of its frame told apart from where it stands: what each operation on the level makes of them.
+use mathlib.Core.Path.{_≡_, refl, _∙_, ap}
+use mathlib.Core.List.{List, [], _∷_, _++_}
+use Prim.Native.Nat.{ℕ, _+_, _-_, _*_, _≤_, _<_}
+use native.Mathlib.Omega.{arith}
+use lib.ListN.{length, getD}
+use Rattle.tables.specs.Records.{mostTrees}
+use Rattle.grammar.specs.Syntax.{Syntax, nil, node, snoc, size}
+use Rattle.grammar.specs.Grammar.{precedence}
+use Rattle.grammar.specs.Machine as machine
+use Rattle.grammar.specs.Machine.{Pending, pending, Frame, frame, wrap, behindStatement, toStatement, Control, nested}
+use Rattle.controls.specs.Numbers.{settingBy}
+use Rattle.waiting.specs.Written.{putRecord, putSyntax}
+use Rattle.waiting.specs.Waiting.{width, binding, nestKind, Shut, shut, close, lefts, Stacked, bare, above, Holds, HoldsShut, Held, Closes, Completes, stackWith, waitingOne, madeOne, withWord, restarted}
+use Rattle.waiting.specs.declared.Level.{Level}
+use Rattle.waiting.proofs.HoldLaws.{start-le, bottom-top, floor-le, word-held, alone-held, uppermost, done-held, nest-done-held, left-held, taken-back-held}
+use Rattle.waiting.proofs.PutLaws.{made-held, made-both, valued-held, waits-held, stack-long, stack-kept}
+use Rattle.frames.specs.Stands.{Operators, no-operators, more-operators, Beginnings, no-beginnings, more-beginnings, Some, some, InSetting, Below, below-none, below-nest, Shaped, written, HeldAt, owed, Kept, Stands}
+use Rattle.frames.specs.Effects.{Valued}
+use Rattle.frames.proofs.CloseLaws.{LighterBy, close-lightens, below-stops, Reduced, close-expression, close-statement}
+
+-- the level with so many records
+abbrev pub withCount : ℕ → Level → Level
+withCount n l = record { count = n; top = l .top; floor = l .floor; start = l .start; word = l .word }
+
+-- the level with the uppermost part taken back
+abbrev pub backOne : Level → Level
+backOne l = record { count = l .count; top = l .top - 1; floor = l .floor; start = l .count; word = l .word }
+
+-- and the level around a nest
+abbrev pub leftOne : Level → List ℕ → Level
+leftOne l stack = record { count = l .count; top = l .top - 1; floor = l .floor; start = getD stack ((l .top - 1) * width + 2) 0; word = l .word }
+
+-- the level carries statements done, beginnings of statements, operators, and what is written of an operand
+pub record Carries (nests : List machine.Held) (table stack₀ : List ℕ) (first floor : ℕ) (done : Syntax) (starts waiting : List Pending) (last : Syntax) (l : Level) (stack cells : List ℕ) : Type 0 where
+  pub operators : Operators waiting
+  pub beginnings : Beginnings starts
+  pub base : Syntax
+  pub tail : List Pending
+  pub below : Below done nests base tail
+  pub holds : Holds table first base (waiting ++ (starts ++ tail)) last l stack cells
+  pub worded : l .word ≤ mostTrees
+  pub floored : l .floor ≡ floor
+  pub kept : Kept stack₀ stack floor
+
+module _ {c : Control} {nests : List machine.Held} {table stack₀ : List ℕ} {first floor passed : ℕ} {l : Level} {stack cells : List ℕ} where
+  pub carried : {g : Frame} (s : Stands c g nests table stack₀ first floor passed l stack cells)
+      → Carries nests table stack₀ first floor (s .done) (s .starts) (s .waiting) (written c (s .operand)) l stack cells
+  carried s =
+      record {
+        operators = s .operators;
+        beginnings = s .beginnings;
+        base = s .base;
+        tail = s .tail;
+        below = s .below;
+        holds = s .holds;
+        worded = s .worded;
+        floored = s .floored;
+        kept = s .kept;
+      }
+
+  pub stands : {done : Syntax} {starts waiting : List Pending} (operand : Syntax)
+      → Carries nests table stack₀ first floor done starts waiting (written c operand) l stack cells
+      → Shaped c done starts waiting operand nests → HeldAt c operand (l .word) → l .count + l .top + owed c ≤ first + floor + passed → first + floor + passed ≤ mostTrees
+      → Stands c (frame done starts waiting operand) nests table stack₀ first floor passed l stack cells
+  stands operand h shaped word passes few =
+      record {
+        done = _;
+        starts = _;
+        waiting = _;
+        operand = operand;
+        is = refl;
+        shaped = shaped;
+        operators = h .operators;
+        beginnings = h .beginnings;
+        base = h .base;
+        tail = h .tail;
+        below = h .below;
+        holds = h .holds;
+        held = word;
+        worded = h .worded;
+        floored = h .floored;
+        kept = h .kept;
+        passes = passes;
+        few = few;
+      }
+
+-- records so far and parts that wait, together
+stacked-top : {stack : List ℕ} {floor first : ℕ} {done : Syntax} {ps : List Pending} {top : ℕ} → Stacked stack floor first done ps top → top ≡ floor + length ps
+stacked-top bare = omega arith
+stacked-top (above below fits k m s marked) = let h = stacked-top below in omega arith
+
+pub holds-weigh : {table : List ℕ} {first : ℕ} {done : Syntax} {ps : List Pending} {operand : Syntax} {l : Level} {stack cells : List ℕ}
+    → Holds table first done ps operand l stack cells
+    → (l .count + l .top ≡ first + l .floor + (size (lefts done ps) + size operand + length ps)) × (l .top ≡ l .floor + length ps)
+holds-weigh h = let t = stacked-top (h .stacked) in (omega (arith, h .counts, h .starts), t)
+
+-- closing writes as many records as parts no longer wait; the operand starts among them
+pub record Lighter (l r : Level) : Type 0 where
+  pub same : r .count + r .top ≡ l .count + l .top
+  pub lower : r .top ≤ l .top
+  pub started : r .start ≤ r .count
+
+pub closes-lightens : {least : ℕ} {table : List ℕ} {first : ℕ} {done : Syntax} {ps : List Pending} {operand : Syntax} {l r : Level} {stack cells after : List ℕ}
+    → Holds table first done ps operand l stack cells → r .floor ≡ l .floor → Closes least l stack cells r after → Lighter l r
+closes-lightens {least = least} {table = table} {first = first} {done = done} {ps = ps} {operand = operand} {l = l} {r = r} {stack = stack} {after = after} h f closes =
+    go (close least ps operand) (close-lightens least done ps operand) (closes table first done ps operand h)
+  where
+    go : (s : Shut) → LighterBy done ps operand s → HoldsShut table first done s r stack after → Lighter l r
+    go (shut left last) (e, less) k =
+        let a = holds-weigh h in
+        let b = holds-weigh k in
+        record { same = omega (arith, a .0, b .0, e, f); lower = omega (arith, a .1, b .1, less, f); started = start-le k }
+
+beginnings-rest : {p : Pending} {ps : List Pending} → Beginnings (p ∷ ps) → Beginnings ps
+beginnings-rest (more-beginnings e more) = more
+
+-- the stack is the same, or with a part more above what waits
+same-stack : {stack : List ℕ} {top : ℕ} → Kept stack stack top
+same-stack = record { same-length = refl; same = λ k less. refl }
+
+more-stack : (stack : List ℕ) (top kind mark start : ℕ) → Kept stack (stackWith stack top kind mark start) top
+more-stack stack top kind mark start = record { same-length = stack-long stack top kind mark start; same = stack-kept stack top kind mark start }
+
+kept-under : {before middle after : List ℕ} {floor top : ℕ} → Kept before middle floor → Kept middle after top → floor ≤ top → Kept before after floor
+kept-under h k up = record { same-length = k .same-length ∙ h .same-length; same = λ i less. k .same i (omega arith) ∙ h .same i less }
+
+module _ {nests : List machine.Held} {table stack₀ : List ℕ} {first floor : ℕ} {done : Syntax} {starts waiting : List Pending} {last : Syntax} {l : Level} {stack cells : List ℕ}
+    (h : Carries nests table stack₀ first floor done starts waiting last l stack cells) where
+  -- other parts are carried, at the same floor
+  carries-other : {others : List machine.Held} {statements base next : Syntax} {begun operators tail : List Pending} {r : Level} {after cells′ : List ℕ}
+      → Operators operators → Beginnings begun → Below statements others base tail → Holds table first base (operators ++ (begun ++ tail)) next r after cells′
+      → r .word ≤ mostTrees → r .floor ≡ l .floor → Kept stack after (l .top) → Carries others table stack₀ first floor statements begun operators next r after cells′
+  carries-other operators beginnings below k word f same =
+      record {
+        operators = operators;
+        beginnings = beginnings;
+        base = _;
+        tail = _;
+        below = below;
+        holds = k;
+        worded = word;
+        floored = f ∙ h .floored;
+        kept = kept-under (h .kept) same (omega (arith, floor-le (h .holds), h .floored));
+      }
+
+  -- what is written behind the operators changes, and the stack may above them
+  carries-last : {next : Syntax} {r : Level} {after cells′ : List ℕ} → Holds table first (h .base) (waiting ++ (starts ++ h .tail)) next r after cells′
+      → r .word ≤ mostTrees → r .floor ≡ l .floor → Kept stack after (l .top) → Carries nests table stack₀ first floor done starts waiting next r after cells′
+  carries-last k word f same = carries-other (h .operators) (h .beginnings) (h .below) k word f same
+
+  pub carries-word : (word : ℕ) → word ≤ mostTrees → Carries nests table stack₀ first floor done starts waiting last (withWord word l) stack cells
+  carries-word word few = carries-last (word-held word (h .holds)) few refl same-stack
+
+  pub carries-made : (kind mark : ℕ) → l .count + l .top < mostTrees
+      → Carries nests table stack₀ first floor done starts waiting (node kind mark last nil) (madeOne l) stack (putRecord cells (l .count) kind mark (l .count - l .start + 1))
+  carries-made kind mark room = carries-last (made-held kind mark (h .holds) room) (h .worded) refl same-stack
+
+  pub carries-valued : (n : ℕ) (value : Syntax) {after cells′ : List ℕ} → Valued l n value stack after cells cells′ → n + l .top ≤ mostTrees
+      → Carries nests table stack₀ first floor done starts waiting (snoc last value) (withCount n l) after cells′
+  carries-valued n value v room =
+      carries-last (valued-held value (h .holds) (v .kept .same-length) (v .kept .same) (v .count-is) (v .cells-are) room) (h .worded) refl (v .kept)
+
+  -- the operand waits as the left side of an operator
+  pub carries-operator : (kind mark : ℕ) → l .count + l .top < mostTrees → mark ≤ mostTrees → (l .top + 1) * width ≤ length stack
+      → binding kind ≡ precedence kind + 2
+      → Carries nests table stack₀ first floor done starts (pending kind mark last ∷ waiting) nil (waitingOne l) (stackWith stack (l .top) kind mark (l .start)) cells
+  carries-operator kind mark room marked fits binds =
+      carries-other (more-operators binds (h .operators)) (h .beginnings) (h .below) (waits-held kind mark (h .holds) room marked fits) (h .worded) refl
+      (more-stack stack (l .top) kind mark (l .start))
+
+module _ {nests : List machine.Held} {table stack₀ : List ℕ} {first floor : ℕ} {done : Syntax} {starts : List Pending} {l : Level} {stack cells : List ℕ} where
+  pub carries-alone : {waiting : List Pending} {value : Syntax} → Carries nests table stack₀ first floor done starts waiting (snoc nil value) l stack cells
+      → Carries nests table stack₀ first floor done starts waiting value l stack cells
+  carries-alone h = carries-last h (alone-held (h .holds)) (h .worded) refl same-stack
+
+  pub carries-both : {waiting : List Pending} {left right : Syntax} (kind mark : ℕ) → Carries nests table stack₀ first floor done starts waiting (snoc left right) l stack cells
+      → l .count + l .top < mostTrees
+      → Carries nests table stack₀ first floor done starts waiting (node kind mark left right) (madeOne l) stack (putRecord cells (l .count) kind mark (l .count - l .start + 1))
+  carries-both kind mark h room = carries-last h (made-both kind mark (h .holds) room) (h .worded) refl same-stack
+
+  -- where no operator waits, the operand waits as the left side of a beginning of a statement
+  pub carries-beginning : {last : Syntax} (kind mark : ℕ) → Carries nests table stack₀ first floor done starts [] last l stack cells
+      → l .count + l .top < mostTrees → mark ≤ mostTrees → (l .top + 1) * width ≤ length stack → binding kind ≡ 1
+      → Carries nests table stack₀ first floor done (pending kind mark last ∷ starts) [] nil (waitingOne l) (stackWith stack (l .top) kind mark (l .start)) cells
+  carries-beginning kind mark h room marked fits binds =
+      carries-other h no-operators (more-beginnings binds (h .beginnings)) (h .below) (waits-held kind mark (h .holds) room marked fits) (h .worded) refl
+      (more-stack stack (l .top) kind mark (l .start))
+
+  -- and nothing as that of a nest
+  pub carries-nest : (setting mark : ℕ) → Carries nests table stack₀ first floor done starts [] nil l stack cells → InSetting (settingBy setting) done nests
+      → l .count + l .top < mostTrees → setting ≤ mostTrees → (l .top + 1) * width ≤ length stack
+      → Carries (nested (behindStatement (settingBy setting)) toStatement mark (frame done starts [] nil) ∷ nests) table stack₀ first floor nil [] [] nil
+      (waitingOne l) (stackWith stack (l .top) nestKind setting (l .start)) cells
+  carries-nest setting mark h within room small fits =
+      carries-other h no-operators no-beginnings (below-nest (h .beginnings) within (h .below)) (waits-held nestKind setting (h .holds) room small fits) (h .worded) refl
+      (more-stack stack (l .top) nestKind setting (l .start))
+
+  -- a beginning with no left side is taken back, where nothing stands behind it
+  pub carries-back : {kind mark : ℕ} → Carries nests table stack₀ first floor done (pending kind mark nil ∷ starts) [] nil l stack cells
+      → Carries nests table stack₀ first floor done starts [] nil (backOne l) stack cells
+  carries-back h = carries-other h no-operators (beginnings-rest (h .beginnings)) (h .below) (taken-back-held (h .holds)) (h .worded) refl same-stack
+
+-- a statement goes to those done, wherever those are
+record Followed (nests : List machine.Held) (table : List ℕ) (first : ℕ) (done : Syntax) (l : Level) (stack cells : List ℕ) : Type 0 where
+  base : Syntax
+  tail : List Pending
+  below : Below done nests base tail
+  holds : Holds table first base tail nil l stack cells
+
+followed : {nests : List machine.Held} {table : List ℕ} {first : ℕ} {done base value : Syntax} {tail : List Pending} {l : Level} {stack cells : List ℕ}
+    → Below done nests base tail → Holds table first base tail value l stack cells → Followed nests table first (snoc done value) (restarted l) stack cells
+followed below-none h = record { base = _; tail = []; below = below-none; holds = done-held h }
+followed (below-nest beginnings setting below) h = record { base = _; tail = _; below = below-nest beginnings setting below; holds = nest-done-held h }
+
+module _ {nests : List machine.Held} {table stack₀ : List ℕ} {first floor : ℕ} {done : Syntax} {starts waiting : List Pending} {last : Syntax} {l r : Level} {stack cells after : List ℕ}
+    (h : Carries nests table stack₀ first floor done starts waiting last l stack cells) where
+  -- operators are closed: those that bind at least so tight, or all of them
+  pub carries-closed : (least : ℕ) → r .floor ≡ l .floor → r .word ≡ l .word → Closes (least + 2) l stack cells r after
+      → (k : Reduced least done starts waiting (starts ++ h .tail) last) → Carries nests table stack₀ first floor done starts (k .left) (k .last) r stack after
+  carries-closed least f w closes k =
+      let m : HoldsShut table first (h .base) (shut (k .left ++ (starts ++ h .tail)) (k .last)) r stack after =
+      rw (k .closes) at (closes table first (h .base) (waiting ++ (starts ++ h .tail)) last (h .holds)) in
+      carries-other h (k .operators) (h .beginnings) (h .below) m (omega (arith, w, h .worded)) f same-stack
+
+  pub carries-expression : r .floor ≡ l .floor → r .word ≡ l .word → Closes 2 l stack cells r after
+      → Carries nests table stack₀ first floor done starts [] (wrap waiting last) r stack after
+  carries-expression f w closes =
+      let m : HoldsShut table first (h .base) (shut (starts ++ h .tail) (wrap waiting last)) r stack after =
+      rw (close-expression last (h .operators) (h .beginnings) (below-stops (h .below)))
+      at (closes table first (h .base) (waiting ++ (starts ++ h .tail)) last (h .holds)) in
+      carries-other h no-operators (h .beginnings) (h .below) m (omega (arith, w, h .worded)) f same-stack
+
+  -- a statement is complete: beginnings of statements are closed too
+  pub carries-statement : Completes l stack cells r after
+      → Carries nests table stack₀ first floor (snoc done (wrap starts (wrap waiting last))) [] [] nil r stack after
+  carries-statement k =
+      let m : HoldsShut table first (h .base) (shut (h .tail) (wrap starts (wrap waiting last))) (k .all) stack after =
+      rw (close-statement last (h .operators) (h .beginnings) (below-stops (h .below)))
+      at (k .closes table first (h .base) (waiting ++ (starts ++ h .tail)) last (h .holds)) in
+      let n = followed (h .below) m in
+      rw (k .is) (carries-other h no-operators no-beginnings (n .below) (n .holds) (omega (arith, k .same-word, h .worded)) (k .same-floor) same-stack)
+
+  pub completes-lightens : Completes l stack cells r after → Lighter l r
+  completes-lightens k =
+      let m = closes-lightens (h .holds) (k .same-floor) (k .closes) in
+      rw (k .is) (record { same = m .same; lower = m .lower; started = omega arith })
+
+-- what is carried around a nest with its statement done
+pub record Around (nests : List machine.Held) (table stack₀ : List ℕ) (first floor : ℕ) (last : Syntax) (l : Level) (stack cells : List ℕ) : Type 0 where
+  pub setting : ℕ
+  pub mark : ℕ
+  pub done : Syntax
+  pub starts : List Pending
+  pub rest : List machine.Held
+  pub is : nests ≡ nested (behindStatement (settingBy setting)) toStatement mark (frame done starts [] nil) ∷ rest
+  pub within : InSetting (settingBy setting) done rest
+  pub stacked : getD stack ((l .top - 1) * width + 1) 0 ≡ setting
+  pub small : getD stack ((l .top - 1) * width + 1) 0 ≤ mostTrees
+  pub started : getD stack ((l .top - 1) * width + 2) 0 ≤ mostTrees
+  pub waits : 1 ≤ l .top
+  pub fits : l .top * width ≤ length stack
+  pub carries : Carries rest table stack₀ first floor done starts [] last (leftOne l stack) stack cells
+
+pub carries-around : {nests : List machine.Held} {table stack₀ : List ℕ} {first floor : ℕ} {last : Syntax} {l : Level} {stack cells : List ℕ}
+    → Some nests → Carries nests table stack₀ first floor (snoc nil last) [] [] nil l stack cells → Around nests table stack₀ first floor last l stack cells
+carries-around {table = table} {stack₀ = stack₀} {first = first} {floor = floor} {last = last} {l = l} {stack = stack} {cells = cells} inside h = go inside (h .below) (h .holds)
+  where
+    go : {hs : List machine.Held} {base : Syntax} {tail : List Pending} → Some hs → Below (snoc nil last) hs base tail → Holds table first base tail nil l stack cells
+        → Around hs table stack₀ first floor last l stack cells
+    go some (below-nest {around = done} {setting = setting} {mark = mark} {starts = starts} {nests = rest} beginnings within below) k =
+        let u = uppermost k in
+        record {
+          setting = setting;
+          mark = mark;
+          done = done;
+          starts = starts;
+          rest = rest;
+          is = refl;
+          within = within;
+          stacked = u .mark-is;
+          small = omega (arith, u .mark-is, u .marked);
+          started = omega (arith, u .start-is, k .starts, k .counts, k .few);
+          waits = u .some;
+          fits = u .fits;
+          carries = carries-other h no-operators beginnings below (left-held k) (h .worded) refl same-stack;
+        }
+
+-- a level with no nests, all of whose operators are closed, has written all it carries
+pub record Written (table : List ℕ) (first floor : ℕ) (value : Syntax) (l : Level) (cells : List ℕ) : Type 0 where
+  pub count-is : l .count ≡ first + size value
+  pub cells-are : cells ≡ putSyntax table first value
+  pub top-is : l .top ≡ floor
+
+module _ {table stack₀ : List ℕ} {first floor : ℕ} {l : Level} {stack cells : List ℕ} where
+  all-written : {done last : Syntax} → Carries [] table stack₀ first floor done [] [] last l stack cells → Written table first floor (snoc done last) l cells
+  all-written {done = done} {last = last} h = go (h .below) (h .holds)
+    where
+      go : {base : Syntax} {tail : List Pending} → Below done [] base tail → Holds table first base tail last l stack cells → Written table first floor (snoc done last) l cells
+      go below-none k =
+          record { count-is = omega (arith, k .counts, k .starts); cells-are = k .written; top-is = omega (arith, bottom-top k, h .floored) }
+
+  pub statements-written : {done : Syntax} → Carries [] table stack₀ first floor done [] [] nil l stack cells → Written table first floor done l cells
+  unfolding putSyntax
+  statements-written h =
+      let w = all-written h in
+      record { count-is = omega (arith, w .count-is); cells-are = w .cells-are; top-is = w .top-is }
+
+  pub expression-written : {last : Syntax} → Carries [] table stack₀ first floor nil [] [] last l stack cells → Written table first floor last l cells
+  unfolding putSyntax
+  expression-written {last = last} h =
+      let w = all-written h in
+      let same : first + 0 ≡ first = omega arith in
+      record { count-is = omega (arith, w .count-is); cells-are = w .cells-are ∙ ap (λ i. putSyntax table i last) same; top-is = w .top-is }

@@ -1,0 +1,199 @@
+-- What a group that closes does to the frame around it, as the level has it.
+use mathlib.Core.Path.{_≡_, refl}
+use mathlib.Core.Bool.{Bool, true, false}
+use mathlib.Core.List.{List}
+use Prim.Native.Nat.{ℕ, _+_, _-_, _*_, _≤_, _<_}
+use native.Mathlib.Omega.{arith}
+use borrow.Author.Tests.{ne-eqb}
+use lib.ListN.{length}
+use Rattle.tables.specs.Records.{mostTrees}
+use Rattle.grammar.specs.Syntax.{Syntax, nil, node, objectSyntax, parenthesisedSyntax, functionSyntax, callSyntax, blockSyntax, ifSyntax, declarationSyntax}
+use Rattle.grammar.specs.Grammar.{body}
+use Rattle.grammar.specs.Machine as machine
+use Rattle.grammar.specs.Machine.{
+  Frame,
+  ifNest,
+  Setting,
+  among,
+  inNest,
+  behindStatement,
+  toParens,
+  toCall,
+  toObject,
+  toBlock,
+  toCondition,
+  toParameter,
+  toDeclaration,
+  toFunction,
+  Ending,
+  Role,
+  declared,
+  operandIn,
+  Control,
+  statementDue,
+  ifFirst,
+  operandDone,
+  functionNamed,
+  parameterPast,
+}
+use Rattle.controls.specs.Numbers.{closingBy}
+use Rattle.controls.specs.Steps.{Due, Spans, past-parens, past-object, past-call, past-condition, past-parameter, past-block, past-declaration, past-function}
+use Rattle.waiting.specs.Written.{putRecord}
+use Rattle.waiting.specs.Waiting.{width, binding, Held, Completes, stackWith, waitingOne, madeOne}
+use Rattle.waiting.specs.declared.Level.{Level}
+use Rattle.waiting.proofs.HoldLaws.{held}
+use Rattle.frames.specs.Stands.{Stands}
+use Rattle.frames.specs.Effects.{Valued, MayClose, ClosesGroup}
+use Rattle.frames.proofs.CarryLaws.{withCount, carried, stands, carries-made, carries-valued, carries-alone, carries-both, carries-beginning, carries-statement, completes-lightens}
+use Rattle.frames.proofs.EffectLaws.{at-statement, at-operand, behind}
+
+module _ {g : Frame} {nests : List machine.Held} {table stack₀ : List ℕ} {first floor passed next n : ℕ} {l : Level} {stackBefore stack cellsBefore cells : List ℕ} (value : Syntax)
+    (valued : Valued l n value stackBefore stack cellsBefore cells) (fits : n + l .top < first + floor + next) (few : first + floor + next ≤ mostTrees) where
+  -- the value is the operand's only part: with nothing of its kind before it
+  pub closes-parens : {from : Control} {ending : Ending} {target : Bool} (mark : ℕ) → Due from ending target
+      → Stands from g nests table stack₀ first floor passed l stackBefore cellsBefore
+      → Stands (operandDone ending target) (machine.close toParens mark value g) nests table stack₀ first floor next (madeOne (withCount n l)) stack
+      (putRecord cells n parenthesisedSyntax mark (n - l .start + 1))
+  closes-parens mark due s =
+      let h = at-operand due s in
+      rw (h .is)
+      (stands (node parenthesisedSyntax mark value nil)
+      (carries-made (carries-alone (carries-valued (h .carries) n value valued (omega arith))) parenthesisedSyntax mark (omega arith)) (h .within) tt (omega arith) few)
+
+  pub closes-object : {from : Control} {ending : Ending} {target : Bool} (mark : ℕ) → Due from ending target
+      → Stands from g nests table stack₀ first floor passed l stackBefore cellsBefore
+      → Stands (operandDone ending target) (machine.close toObject mark value g) nests table stack₀ first floor next (madeOne (withCount n l)) stack
+      (putRecord cells n objectSyntax mark (n - l .start + 1))
+  closes-object mark due s =
+      let h = at-operand due s in
+      rw (h .is)
+      (stands (node objectSyntax mark value nil)
+      (carries-made (carries-alone (carries-valued (h .carries) n value valued (omega arith))) objectSyntax mark (omega arith)) (h .within) tt (omega arith) few)
+
+  pub closes-function : {ending : Ending} {target : Bool} (mark : ℕ) → Stands (parameterPast (operandIn ending target)) g nests table stack₀ first floor passed l stackBefore cellsBefore
+      → Stands (operandDone ending target) (machine.close toFunction mark value g) nests table stack₀ first floor next (madeOne (withCount n l)) stack
+      (putRecord cells n functionSyntax (l .word) (n - l .start + 1))
+  closes-function mark s =
+      rw (s .is, s .held)
+      (stands (node functionSyntax (l .word) value nil)
+      (carries-made (carries-alone (carries-valued (carried s) n value valued (omega arith))) functionSyntax (l .word) (omega arith)) (s .shaped) tt (omega arith) few)
+
+  -- the value stands behind the operand
+  pub closes-call : {ending : Ending} {target : Bool} (mark : ℕ) → Stands (operandDone ending target) g nests table stack₀ first floor passed l stackBefore cellsBefore
+      → Stands (operandDone ending target) (machine.close toCall mark value g) nests table stack₀ first floor next (madeOne (withCount n l)) stack
+      (putRecord cells n callSyntax mark (n - l .start + 1))
+  closes-call mark s =
+      rw (s .is)
+      (stands (node callSyntax mark (s .operand) value) (carries-both callSyntax mark (carries-valued (carried s) n value valued (omega arith)) (omega arith)) (s .shaped) tt
+      (omega arith) few)
+
+  -- the value waits as a beginning's left side
+  pub closes-condition : (mark : ℕ) → (l .top + 1) * width ≤ length stack → Stands ifFirst g nests table stack₀ first floor passed l stackBefore cellsBefore
+      → Stands (statementDue true (inNest ifNest)) (machine.close toCondition mark value g) nests table stack₀ first floor next (waitingOne (withCount n l))
+      (stackWith stack (l .top) ifSyntax (l .word) (l .start)) cells
+  unfolding binding
+  closes-condition mark room s =
+      rw (s .is, s .held, s .shaped .2)
+      (stands nil
+      (carries-beginning ifSyntax (l .word) (rw (s .shaped .2) at (carries-alone (carries-valued (carried s) n value valued (omega arith)))) (omega arith) (s .worded) room refl)
+      (refl, refl, (s .shaped .0, s .shaped .3)) tt (omega arith) few)
+
+  -- a parameter leaves nothing
+  pub closes-parameter : {role : Role} (mark : ℕ) → value ≡ nil → Stands (functionNamed role) g nests table stack₀ first floor passed l stackBefore cellsBefore
+      → Stands (parameterPast role) (machine.close toParameter mark value g) nests table stack₀ first floor next (withCount n l) stack cells
+  closes-parameter mark none s =
+      rw (s .is)
+      (stands (s .operand) (carries-alone (rw none at (carries-valued (carried s) n value valued (omega arith)))) (s .shaped) (s .held) (omega arith) few)
+
+  -- a statement is complete
+  pub closes-block : {must : Bool} {setting : Setting} (mark : ℕ) {all : Level} {cells′ : List ℕ}
+      → Completes (madeOne (withCount n l)) stack (putRecord cells n blockSyntax mark (n - l .start + 1)) all cells′
+      → Stands (statementDue must setting) g nests table stack₀ first floor passed l stackBefore cellsBefore
+      → Stands (behindStatement setting) (machine.close toBlock mark value g) nests table stack₀ first floor next all stack cells′
+  closes-block {setting = setting} mark completes s =
+      let h = at-statement s in
+      let one = carries-made (carries-alone (carries-valued (h .carries) n value valued (omega arith))) blockSyntax mark (omega arith) in
+      let lighter = completes-lightens one completes in
+      rw (h .is) (behind setting (h .within) (carries-statement one completes) (omega (arith, lighter)) few)
+
+  pub closes-declaration : (mark : ℕ) {all : Level} {cells′ : List ℕ}
+      → Completes (madeOne (withCount n l)) stack (putRecord cells n declarationSyntax (l .word) (n - l .start + 1)) all cells′
+      → Stands (parameterPast declared) g nests table stack₀ first floor passed l stackBefore cellsBefore
+      → Stands (statementDue false (among body)) (machine.close toDeclaration mark value g) nests table stack₀ first floor next all stack cells′
+  closes-declaration mark completes s =
+      let one = carries-made (carries-alone (carries-valued (carried s) n value valued (omega arith))) declarationSyntax (l .word) (omega arith) in
+      let lighter = completes-lightens one completes in
+      rw (s .is, s .held) (behind (among body) (s .shaped .2) (rw (s .shaped .1) at (carries-statement one completes)) (omega (arith, lighter)) few)
+
+-- the groups by number
+pub closing-function : (closing : ℕ) → (closing ≡ 0 → ⊥) → (closing ≡ 1 → ⊥) → (closing ≡ 2 → ⊥) → (closing ≡ 3 → ⊥) → (closing ≡ 4 → ⊥) → (closing ≡ 5 → ⊥)
+    → (closing ≡ 6 → ⊥) → closingBy closing ≡ toFunction
+unfolding closingBy
+closing-function closing a b d e f g h =
+    rw (
+      ne-eqb closing 0 a,
+      ne-eqb closing 1 b,
+      ne-eqb closing 2 d,
+      ne-eqb closing 3 e,
+      ne-eqb closing 4 f,
+      ne-eqb closing 5 g,
+      ne-eqb closing 6 h,
+    )
+
+module _ {l : Level} {stack cells : List ℕ} (mark n : ℕ) where
+  pub parens-close : {r : Level} {cells′ : List ℕ} → (r ≡ madeOne (withCount n l)) × (cells′ ≡ putRecord cells n parenthesisedSyntax mark (n - l .start + 1)) → ClosesGroup 0 mark n l stack cells r stack cells′
+  unfolding closingBy
+  parens-close e from to g nests table stack₀ first floor passed next value stackBefore cellsBefore s (past-parens due) valued none fits few =
+      rw (e .0, e .1) (closes-parens value valued fits few mark due s)
+
+  pub call-closes : {r : Level} {cells′ : List ℕ} → (r ≡ madeOne (withCount n l)) × (cells′ ≡ putRecord cells n callSyntax mark (n - l .start + 1)) → ClosesGroup 1 mark n l stack cells r stack cells′
+  unfolding closingBy
+  call-closes e from to g nests table stack₀ first floor passed next value stackBefore cellsBefore s past-call valued none fits few =
+      rw (e .0, e .1) (closes-call value valued fits few mark s)
+
+  pub object-closes : {r : Level} {cells′ : List ℕ} → (r ≡ madeOne (withCount n l)) × (cells′ ≡ putRecord cells n objectSyntax mark (n - l .start + 1)) → ClosesGroup 2 mark n l stack cells r stack cells′
+  unfolding closingBy
+  object-closes e from to g nests table stack₀ first floor passed next value stackBefore cellsBefore s (past-object due) valued none fits few =
+      rw (e .0, e .1) (closes-object value valued fits few mark due s)
+
+  pub condition-closes : {r : Level} {after : List ℕ} → (l .top + 1) * width ≤ length stack
+      → (r ≡ waitingOne (withCount n l)) × (after ≡ stackWith stack (l .top) ifSyntax (l .word) (l .start)) → ClosesGroup 3 mark n l stack cells r after cells
+  unfolding closingBy
+  condition-closes room e from to g nests table stack₀ first floor passed next value stackBefore cellsBefore s past-condition valued none fits few =
+      rw (e .0, e .1) (closes-condition value valued fits few mark room s)
+
+  pub parameter-closes : ClosesGroup 4 mark n l stack cells (withCount n l) stack cells
+  unfolding closingBy
+  parameter-closes from to g nests table stack₀ first floor passed next value stackBefore cellsBefore s past-parameter valued none fits few =
+      closes-parameter value valued fits few mark (none refl) s
+
+  pub block-closes : {r all : Level} {cells′ cells″ : List ℕ} → (r ≡ madeOne (withCount n l)) × (cells′ ≡ putRecord cells n blockSyntax mark (n - l .start + 1)) → Completes r stack cells′ all cells″
+      → ClosesGroup 5 mark n l stack cells all stack cells″
+  unfolding closingBy
+  block-closes e completes from to g nests table stack₀ first floor passed next value stackBefore cellsBefore s past-block valued none fits few =
+      closes-block value valued fits few mark (rw (e .0, e .1) at completes) s
+
+  pub declaration-closes : {r all : Level} {cells′ cells″ : List ℕ} → (r ≡ madeOne (withCount n l)) × (cells′ ≡ putRecord cells n declarationSyntax (l .word) (n - l .start + 1)) → Completes r stack cells′ all cells″
+      → ClosesGroup 6 mark n l stack cells all stack cells″
+  unfolding closingBy
+  declaration-closes e completes from to g nests table stack₀ first floor passed next value stackBefore cellsBefore s past-declaration valued none fits few =
+      closes-declaration value valued fits few mark (rw (e .0, e .1) at completes) s
+
+  function-closed : {from to : Control} {g : Frame} {nests : List machine.Held} {table stack₀ : List ℕ} {first floor passed next : ℕ} {stackBefore cellsBefore : List ℕ} (value : Syntax)
+      → Stands from g nests table stack₀ first floor passed l stackBefore cellsBefore → Spans toFunction from to → Valued l n value stackBefore stack cellsBefore cells
+      → n + l .top < first + floor + next → first + floor + next ≤ mostTrees
+      → Stands to (machine.close toFunction mark value g) nests table stack₀ first floor next (madeOne (withCount n l)) stack
+      (putRecord cells n functionSyntax (l .word) (n - l .start + 1))
+  function-closed value s past-function valued fits few = closes-function value valued fits few mark s
+
+  pub function-closes : (closing : ℕ) {r : Level} {cells′ : List ℕ} → closingBy closing ≡ toFunction → (r ≡ madeOne (withCount n l)) × (cells′ ≡ putRecord cells n functionSyntax (l .word) (n - l .start + 1))
+      → ClosesGroup closing mark n l stack cells r stack cells′
+  function-closes closing is e from to g nests table stack₀ first floor passed next value stackBefore cellsBefore s spans valued none fits few =
+      rw (is, e .0, e .1) (function-closed value s (rw is at spans) valued fits few)
+
+-- what the call in between asks for
+pub group-held : {closing mark n : ℕ} {l r : Level} {stack cells cells′ : List ℕ} (kind m : ℕ) → MayClose closing mark n l stack cells
+    → (r ≡ madeOne (withCount n l)) × (cells′ ≡ putRecord cells n kind m (n - l .start + 1)) → Held r stack cells′
+group-held {n = n} kind m may e =
+    rw (e .0, e .1)
+    (held ((carries-made (carries-valued (carried (may .somewhere .stands)) n (may .value) (may .valued) (omega (arith, may .more))) kind m (omega (arith, may .more))) .holds))

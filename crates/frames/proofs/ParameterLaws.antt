@@ -1,0 +1,115 @@
+-- A level inside a parameter's parentheses stays there, and has no value.
+use mathlib.Core.Path.{_≡_, refl}
+use mathlib.Core.Bool.{Bool, true, false, cond}
+use Prim.Native.Nat.{ℕ}
+use native.Mathlib.Omega.{arith}
+use borrow.Author.Tests.{eqb-true}
+use lib.Dec.{eqb}
+use Rattle.grammar.specs.Syntax.{Syntax, nil}
+use Rattle.grammar.specs.Machine.{Frame, Setting, among, inNest, behindStatement, Effect, Closing, toParens, toCall, toObject, toBlock, toCondition, toParameter, toDeclaration, toFunction, Ending, Control, Action}
+use Rattle.controls.specs.Numbers.{closingBy, insideBy}
+use Rattle.controls.specs.Steps.{
+  Due,
+  due-operand,
+  due-value,
+  due-statement,
+  Leads,
+  to-name,
+  to-leaf,
+  to-function,
+  to-declaration,
+  to-return,
+  to-label,
+  to-bare-end,
+  to-dot,
+  to-member,
+  to-assign,
+  to-operator,
+  to-end,
+  to-return-end,
+  to-function-name,
+  to-property,
+  to-value,
+  to-parameter,
+  Spans,
+  past-parens,
+  past-object,
+  past-call,
+  past-condition,
+  past-parameter,
+  past-block,
+  past-declaration,
+  past-function,
+  Ends,
+  ends-statements,
+  ends-text,
+  ends-expression,
+  ends-object,
+  ends-parameter,
+}
+use Rattle.frames.specs.Effects.{ofParameter, IsValue, is-popped}
+
+due-kind : {from : Control} {ending : Ending} {target : Bool} → Due from ending target → false ≡ ofParameter from
+due-kind due-operand = refl
+due-kind due-value = refl
+due-kind due-statement = refl
+
+behind-kind : (setting : Setting) → ofParameter (behindStatement setting) ≡ false
+behind-kind (among scope) = refl
+behind-kind (inNest nest) = refl
+
+pub leads-kind : {effect : Effect} {from to : Control} → Leads effect from to → ofParameter to ≡ ofParameter from
+leads-kind to-name = refl
+leads-kind (to-leaf due) = due-kind due
+leads-kind (to-function due) = due-kind due
+leads-kind to-declaration = refl
+leads-kind to-return = refl
+leads-kind to-label = refl
+leads-kind (to-bare-end {setting = setting}) = behind-kind setting
+leads-kind to-dot = refl
+leads-kind to-member = refl
+leads-kind to-assign = refl
+leads-kind (to-operator tight) = refl
+leads-kind (to-end {setting = setting}) = behind-kind setting
+leads-kind (to-return-end {setting = setting}) = behind-kind setting
+leads-kind to-function-name = refl
+leads-kind to-property = refl
+leads-kind to-value = refl
+leads-kind to-parameter = refl
+
+pub spans-kind : {closing : Closing} {from to : Control} → Spans closing from to → ofParameter to ≡ ofParameter from
+spans-kind (past-parens due) = due-kind due
+spans-kind (past-object due) = due-kind due
+spans-kind past-call = refl
+spans-kind past-condition = refl
+spans-kind past-parameter = refl
+spans-kind (past-block {setting = setting}) = behind-kind setting
+spans-kind past-declaration = refl
+spans-kind past-function = refl
+
+-- where it starts, and its value
+parameter-number : (closing : ℕ) → closingBy closing ≡ toParameter → closing ≡ 4
+unfolding closingBy
+parameter-number closing e = go (eqb closing 0) (eqb closing 1) (eqb closing 2) (eqb closing 3) (eqb closing 4) (eqb closing 5) (eqb closing 6) refl e
+  where
+    go : (a b d f g h i : Bool) → eqb closing 4 ≡ g
+        → cond a toParens (cond b toCall (cond d toObject (cond f toCondition (cond g toParameter (cond h toBlock (cond i toDeclaration toFunction)))))) ≡ toParameter → closing ≡ 4
+    go true b d f g h i x e = cc
+    go false true d f g h i x e = cc
+    go false false true f g h i x e = cc
+    go false false false true g h i x e = cc
+    go false false false false true h i x e = eqb-true closing 4 x
+    go false false false false false true i x e = cc
+    go false false false false false false true x e = cc
+    go false false false false false false false x e = cc
+
+pub parameter-inside : (closing : ℕ) → closingBy closing ≡ toParameter → ofParameter (insideBy closing) ≡ true
+unfolding insideBy
+parameter-inside closing e = rw (parameter-number closing e)
+
+pub parameter-value : {class : ℕ} {c : Control} {action : Action} {g : Frame} {value : Syntax} → Ends class c true action → ofParameter c ≡ true → IsValue action g value → value ≡ nil
+parameter-value ends-statements e is = let z : _≡_ {A = ℕ} 0 1 = cc in absurd (omega arith)
+parameter-value (ends-text t) e is = let z : _≡_ {A = ℕ} 0 1 = cc in absurd (omega arith)
+parameter-value (ends-expression t) e is = let z : _≡_ {A = ℕ} 0 1 = cc in absurd (omega arith)
+parameter-value ends-object e is = let z : _≡_ {A = ℕ} 0 1 = cc in absurd (omega arith)
+parameter-value ends-parameter e is-popped = refl

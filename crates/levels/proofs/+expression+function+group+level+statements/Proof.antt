@@ -1,0 +1,601 @@
+use Prim.Native.Nat.{ℕ, _+_, _-_, _*_, _<_, _≤_}
+use mathlib.Core.Path.{_≡_, refl, sym, _∙_, ap}
+use native.Mathlib.Omega.{arith}
+use borrow.Author.Needs.{needs}
+use lib.ListN.{length}
+use Rattle.controls.specs.Numbers.{controlOf}
+use Rattle.parts.specs.Parts.{part, countOf}
+use Rattle.levels.specs.Runs.{MayRun, Begins}
+use Rattle.levels.proofs.RunLaws.{Underway, starts-underway, ready-at-end, end-settled}
+use Rattle.levels.proofs.StepLaws.{Turn, fails, may-affect, affected, may-enter, entered, class-small, may-open, inner-dies, may-close, closed, may-end, ends, dies, open-any, may-run, fewer-inside, as-inside, begins-inside, statements-start, begins-scope, body-scope, body-inside, block-inside, ran-as}
+use borrow.Fn.Kinds.{In}
+use borrow.Fn.PlainCycle.{Measures, is, falls, and}
+use Rattle.levels.proofs.expression.Reads as expression
+use Rattle.levels.proofs.expression.Kinds as expression-kinds
+use Rattle.levels.proofs.+expression+function+group+level+statements.Lts-expression as expression-lts
+use Rattle.levels.proofs.function.Reads as function
+use Rattle.levels.proofs.function.Kinds as function-kinds
+use Rattle.levels.proofs.+expression+function+group+level+statements.Lts-function as function-lts
+use Rattle.levels.proofs.group.Reads as group
+use Rattle.levels.proofs.group.Kinds as group-kinds
+use Rattle.levels.proofs.+expression+function+group+level+statements.Lts-group as group-lts
+use Rattle.levels.proofs.level.Reads as level
+use Rattle.levels.proofs.level.Kinds as level-kinds
+use Rattle.levels.proofs.+expression+function+group+level+statements.Lts-level as level-lts
+use Rattle.levels.proofs.statements.Reads as statements
+use Rattle.levels.proofs.statements.Kinds as statements-kinds
+use Rattle.levels.proofs.+expression+function+group+level+statements.Lts-statements as statements-lts
+use Rattle.controls.proofs.ends.Reads as ends-reads
+use Rattle.controls.proofs.inside_of.Reads as inside-of-reads
+use Rattle.controls.proofs.row.Reads as row-reads
+use Rattle.controls.proofs.stand.Reads as stand-reads
+use Rattle.frames.proofs.affect.Reads as affect-reads
+use Rattle.frames.proofs.close.Reads as close-reads
+use Rattle.frames.proofs.empty.Reads as empty-reads
+use Rattle.frames.proofs.ended.Reads as ended-reads
+use Rattle.frames.proofs.entered.Reads as entered-reads
+use Rattle.frames.proofs.ready.Reads as ready-reads
+use Rattle.parts.proofs.class_at.Reads as class-at-reads
+use Rattle.parts.proofs.closer_at.Reads as closer-at-reads
+use Rattle.parts.proofs.inside.Reads as inside-reads
+use Rattle.parts.proofs.line_at.Reads as line-at-reads
+use Rattle.parts.proofs.place_at.Reads as place-at-reads
+use Rattle.parts.proofs.size_at.Reads as size-at-reads
+use Rattle.levels.proofs.+expression+function+group+level+statements.{statement}
+use Rattle.levels.proofs.+expression+function+group+level+statements.Tie.{close}
+
+abbrev μ-expression : Measures 4 expression-kinds.ps ℕ
+μ-expression κs a = 8 * countOf (a .1 .0 .now) + 3
+
+abbrev μ-function : Measures 4 function-kinds.ps ℕ
+μ-function κs a = 8 * countOf (a .1 .0 .now) + 4
+
+abbrev μ-group : Measures 4 group-kinds.ps ℕ
+μ-group κs a = 8 * countOf (a .1 .0 .now) + 1
+
+abbrev μ-level : Measures 4 level-kinds.ps ℕ
+μ-level κs a = 8 * countOf (a .1 .0 .now) + 2
+
+abbrev μ-statements : Measures 4 statements-kinds.ps ℕ
+μ-statements κs a = 8 * countOf (a .1 .0 .now) + 3
+
+abbrev expression-at : ℕ → In 4 expression-kinds.ps
+expression-at t =
+    and 4 expression-kinds.ps (is 4 expression-kinds.ps μ-expression t) expression.Pre
+
+abbrev expression-below : ℕ → In 4 expression-kinds.ps
+expression-below t =
+    and 4 expression-kinds.ps (falls 4 expression-kinds.ps _<_ μ-expression t) expression.Pre
+
+abbrev function-at : ℕ → In 4 function-kinds.ps
+function-at t = and 4 function-kinds.ps (is 4 function-kinds.ps μ-function t) function.Pre
+
+abbrev function-below : ℕ → In 4 function-kinds.ps
+function-below t =
+    and 4 function-kinds.ps (falls 4 function-kinds.ps _<_ μ-function t) function.Pre
+
+abbrev group-at : ℕ → In 4 group-kinds.ps
+group-at t = and 4 group-kinds.ps (is 4 group-kinds.ps μ-group t) group.Pre
+
+abbrev group-below : ℕ → In 4 group-kinds.ps
+group-below t = and 4 group-kinds.ps (falls 4 group-kinds.ps _<_ μ-group t) group.Pre
+
+abbrev level-at : ℕ → In 4 level-kinds.ps
+level-at t = and 4 level-kinds.ps (is 4 level-kinds.ps μ-level t) level.Pre
+
+abbrev level-below : ℕ → In 4 level-kinds.ps
+level-below t = and 4 level-kinds.ps (falls 4 level-kinds.ps _<_ μ-level t) level.Pre
+
+abbrev statements-at : ℕ → In 4 statements-kinds.ps
+statements-at t =
+    and 4 statements-kinds.ps (is 4 statements-kinds.ps μ-statements t) statements.Pre
+
+abbrev statements-below : ℕ → In 4 statements-kinds.ps
+statements-below t =
+    and 4 statements-kinds.ps (falls 4 statements-kinds.ps _<_ μ-statements t) statements.Pre
+
+abbrev expression-claims : ℕ → expression-lts.Claims
+expression-claims t = (inside-of-reads.Asked, inside-of-reads.Learnt, level-below t, level.Post)
+
+abbrev function-claims : ℕ → function-lts.Claims
+function-claims t = (statements-below t, statements.Post)
+
+abbrev group-claims : ℕ → group-lts.Claims
+group-claims t = (inside-reads.Asked, inside-reads.Learnt, closer-at-reads.Asked, closer-at-reads.Learnt, statements-below t, statements.Post, function-below t, function.Post, expression-below t, expression.Post)
+
+abbrev level-claims : ℕ → level-lts.Claims
+level-claims t = (empty-reads.Asked, empty-reads.Learnt, class-at-reads.Asked, class-at-reads.Learnt, line-at-reads.Asked, line-at-reads.Learnt, ready-reads.Asked, ready-reads.Learnt, row-reads.Asked, row-reads.Learnt, place-at-reads.Asked, place-at-reads.Learnt, affect-reads.Asked, affect-reads.Learnt, entered-reads.Asked, entered-reads.Learnt, group-below t, group.Post, close-reads.Asked, close-reads.Learnt, size-at-reads.Asked, size-at-reads.Learnt, ends-reads.Asked, ends-reads.Learnt, ended-reads.Asked, ended-reads.Learnt)
+
+abbrev statements-claims : ℕ → statements-lts.Claims
+statements-claims t = (stand-reads.Asked, stand-reads.Learnt, level-below t, level.Post)
+
+-- src/lib.rt:205:9
+expression-inside-of-requires : (t : ℕ) → expression-lts.Need-inside-of-requires (expression-claims t) (expression-at t) expression.Post
+expression-inside-of-requires t c κs = search needs
+
+-- src/lib.rt:206:5
+expression-level-requires : (t : ℕ) → expression-lts.Need-level-requires (expression-claims t) (expression-at t) expression.Post
+expression-level-requires t c κs = (omega (arith, (c .before .before .before .before .before .before .before) .pre .0), ((c .before .before .before .before .before .before .before) .pre .1, begins-inside ((c .before .before .before .before .before .before .before) .args .closing) ((c .before .before .inside-of) .ensures)))
+
+-- src/lib.rt:190:1
+expression-same-length : (t : ℕ) → expression-lts.Need-same-length (expression-claims t) (expression-at t) expression.Post
+expression-same-length t c = search needs
+
+-- src/lib.rt:190:1
+expression-same-length-2 : (t : ℕ) → expression-lts.Need-same-length-2 (expression-claims t) (expression-at t) expression.Post
+expression-same-length-2 t c = search needs
+
+-- src/lib.rt:190:1
+expression-returns : (t : ℕ) → expression-lts.Need-returns (expression-claims t) (expression-at t) expression.Post
+expression-returns t c = ran-as ((c .before .before .before .before .level) .ensures) ((c .before .before .before .before .before .before .before .inside-of) .ensures)
+
+-- src/lib.rt:235:5
+function-statements-requires : (t : ℕ) → function-lts.Need-statements-requires (function-claims t) (function-at t) function.Post
+function-statements-requires t c κs = search needs
+
+-- src/lib.rt:221:1
+function-same-length : (t : ℕ) → function-lts.Need-same-length (function-claims t) (function-at t) function.Post
+function-same-length t c = search needs
+
+-- src/lib.rt:221:1
+function-same-length-2 : (t : ℕ) → function-lts.Need-same-length-2 (function-claims t) (function-at t) function.Post
+function-same-length-2 t c = search needs
+
+-- src/lib.rt:221:1
+function-returns :
+    (t : ℕ) →
+    function-lts.Need-returns (statements-below t, statements.Post) (function-at t) function.Post
+function-returns t c = ran-as ((c .before .before .before .before .statements) .ensures) body-scope
+
+-- src/lib.rt:112:9
+group-inside-requires : (t : ℕ) → group-lts.Need-inside-requires (group-claims t) (group-at t) group.Post
+group-inside-requires t c κs = let f = (c .before .before .before .before) .pre .1 .fine .at ((c .before .before .before .before) .args .at) ((c .before .before .before .before) .pre .1 .here) in (f .some, f .fits)
+
+-- src/lib.rt:113:9
+group-closer-at-requires : (t : ℕ) → group-lts.Need-closer-at-requires (group-claims t) (group-at t) group.Post
+group-closer-at-requires t c κs = search needs
+
+-- src/lib.rt:118:13
+group-add-statements : (t : ℕ) → group-lts.Need-add-statements (group-claims t) (group-at t) group.Post
+group-add-statements t c = search needs
+
+-- src/lib.rt:118:13
+group-add-statements-2 : (t : ℕ) → group-lts.Need-add-statements-2 (group-claims t) (group-at t) group.Post
+group-add-statements-2 t c = search needs
+
+-- src/lib.rt:115:31
+group-statements-requires : (t : ℕ) → group-lts.Need-statements-requires (group-claims t) (group-at t) group.Post
+group-statements-requires t c κs = (omega (arith, (c .before .before .before .before .before .before .before .before .before) .pre .0, fewer-inside ((c .before .before .before .before .before .before .before .before .before) .pre .1) ((c .before .before .before .before .inside) .ensures) ((c .before .before .before .closer-at) .ensures)), (may-run ((c .before .before .before .before .before .before .before .before .before) .pre .1) ((c .before .before .before .before .inside) .ensures) ((c .before .before .before .closer-at) .ensures), omega arith))
+
+-- src/lib.rt:130:13
+group-add-function : (t : ℕ) → group-lts.Need-add-function (group-claims t) (group-at t) group.Post
+group-add-function t c = search needs
+
+-- src/lib.rt:130:13
+group-add-function-2 : (t : ℕ) → group-lts.Need-add-function-2 (group-claims t) (group-at t) group.Post
+group-add-function-2 t c = search needs
+
+-- src/lib.rt:127:61
+group-function-requires : (t : ℕ) → group-lts.Need-function-requires (group-claims t) (group-at t) group.Post
+group-function-requires t c κs = (omega (arith, (c .before .before .before .before .before .before .before .before .before .before .before) .pre .0, fewer-inside ((c .before .before .before .before .before .before .before .before .before .before .before) .pre .1) ((c .before .before .before .before .before .before .inside) .ensures) ((c .before .before .before .before .before .closer-at) .ensures)), may-run ((c .before .before .before .before .before .before .before .before .before .before .before) .pre .1) ((c .before .before .before .before .before .before .inside) .ensures) ((c .before .before .before .before .before .closer-at) .ensures))
+
+-- src/lib.rt:141:13
+group-add-expression : (t : ℕ) → group-lts.Need-add-expression (group-claims t) (group-at t) group.Post
+group-add-expression t c = search needs
+
+-- src/lib.rt:141:13
+group-add-expression-2 : (t : ℕ) → group-lts.Need-add-expression-2 (group-claims t) (group-at t) group.Post
+group-add-expression-2 t c = search needs
+
+-- src/lib.rt:138:14
+group-expression-requires : (t : ℕ) → group-lts.Need-expression-requires (group-claims t) (group-at t) group.Post
+group-expression-requires t c κs = (omega (arith, (c .before .before .before .before .before .before .before .before .before .before) .pre .0, fewer-inside ((c .before .before .before .before .before .before .before .before .before .before) .pre .1) ((c .before .before .before .before .before .inside) .ensures) ((c .before .before .before .before .closer-at) .ensures)), may-run ((c .before .before .before .before .before .before .before .before .before .before) .pre .1) ((c .before .before .before .before .before .inside) .ensures) ((c .before .before .before .before .closer-at) .ensures))
+
+-- src/lib.rt:97:1
+group-same-length : (t : ℕ) → group-lts.Need-same-length (group-claims t) (group-at t) group.Post
+group-same-length t c = search needs
+
+-- src/lib.rt:97:1
+group-same-length-2 : (t : ℕ) → group-lts.Need-same-length-2 (group-claims t) (group-at t) group.Post
+group-same-length-2 t c = search needs
+
+-- src/lib.rt:97:1
+group-returns : (t : ℕ) → group-lts.Need-returns (group-claims t) (group-at t) group.Post
+group-returns t c = as-inside ((c .before .before .before .before .before .before .before .before .before .before .before .before .before .before) .pre .1) ((c .before .before .before .before .before .before .before .before .before .inside) .ensures) ((c .before .before .before .before .before .before .before .before .closer-at) .ensures) ((c .before .before .before .before .statements) .ensures) (block-inside ((c .before .before .before .before .before .before .before .match) .keys1))
+
+-- src/lib.rt:97:1
+group-same-length-3 : (t : ℕ) → group-lts.Need-same-length-3 (group-claims t) (group-at t) group.Post
+group-same-length-3 t c = search needs
+
+-- src/lib.rt:97:1
+group-same-length-4 : (t : ℕ) → group-lts.Need-same-length-4 (group-claims t) (group-at t) group.Post
+group-same-length-4 t c = search needs
+
+-- src/lib.rt:97:1
+group-returns-2 : (t : ℕ) → group-lts.Need-returns-2 (group-claims t) (group-at t) group.Post
+group-returns-2 t c = as-inside ((c .before .before .before .before .before .before .before .before .before .before .before .before .before .before .before .before) .pre .1) ((c .before .before .before .before .before .before .before .before .before .before .before .inside) .ensures) ((c .before .before .before .before .before .before .before .before .before .before .closer-at) .ensures) ((c .before .before .before .before .function) .ensures) (body-inside ((c .before .before .before .before .before .before .before .before .before .before .before .before .before .before .before .before) .args .closing) ((c .before .before .before .before .before .before .before .before .before .match) .rest .1) ((c .before .before .before .before .before .before .before .before .if1) .left) ((c .before .before .before .before .before .before .before .if2) .taken))
+
+-- src/lib.rt:97:1
+group-same-length-5 : (t : ℕ) → group-lts.Need-same-length-5 (group-claims t) (group-at t) group.Post
+group-same-length-5 t c = search needs
+
+-- src/lib.rt:97:1
+group-same-length-6 : (t : ℕ) → group-lts.Need-same-length-6 (group-claims t) (group-at t) group.Post
+group-same-length-6 t c = search needs
+
+-- src/lib.rt:97:1
+group-returns-3 : (t : ℕ) → group-lts.Need-returns-3 (group-claims t) (group-at t) group.Post
+group-returns-3 t c = as-inside ((c .before .before .before .before .before .before .before .before .before .before .before .before .before .before .before) .pre .1) ((c .before .before .before .before .before .before .before .before .before .before .inside) .ensures) ((c .before .before .before .before .before .before .before .before .before .closer-at) .ensures) ((c .before .before .before .before .expression) .ensures) refl
+
+abbrev level-Inv-loop : level-lts.InvT-loop
+level-Inv-loop text trees base close closer waiting₀ top syntax₀ count number control₀ l₀ at₀ waiting syntax control l at =
+    (length syntax ≡ length syntax₀) × (length waiting ≡ length waiting₀)
+    × Underway (part text trees base close) (controlOf control₀) count top syntax₀ waiting₀ (controlOf control) l at syntax waiting
+
+abbrev level-μ-loop : level-lts.MeasureT-loop
+level-μ-loop text trees base close closer waiting₀ top syntax₀ count number control₀ l₀ at₀ waiting syntax control l at = number - at
+
+-- a turn of the loop, up to its step
+turn : (t : ℕ) (c : level-lts.After-row (level-claims t) (level-at t) level.Post level-Inv-loop level-μ-loop) → Turn
+    (part (c .before .before .before .before .before .before .before .before .before .before .before .before .before .before .before .before .before .args .text .now) (c .before .before .before .before .before .before .before .before .before .before .before .before .before .before .before .before .before .args .trees .now) (c .before .before .before .before .before .before .before .before .before .before .before .before .before .before .before .before .before .args .base) (c .before .before .before .before .before .before .before .before .before .before .before .before .before .before .before .before .before .args .close))
+    (controlOf (c .before .before .before .before .before .before .before .before .before .before .before .before .before .before .before .before .before .args .from)) (c .before .before .before .before .before .before .before .before .before .before .before .before .before .before .before .before .before .args .count) (c .before .before .before .before .before .before .before .before .before .before .before .before .before .before .before .before .before .args .top) (c .before .before .before .before .before .before .before .before .before .before .before .before .before .before .before .before .before .args .syntax .now) (c .before .before .before .before .before .before .before .before .before .before .before .before .before .before .before .before .before .args .waiting .now)
+    (c .before .before .before .before .before .before .before .before .before .before .before .loop .control) (c .before .before .before .before .before .before .before .before .before .before .before .loop .l) (c .before .before .before .before .before .before .before .before .before .before .before .loop .at) (c .before .before .before .before .before .before .before .before .before .before .before .loop .syntax) (c .before .before .before .before .before .before .before .before .before .before .before .loop .waiting)
+    (c .before .before .before .before .before .before .before .before .before .class-at .result) (c .before .before .before .before .before .before .before .before .line-at .result) (c .before .before .before .before .before .ready .result) (c .before .before .before .before .before .ready .last .1 .1 .1 .1 .0) (c .row .result)
+turn t c = record {
+  fine = c .before .before .before .before .before .before .before .before .before .before .before .before .before .before .before .before .before .pre .1 .0 .fine;
+  underway = c .before .before .before .before .before .before .before .before .before .before .before .loop .inv .2;
+  here = c .before .before .before .before .before .before .before .before .before .before .loop-test .taken;
+  is = c .before .before .before .before .before .before .before .before .before .class-at .ensures;
+  lined = c .before .before .before .before .before .before .before .before .line-at .ensures;
+  readies = c .before .before .before .before .before .ready .ensures;
+  steps = c .row .ensures;
+}
+
+-- src/lib.rt:38:9
+level-empty-requires : (t : ℕ) → level-lts.Need-empty-requires (level-claims t) (level-at t) level.Post level-Inv-loop level-μ-loop
+level-empty-requires t c κs = search needs
+
+-- src/lib.rt:40:5
+level-loop-holds : (t : ℕ) → level-lts.Need-loop-holds (level-claims t) (level-at t) level.Post level-Inv-loop level-μ-loop
+level-loop-holds t c = (refl, refl, starts-underway ((c .before .before .before .before .before) .pre .1 .0) ((c .before .before .before .before .before) .pre .1 .1) ((c .empty) .ensures .0) ((c .empty) .ensures .1) ((c .empty) .ensures .2) ((c .empty) .ensures .3) ((c .empty) .ensures .4))
+
+-- src/lib.rt:41:13
+level-class-at-requires : (t : ℕ) → level-lts.Need-class-at-requires (level-claims t) (level-at t) level.Post level-Inv-loop level-μ-loop
+level-class-at-requires t c κs = search needs
+
+-- src/lib.rt:42:13
+level-line-at-requires : (t : ℕ) → level-lts.Need-line-at-requires (level-claims t) (level-at t) level.Post level-Inv-loop level-μ-loop
+level-line-at-requires t c κs = search needs
+
+-- src/lib.rt:43:13
+level-ready-requires : (t : ℕ) → level-lts.Need-ready-requires (level-claims t) (level-at t) level.Post level-Inv-loop level-μ-loop
+level-ready-requires t c κs = search needs
+
+-- src/lib.rt:46:13
+level-row-requires : (t : ℕ) → level-lts.Need-row-requires (level-claims t) (level-at t) level.Post level-Inv-loop level-μ-loop
+level-row-requires t c κs = search needs
+
+-- src/lib.rt:49:36
+level-enum-told : (t : ℕ) → level-lts.Need-enum-told (level-claims t) (level-at t) level.Post level-Inv-loop level-μ-loop
+level-enum-told t c = search needs
+
+-- src/lib.rt:49:36
+level-place-at-requires : (t : ℕ) → level-lts.Need-place-at-requires (level-claims t) (level-at t) level.Post level-Inv-loop level-μ-loop
+level-place-at-requires t c κs = search needs
+
+-- src/lib.rt:49:17
+level-same-length : (t : ℕ) → level-lts.Need-same-length (level-claims t) (level-at t) level.Post level-Inv-loop level-μ-loop
+level-same-length t c = search needs
+
+-- src/lib.rt:49:17
+level-same-length-2 : (t : ℕ) → level-lts.Need-same-length-2 (level-claims t) (level-at t) level.Post level-Inv-loop level-μ-loop
+level-same-length-2 t c = search needs
+
+-- src/lib.rt:49:17
+level-returns : (t : ℕ) → level-lts.Need-returns (level-claims t) (level-at t) level.Post level-Inv-loop level-μ-loop
+level-returns t c = fails (turn t (c .before .before .before)) ((c .before .enum-told) .given .1) ((c .place-at) .ensures)
+
+-- src/lib.rt:51:24
+level-enum-known-step : (t : ℕ) → level-lts.Need-enum-known-step (level-claims t) (level-at t) level.Post level-Inv-loop level-μ-loop
+level-enum-known-step t c = search needs
+
+-- src/lib.rt:52:50
+level-add-affect : (t : ℕ) → level-lts.Need-add-affect (level-claims t) (level-at t) level.Post level-Inv-loop level-μ-loop
+level-add-affect t c = omega (arith, (c .before .before .before .before .before .before .before .before .before .before .before .before .before .loop-test) .taken, (c .before .before .before .before .before .before .before .before .before .before .before .before .before .before .before .before .before .before .before .before) .pre .1 .0 .fine .few)
+
+-- src/lib.rt:52:17
+level-affect-requires : (t : ℕ) → level-lts.Need-affect-requires (level-claims t) (level-at t) level.Post level-Inv-loop level-μ-loop
+level-affect-requires t c κs = may-affect (turn t (c .before .before .before .before .before)) ((c .before .before .before .step) .given .1)
+
+-- src/lib.rt:54:22
+level-add-at : (t : ℕ) → level-lts.Need-add-at (level-claims t) (level-at t) level.Post level-Inv-loop level-μ-loop
+level-add-at t c = omega (arith, (c .before .before .before .before .before .before .before .before .before .before .before .before .before .before .before .before .before .before .before .before .loop-test) .taken, (c .before .before .before .before .before .before .before .before .before .before .before .before .before .before .before .before .before .before .before .before .before .before .before .before .before .before .before) .pre .1 .0 .fine .few)
+
+-- src/lib.rt:40:5
+level-loop-less : (t : ℕ) → level-lts.Need-loop-less (level-claims t) (level-at t) level.Post level-Inv-loop level-μ-loop
+level-loop-less t c = search needs
+
+-- src/lib.rt:40:5
+level-loop-again : (t : ℕ) → level-lts.Need-loop-again (level-claims t) (level-at t) level.Post level-Inv-loop level-μ-loop
+level-loop-again t c = ((c .before .syntax2) .given ∙ (c .before .before .before .before .before .before .before .before .before .before .before .before .before .before .syntax) .given ∙ (c .before .before .before .before .before .before .before .before .before .before .before .before .before .before .before .before .before .before .before .before .before .loop) .inv .0, (c .before .before .before .waiting) .given ∙ (c .before .before .before .before .before .before .before .before .before .before .before .before .before .before .before .before .before .before .before .before .before .loop) .inv .1, affected (turn t (c .before .before .before .before .before .before .before .before .before .before)) ((c .before .before .before .before .before .before .before .before .step) .given .1) ((c .before .before .before .before .affect) .ensures) ((c .before .before .before .waiting) .given))
+
+-- src/lib.rt:56:25
+level-enum-known-step-2 : (t : ℕ) → level-lts.Need-enum-known-step-2 (level-claims t) (level-at t) level.Post level-Inv-loop level-μ-loop
+level-enum-known-step-2 t c = search needs
+
+-- src/lib.rt:57:53
+level-add-entered : (t : ℕ) → level-lts.Need-add-entered (level-claims t) (level-at t) level.Post level-Inv-loop level-μ-loop
+level-add-entered t c = omega (arith, (c .before .before .before .before .before .before .before .before .before .before .before .before .before .loop-test) .taken, (c .before .before .before .before .before .before .before .before .before .before .before .before .before .before .before .before .before .before .before .before) .pre .1 .0 .fine .few)
+
+-- src/lib.rt:57:17
+level-entered-requires : (t : ℕ) → level-lts.Need-entered-requires (level-claims t) (level-at t) level.Post level-Inv-loop level-μ-loop
+level-entered-requires t c κs = may-enter (turn t (c .before .before .before .before .before)) ((c .before .before .before .step2) .given .1)
+
+-- src/lib.rt:59:22
+level-add-at-2 : (t : ℕ) → level-lts.Need-add-at-2 (level-claims t) (level-at t) level.Post level-Inv-loop level-μ-loop
+level-add-at-2 t c = omega (arith, (c .before .before .before .before .before .before .before .before .before .before .before .before .before .before .before .before .before .before .loop-test) .taken, (c .before .before .before .before .before .before .before .before .before .before .before .before .before .before .before .before .before .before .before .before .before .before .before .before .before) .pre .1 .0 .fine .few)
+
+-- src/lib.rt:40:5
+level-loop-less-2 : (t : ℕ) → level-lts.Need-loop-less-2 (level-claims t) (level-at t) level.Post level-Inv-loop level-μ-loop
+level-loop-less-2 t c = search needs
+
+-- src/lib.rt:40:5
+level-loop-again-2 : (t : ℕ) → level-lts.Need-loop-again-2 (level-claims t) (level-at t) level.Post level-Inv-loop level-μ-loop
+level-loop-again-2 t c = ((c .before .before .before .before .before .before .before .before .before .before .before .before .syntax) .given ∙ (c .before .before .before .before .before .before .before .before .before .before .before .before .before .before .before .before .before .before .before .loop) .inv .0, (c .before .waiting2) .given ∙ (c .before .before .before .before .before .before .before .before .before .before .before .before .before .before .before .before .before .before .before .loop) .inv .1, entered (turn t (c .before .before .before .before .before .before .before .before)) ((c .before .before .before .before .before .before .step2) .given .1) ((c .before .before .entered) .ensures) ((c .before .waiting2) .given))
+
+-- src/lib.rt:61:24
+level-enum-known-step-3 : (t : ℕ) → level-lts.Need-enum-known-step-3 (level-claims t) (level-at t) level.Post level-Inv-loop level-μ-loop
+level-enum-known-step-3 t c = search needs
+
+-- src/lib.rt:67:21
+level-add-group : (t : ℕ) → level-lts.Need-add-group (level-claims t) (level-at t) level.Post level-Inv-loop level-μ-loop
+level-add-group t c = omega (arith, class-small (turn t (c .before .before .before)) ((c .before .step3) .given .1))
+
+-- src/lib.rt:62:21
+level-group-requires : (t : ℕ) → level-lts.Need-group-requires (level-claims t) (level-at t) level.Post level-Inv-loop level-μ-loop
+level-group-requires t c κs = (omega (arith, (c .before .before .before .before .before .before .before .before .before .before .before .before .before .before .before .before .before .before .before .before .before .before) .pre .0), open-any (may-open (turn t (c .before .before .before .before .before)) ((c .before .before .before .step3) .given .1) refl refl))
+
+-- src/lib.rt:75:33
+level-enum-known-inner : (t : ℕ) → level-lts.Need-enum-known-inner (level-claims t) (level-at t) level.Post level-Inv-loop level-μ-loop
+level-enum-known-inner t c = search needs
+
+-- src/lib.rt:76:25
+level-same-length-3 : (t : ℕ) → level-lts.Need-same-length-3 (level-claims t) (level-at t) level.Post level-Inv-loop level-μ-loop
+level-same-length-3 t c = (c .before .before .before .before .before .before .waiting3) .given ∙ (c .before .before .before .before .before .before .before .before .before .before .before .before .before .before .before .before .before .before .before .before .before .before .before .before .loop) .inv .1
+
+-- src/lib.rt:76:25
+level-same-length-4 : (t : ℕ) → level-lts.Need-same-length-4 (level-claims t) (level-at t) level.Post level-Inv-loop level-μ-loop
+level-same-length-4 t c = (c .before .before .before .before .syntax3) .given ∙ (c .before .before .before .before .before .before .before .before .before .before .before .before .before .before .before .before .before .syntax) .given ∙ (c .before .before .before .before .before .before .before .before .before .before .before .before .before .before .before .before .before .before .before .before .before .before .before .before .loop) .inv .0
+
+-- src/lib.rt:76:25
+level-returns-2 : (t : ℕ) → level-lts.Need-returns-2 (level-claims t) (level-at t) level.Post level-Inv-loop level-μ-loop
+level-returns-2 t c = inner-dies (turn t (c .before .before .before .before .before .before .before .before .before .before .before .before .before)) ((c .before .before .before .before .before .before .before .before .before .before .before .step3) .given .1) ((c .before .before .before .before .before .before .before .group) .ensures) ((c .before .inner) .given .1)
+
+-- src/lib.rt:78:34
+level-enum-known-inner-2 : (t : ℕ) → level-lts.Need-enum-known-inner-2 (level-claims t) (level-at t) level.Post level-Inv-loop level-μ-loop
+level-enum-known-inner-2 t c = search needs
+
+-- src/lib.rt:79:51
+level-add-close : (t : ℕ) → level-lts.Need-add-close (level-claims t) (level-at t) level.Post level-Inv-loop level-μ-loop
+level-add-close t c = omega (arith, (c .before .before .before .before .before .before .before .before .before .before .before .before .before .before .before .before .before .before .before .before .before .before .before .loop-test) .taken, (c .before .before .before .before .before .before .before .before .before .before .before .before .before .before .before .before .before .before .before .before .before .before .before .before .before .before .before .before .before .before) .pre .1 .0 .fine .few)
+
+-- src/lib.rt:79:25
+level-close-requires : (t : ℕ) → level-lts.Need-close-requires (level-claims t) (level-at t) level.Post level-Inv-loop level-μ-loop
+level-close-requires t c κs = may-close (turn t (c .before .before .before .before .before .before .before .before .before .before .before .before .before .before .before)) ((c .before .before .before .before .before .before .before .before .before .before .before .before .before .step3) .given .1) ((c .before .before .before .before .before .before .before .before .before .group) .ensures) ((c .before .before .before .inner2) .given .1)
+
+-- src/lib.rt:81:35
+level-size-at-requires : (t : ℕ) → level-lts.Need-size-at-requires (level-claims t) (level-at t) level.Post level-Inv-loop level-μ-loop
+level-size-at-requires t c κs = search needs
+
+-- src/lib.rt:81:30
+level-add-at-3 : (t : ℕ) → level-lts.Need-add-at-3 (level-claims t) (level-at t) level.Post level-Inv-loop level-μ-loop
+level-add-at-3 t c = omega (arith, (c .size-at) .ensures, (c .before .before .before .before .before .before .before .before .before .before .before .before .before .before .before .before .before .before .before .before .before .before .before .before .before .before .before .before .before .before .before .before .before .before .before .before .before .before) .pre .1 .0 .fine .at ((c .before .before .before .before .before .before .before .before .before .before .before .before .before .before .before .before .before .before .before .before .before .before .before .before .before .before .before .before .before .before .before .before .loop) .at) ((c .before .before .before .before .before .before .before .before .before .before .before .before .before .before .before .before .before .before .before .before .before .before .before .before .before .before .before .before .before .before .before .loop-test) .taken) .fits, (c .before .before .before .before .before .before .before .before .before .before .before .before .before .before .before .before .before .before .before .before .before .before .before .before .before .before .before .before .before .before .before .before .before .before .before .before .before .before) .pre .1 .0 .fine .few)
+
+-- src/lib.rt:40:5
+level-loop-less-3 : (t : ℕ) → level-lts.Need-loop-less-3 (level-claims t) (level-at t) level.Post level-Inv-loop level-μ-loop
+level-loop-less-3 t c = omega (arith, (c .before .before .before .before .before .before .before .before .before .before .before .before .before .before .before .before .before .before .before .before .before .before .before .before .before .before .before .before .before .before .before .loop-test) .taken, (c .size-at) .ensures, (c .before .before .before .before .before .before .before .before .before .before .before .before .before .before .before .before .before .before .before .before .before .before .before .before .before .before .before .before .before .before .before .before .before .before .before .before .before .before) .pre .1 .0 .fine .at ((c .before .before .before .before .before .before .before .before .before .before .before .before .before .before .before .before .before .before .before .before .before .before .before .before .before .before .before .before .before .before .before .before .loop) .at) ((c .before .before .before .before .before .before .before .before .before .before .before .before .before .before .before .before .before .before .before .before .before .before .before .before .before .before .before .before .before .before .before .loop-test) .taken) .some)
+
+-- src/lib.rt:40:5
+level-loop-again-3 : (t : ℕ) → level-lts.Need-loop-again-3 (level-claims t) (level-at t) level.Post level-Inv-loop level-μ-loop
+level-loop-again-3 t c = ((c .before .before .syntax4) .given ∙ (c .before .before .before .before .before .before .before .before .before .before .before .before .syntax3) .given ∙ (c .before .before .before .before .before .before .before .before .before .before .before .before .before .before .before .before .before .before .before .before .before .before .before .before .before .syntax) .given ∙ (c .before .before .before .before .before .before .before .before .before .before .before .before .before .before .before .before .before .before .before .before .before .before .before .before .before .before .before .before .before .before .before .before .loop) .inv .0, (c .before .before .before .before .waiting4) .given ∙ (c .before .before .before .before .before .before .before .before .before .before .before .before .before .before .waiting3) .given ∙ (c .before .before .before .before .before .before .before .before .before .before .before .before .before .before .before .before .before .before .before .before .before .before .before .before .before .before .before .before .before .before .before .before .loop) .inv .1, rw ((c .size-at) .ensures) (closed (turn t (c .before .before .before .before .before .before .before .before .before .before .before .before .before .before .before .before .before .before .before .before .before)) ((c .before .before .before .before .before .before .before .before .before .before .before .before .before .before .before .before .before .before .before .step3) .given .1) ((c .before .before .before .before .before .before .before .before .before .before .before .before .before .before .before .group) .ensures) ((c .before .before .before .before .before .before .before .before .before .inner2) .given .1) ((c .before .before .before .before .before .close) .ensures) ((c .before .before .before .before .waiting4) .given)))
+
+-- src/lib.rt:87:9
+level-ready-requires-2 : (t : ℕ) → level-lts.Need-ready-requires-2 (level-claims t) (level-at t) level.Post level-Inv-loop level-μ-loop
+level-ready-requires-2 t c κs = search needs
+
+-- src/lib.rt:89:8
+level-ends-requires : (t : ℕ) → level-lts.Need-ends-requires (level-claims t) (level-at t) level.Post level-Inv-loop level-μ-loop
+level-ends-requires t c κs = search needs
+
+-- src/lib.rt:91:29
+level-ended-requires : (t : ℕ) → level-lts.Need-ended-requires (level-claims t) (level-at t) level.Post level-Inv-loop level-μ-loop
+level-ended-requires t c κs = may-end (ready-at-end ((c .before .before .before .before .before .before .before .before .before .before .before .before .loop) .inv .2) ((c .before .before .before .before .before .before .before .before .before .before .before .loop-test) .left) ((c .before .before .before .before .before .before .before .before .before .before .before .before .before .before .before .before .before .before) .args .closer) ((c .before .before .before .before .before .before .before .before .ready2) .ensures))
+
+-- src/lib.rt:91:9
+level-same-length-5 : (t : ℕ) → level-lts.Need-same-length-5 (level-claims t) (level-at t) level.Post level-Inv-loop level-μ-loop
+level-same-length-5 t c = search needs
+
+-- src/lib.rt:91:9
+level-same-length-6 : (t : ℕ) → level-lts.Need-same-length-6 (level-claims t) (level-at t) level.Post level-Inv-loop level-μ-loop
+level-same-length-6 t c = search needs
+
+-- src/lib.rt:91:9
+level-returns-3 : (t : ℕ) → level-lts.Need-returns-3 (level-claims t) (level-at t) level.Post level-Inv-loop level-μ-loop
+level-returns-3 t c = ends (ready-at-end ((c .before .before .before .before .before .before .before .before .before .before .before .before .before .before .before .loop) .inv .2) ((c .before .before .before .before .before .before .before .before .before .before .before .before .before .before .loop-test) .left) ((c .before .before .before .before .before .before .before .before .before .before .before .before .before .before .before .before .before .before .before .before .before) .args .closer) ((c .before .before .before .before .before .before .before .before .before .before .before .ready2) .ensures)) ((c .before .before .before .before .before .before .before .ends) .ensures (end-settled ((c .before .before .before .before .before .before .before .before .before .before .before .before .before .before .before .loop) .inv .2) ((c .before .before .before .before .before .before .before .before .before .before .before .before .before .before .before .before .before .before .before .before .before) .args .closer) ((c .before .before .before .before .before .before .before .before .before .before .before .ready2) .ensures)) ((c .before .before .before .before .before .before .before .before .before .before .before .before .before .before .before .before .before .before .before .before .before) .pre .1 .0 .closes)) ((c .before .before .before .before .before .before .if1) .taken) ((c .before .before .ended) .ensures)
+
+-- src/lib.rt:21:1
+level-same-length-7 : (t : ℕ) → level-lts.Need-same-length-7 (level-claims t) (level-at t) level.Post level-Inv-loop level-μ-loop
+level-same-length-7 t c = search needs
+
+-- src/lib.rt:21:1
+level-same-length-8 : (t : ℕ) → level-lts.Need-same-length-8 (level-claims t) (level-at t) level.Post level-Inv-loop level-μ-loop
+level-same-length-8 t c = search needs
+
+-- src/lib.rt:21:1
+level-returns-4 : (t : ℕ) → level-lts.Need-returns-4 (level-claims t) (level-at t) level.Post level-Inv-loop level-μ-loop
+level-returns-4 t c = dies (ready-at-end ((c .before .before .before .before .before .before .before .before .before .loop) .inv .2) ((c .before .before .before .before .before .before .before .before .loop-test) .left) ((c .before .before .before .before .before .before .before .before .before .before .before .before .before .before .before) .args .closer) ((c .before .before .before .before .before .ready2) .ensures)) ((c .before .ends) .ensures (end-settled ((c .before .before .before .before .before .before .before .before .before .loop) .inv .2) ((c .before .before .before .before .before .before .before .before .before .before .before .before .before .before .before) .args .closer) ((c .before .before .before .before .before .ready2) .ensures)) ((c .before .before .before .before .before .before .before .before .before .before .before .before .before .before .before) .pre .1 .0 .closes)) ((c .if1) .left)
+
+-- src/lib.rt:169:9
+statements-stand-requires : (t : ℕ) → statements-lts.Need-stand-requires (statements-claims t) (statements-at t) statements.Post
+statements-stand-requires t c κs = search needs
+
+-- src/lib.rt:175:5
+statements-level-requires : (t : ℕ) → statements-lts.Need-level-requires (statements-claims t) (statements-at t) statements.Post
+statements-level-requires t c κs = (omega (arith, (c .before .before .before .before .before .before .before) .pre .0), ((c .before .before .before .before .before .before .before) .pre .1 .0, begins-scope ((c .before .before .before .before .before .before .before) .args .scope) ((c .before .before .before .before .before .before .before) .pre .1 .1) ((c .before .before .stand) .ensures)))
+
+-- src/lib.rt:154:1
+statements-same-length : (t : ℕ) → statements-lts.Need-same-length (statements-claims t) (statements-at t) statements.Post
+statements-same-length t c = search needs
+
+-- src/lib.rt:154:1
+statements-same-length-2 : (t : ℕ) → statements-lts.Need-same-length-2 (statements-claims t) (statements-at t) statements.Post
+statements-same-length-2 t c = search needs
+
+-- src/lib.rt:154:1
+statements-returns : (t : ℕ) → statements-lts.Need-returns (statements-claims t) (statements-at t) statements.Post
+statements-returns t c = ran-as ((c .before .before .before .before .level) .ensures) (statements-start ((c .before .before .before .before .before .before .before .before .before .before .before .before) .args .scope) ((c .before .before .before .before .before .before .before .stand) .ensures))
+
+pub +expression+function+group+level+statements-spec : {M : Type 1} → statement M
++expression+function+group+level+statements-spec =
+    close μ-expression μ-function μ-group μ-level μ-statements (λ t. expression-lts.spec (
+      inside-of-reads.Asked,
+      inside-of-reads.Learnt,
+      level-below t,
+      level.Post,
+    )
+    (expression-at t)
+    expression.Post
+    (expression-inside-of-requires t)
+    (expression-level-requires t)
+    (expression-same-length t)
+    (expression-same-length-2 t)
+    (expression-returns t))
+    (λ t. function-lts.spec
+    (statements-below t, statements.Post)
+    (function-at t)
+    function.Post
+    (function-statements-requires t)
+    (function-same-length t)
+    (function-same-length-2 t)
+    (function-returns t))
+    (λ t. group-lts.spec (
+      inside-reads.Asked,
+      inside-reads.Learnt,
+      closer-at-reads.Asked,
+      closer-at-reads.Learnt,
+      statements-below t,
+      statements.Post,
+      function-below t,
+      function.Post,
+      expression-below t,
+      expression.Post,
+    )
+    (group-at t)
+    group.Post
+    (group-inside-requires t)
+    (group-closer-at-requires t)
+    (group-add-statements t)
+    (group-add-statements-2 t)
+    (group-statements-requires t)
+    (group-add-function t)
+    (group-add-function-2 t)
+    (group-function-requires t)
+    (group-add-expression t)
+    (group-add-expression-2 t)
+    (group-expression-requires t)
+    (group-same-length t)
+    (group-same-length-2 t)
+    (group-returns t)
+    (group-same-length-3 t)
+    (group-same-length-4 t)
+    (group-returns-2 t)
+    (group-same-length-5 t)
+    (group-same-length-6 t)
+    (group-returns-3 t))
+    (λ t. level-lts.spec (
+      empty-reads.Asked,
+      empty-reads.Learnt,
+      class-at-reads.Asked,
+      class-at-reads.Learnt,
+      line-at-reads.Asked,
+      line-at-reads.Learnt,
+      ready-reads.Asked,
+      ready-reads.Learnt,
+      row-reads.Asked,
+      row-reads.Learnt,
+      place-at-reads.Asked,
+      place-at-reads.Learnt,
+      affect-reads.Asked,
+      affect-reads.Learnt,
+      entered-reads.Asked,
+      entered-reads.Learnt,
+      group-below t,
+      group.Post,
+      close-reads.Asked,
+      close-reads.Learnt,
+      size-at-reads.Asked,
+      size-at-reads.Learnt,
+      ends-reads.Asked,
+      ends-reads.Learnt,
+      ended-reads.Asked,
+      ended-reads.Learnt,
+    )
+    (level-at t)
+    level.Post
+    level-Inv-loop
+    level-μ-loop
+    (level-empty-requires t)
+    (level-loop-holds t)
+    (level-class-at-requires t)
+    (level-line-at-requires t)
+    (level-ready-requires t)
+    (level-row-requires t)
+    (level-enum-told t)
+    (level-place-at-requires t)
+    (level-same-length t)
+    (level-same-length-2 t)
+    (level-returns t)
+    (level-enum-known-step t)
+    (level-add-affect t)
+    (level-affect-requires t)
+    (level-add-at t)
+    (level-loop-less t)
+    (level-loop-again t)
+    (level-enum-known-step-2 t)
+    (level-add-entered t)
+    (level-entered-requires t)
+    (level-add-at-2 t)
+    (level-loop-less-2 t)
+    (level-loop-again-2 t)
+    (level-enum-known-step-3 t)
+    (level-add-group t)
+    (level-group-requires t)
+    (level-enum-known-inner t)
+    (level-same-length-3 t)
+    (level-same-length-4 t)
+    (level-returns-2 t)
+    (level-enum-known-inner-2 t)
+    (level-add-close t)
+    (level-close-requires t)
+    (level-size-at-requires t)
+    (level-add-at-3 t)
+    (level-loop-less-3 t)
+    (level-loop-again-3 t)
+    (level-ready-requires-2 t)
+    (level-ends-requires t)
+    (level-ended-requires t)
+    (level-same-length-5 t)
+    (level-same-length-6 t)
+    (level-returns-3 t)
+    (level-same-length-7 t)
+    (level-same-length-8 t)
+    (level-returns-4 t))
+    λ t. statements-lts.spec
+    (stand-reads.Asked, stand-reads.Learnt, level-below t, level.Post)
+    (statements-at t)
+    statements.Post
+    (statements-stand-requires t)
+    (statements-level-requires t)
+    (statements-same-length t)
+    (statements-same-length-2 t)
+    (statements-returns t)

@@ -1,0 +1,373 @@
+-- The run of a level, step by step, by the actions of the machine's table and not by the forms of the grammar.
+use mathlib.Core.Path.{_≡_, refl, sym, _∙_, ap}
+use mathlib.Core.Bool.{Bool, true, false, cond, not, _&&_, _||_}
+use mathlib.Core.List.{List, [], _∷_, _++_}
+use Prim.Native.Nat.{ℕ, _+_, _*_, _≤_, _<_}
+use native.Mathlib.Omega.{arith}
+use borrow.Author.Tests.{lt-ltb, eqb-true, ne-eqb}
+use lib.Dec.{T, eqb, ltb, ltb→lt}
+use lib.ListN.{length}
+use Rattle.tables.specs.Records.{mostTrees}
+use Rattle.grammar.specs.Tokens.{Token, token, Spot, openParen, openBrace}
+use Rattle.grammar.specs.Syntax.{Syntax, nil, size}
+use Rattle.grammar.specs.Grammar.{body, block}
+use Rattle.grammar.specs.Machine.{
+  endOfText,
+  Frame,
+  frame,
+  empty,
+  heldWord,
+  Effect,
+  affect,
+  Closing,
+  toStatement,
+  close,
+  Control,
+  ifFirst,
+  Action,
+  fail,
+  goto,
+  push,
+  enter,
+  pop,
+  finish,
+  Value,
+  byStatement,
+  byReturn,
+  byParen,
+  byBrace,
+  look,
+  row,
+  Held,
+  held,
+  nested,
+  dead,
+  live,
+  act,
+  run,
+}
+use Rattle.grammar.proofs.Ran.{stays-dead}
+use Rattle.controls.specs.Numbers.{controlOf}
+use Rattle.controls.specs.Steps.{isOpener, isEnd, isSingle, Settled, Ends, ends-statements, ends-text, ends-expression, ends-object, ends-parameter}
+use Rattle.controls.specs.declared.Control as code
+use Rattle.waiting.specs.Written.{putSyntax}
+use Rattle.waiting.specs.Waiting.{width, bare}
+use Rattle.waiting.specs.declared.Level.{Level}
+use Rattle.frames.specs.Stands.{Shaped, written, HeldAt, owed, Stands, no-operators, no-beginnings, below-none}
+use Rattle.frames.specs.Effects.{Readies, Readied, EndsLevel, IsValue, is-popped, is-program, ofParameter}
+use Rattle.frames.proofs.ParameterLaws.{parameter-value}
+use Rattle.frames.specs.declared.Standing.{Standing}
+use Rattle.parts.specs.Parts.{Part, inside, countOf, classAt, sizeAt, placeAt, lineAt, tokensAt, spotAt, closerSpot, Fine}
+use Rattle.parts.proofs.PartLaws.{element-then, group-then, end-then, class-within}
+use Rattle.levels.specs.Runs.{closerToken, closedState, Through, Dies, MayRun, Begins, begins-statements, begins-expression, begins-object, begins-parameter}
+
+-- where the run of a level is, before a record: what stands around it is behind the nests that are open on it
+pub record Underway (p : Part) (from : Control) (count top : ℕ) (table before : List ℕ) (c : Control) (l : Level) (at : ℕ) (cells stack : List ℕ) : Type 0 where
+  pub g : Frame
+  pub nests : List Held
+  pub runs : (around : List Held) (u : List Token)
+      → run (live from empty around) (tokensAt p 0 ++ u) ≡ run (live c g (nests ++ around)) (tokensAt p at ++ u)
+  pub stands : Stands c g nests table before count top at l stack cells
+  pub kind : ofParameter c ≡ ofParameter from
+  pub low : count + top ≤ p .base
+  pub deep : (p .base + countOf (p .cells)) * width ≤ length stack
+  pub within : at ≤ countOf (p .cells)
+
+-- at a level's start nothing stands on it
+record Fresh (c : Control) : Type 0 where
+  shaped : Shaped c nil [] [] nil []
+  written-none : written c nil ≡ nil
+  held-none : (word : ℕ) → HeldAt c nil word
+  owes-none : owed c ≡ 0
+
+fresh : {c : Control} → Begins c → Fresh c
+fresh begins-statements = record { shaped = (refl, refl, refl, refl); written-none = refl; held-none = λ word. tt; owes-none = refl }
+fresh begins-expression = record { shaped = (refl, (refl, refl, refl)); written-none = refl; held-none = λ word. tt; owes-none = refl }
+fresh begins-object = record { shaped = (refl, refl, refl, refl, refl); written-none = refl; held-none = λ word. tt; owes-none = refl }
+fresh begins-parameter = record { shaped = (refl, refl, refl, refl, refl); written-none = refl; held-none = λ word. tt; owes-none = refl }
+
+pub starts-underway : {p : Part} {c : Control} {closer count top : ℕ} {table stack : List ℕ} {l : Level} → MayRun p closer count top stack → Begins c
+    → l .count ≡ count → l .top ≡ top → l .floor ≡ top → l .start ≡ count → l .word ≡ 0 → Underway p c count top table stack c l 0 table stack
+unfolding putSyntax
+starts-underway {l = l} may begins counted topped floored started worded =
+    let f = fresh begins in
+    record {
+      g = empty;
+      nests = [];
+      runs = λ around u. refl;
+      stands = record {
+        done = nil;
+        starts = [];
+        waiting = [];
+        operand = nil;
+        is = refl;
+        shaped = f .shaped;
+        operators = no-operators;
+        beginnings = no-beginnings;
+        base = nil;
+        tail = [];
+        below = below-none;
+        holds = record {
+          stacked = rw (topped, floored) bare;
+          starts = omega arith;
+          counts = rw (f .written-none) (omega arith);
+          written = rw (f .written-none);
+          few = omega (arith, may .low, may .fine .few);
+        };
+        held = f .held-none (l .word);
+        worded = omega arith;
+        floored = floored;
+        kept = record { same-length = refl; same = λ k h. refl };
+        passes = omega (arith, f .owes-none);
+        few = omega (arith, may .low, may .fine .few);
+      };
+      kind = refl;
+      low = may .low;
+      deep = may .deep;
+      within = omega arith;
+    }
+
+-- one token, by its entry in the table
+step-run : (c : Control) (g : Frame) (around : List Held) (class : ℕ) (spot : Spot) (ts : List Token) {action : Action}
+    → look class (row c (spot .line)) ≡ action → run (live c g around) (token class spot ∷ ts) ≡ run (act action class spot g around) ts
+step-run c g around class spot ts e = ap (λ (a : Action). run (act a class spot g around) ts) e
+
+single-known : (class : ℕ) → T (isSingle class) → T (ltb 0 class && not (isOpener class))
+single-known class t = go (ltb 0 class) (isOpener class) (isEnd class) t
+  where
+    go : (a b e : Bool) → T (a && (not b && not e)) → T (a && not b)
+    go true false e t = tt
+    go true true e t = absurd t
+    go false b e t = absurd t
+
+opener-known : (class : ℕ) → T (isOpener class) → class + 1 ≡ endOfText → ⊥
+opener-known class t = go (eqb class openParen) (eqb class openBrace) refl refl t
+  where
+    go : (a b : Bool) → eqb class openParen ≡ a → eqb class openBrace ≡ b → T (a || b) → class + 1 ≡ endOfText → ⊥
+    go true b x y t e = absurd (omega (arith, eqb-true class openParen x))
+    go false true x y t e = absurd (omega (arith, eqb-true class openBrace y))
+    go false false x y t e = absurd t
+
+-- at a record of a class
+module _ {p : Part} (fine : Fine p) {from : Control} {count top : ℕ} {table before : List ℕ} {c : Control} {l : Level} {at : ℕ} {cells stack : List ℕ}
+    (h : Underway p from count top table before c l at cells stack) (class : ℕ) (is : classAt (p .text) (p .cells) at ≡ class) (here : at < countOf (p .cells)) where
+  -- the tokens from there on start with the record's
+  first-token : (u : List Token) → (rest : List Token) × (tokensAt p at ++ u ≡ token class (spotAt p at) ∷ rest)
+  first-token u = go (isOpener class) refl
+    where
+      known : 1 ≤ class
+      known = rw is at (fine .at at here .known)
+
+      go : (b : Bool) → isOpener class ≡ b → (rest : List Token) × (tokensAt p at ++ u ≡ token class (spotAt p at) ∷ rest)
+      go true e = (_, group-then fine at class is u (rw e tt))
+      go false e = (_, element-then fine at class is u (rw (lt-ltb 0 class known, e) tt))
+
+  -- the machine stands elsewhere before the token, and takes it the same way
+  module _ {control : code.Control} {s : Standing} {cells′ : List ℕ} (at-control : controlOf control ≡ c) (readies : Readies control class l stack cells s cells′) where
+    readied : Readied control class (h .g) (h .nests) table before count top at s stack cells′
+    readied = readies (h .g) (h .nests) table before count top at (rw at-control (h .stands))
+
+    pub ready-settled : Settled (s .control) class
+    ready-settled = readied .settled
+
+    pub ready-underway : Underway p from count top table before (controlOf (s .control)) (s .level) at cells′ stack
+    ready-underway =
+        let r = readied in
+        record {
+          g = r .frame-then;
+          nests = r .nests-then;
+          runs = λ around u.
+              let t = first-token u in
+              h .runs around u
+              ∙ ap (λ (ts : List Token). run (live c (h .g) (h .nests ++ around)) ts) (t .1)
+              ∙ ap (λ (k : Control). run (live k (h .g) (h .nests ++ around)) (token class (spotAt p at) ∷ t .0)) (sym at-control)
+              ∙ r .takes around (spotAt p at) (t .0)
+              ∙ ap (λ (ts : List Token). run (live (controlOf (s .control)) (r .frame-then) (r .nests-then ++ around)) ts) (sym (t .1));
+          stands = r .stands;
+          kind = r .kind ∙ ap ofParameter at-control ∙ h .kind;
+          low = h .low;
+          deep = h .deep;
+          within = h .within;
+        }
+
+  -- a token that goes on
+  singly : T (isSingle class) → (u : List Token) → tokensAt p at ++ u ≡ token class (spotAt p at) ∷ (tokensAt p (at + 1) ++ u)
+  singly single u = element-then fine at class is u (single-known class single)
+
+  module _ (single : T (isSingle class)) {l′ : Level} {cells′ stack′ : List ℕ} where
+    pub goes-on : {to : Control} {effect : Effect} → look class (row c (lineAt (p .cells) at)) ≡ goto to effect
+        → Stands to (affect effect (p .base + at) (h .g)) (h .nests) table before count top (at + 1) l′ stack′ cells′
+        → ofParameter to ≡ ofParameter c → length stack′ ≡ length stack
+        → Underway p from count top table before to l′ (at + 1) cells′ stack′
+    goes-on {effect = effect} entry s kind long = record {
+      g = affect effect (p .base + at) (h .g);
+      nests = h .nests;
+      runs = λ around u.
+          h .runs around u
+          ∙ ap (λ (ts : List Token). run (live c (h .g) (h .nests ++ around)) ts) (singly single u)
+          ∙ step-run c (h .g) (h .nests ++ around) class (spotAt p at) (tokensAt p (at + 1) ++ u) entry;
+      stands = s;
+      kind = kind ∙ h .kind;
+      low = h .low;
+      deep = omega (arith, h .deep);
+      within = omega arith;
+    }
+
+    pub goes-in : {behind : Control} → look class (row c (lineAt (p .cells) at)) ≡ enter ifFirst behind toStatement
+        → Stands ifFirst (frame nil [] [] (heldWord (p .base + at))) (nested behind toStatement (p .base + at) (h .g) ∷ h .nests) table before count top (at + 1) l′ stack′ cells′
+        → ofParameter ifFirst ≡ ofParameter c → length stack′ ≡ length stack
+        → Underway p from count top table before ifFirst l′ (at + 1) cells′ stack′
+    goes-in {behind = behind} entry s kind long = record {
+      g = frame nil [] [] (heldWord (p .base + at));
+      nests = nested behind toStatement (p .base + at) (h .g) ∷ h .nests;
+      runs = λ around u.
+          h .runs around u
+          ∙ ap (λ (ts : List Token). run (live c (h .g) (h .nests ++ around)) ts) (singly single u)
+          ∙ step-run c (h .g) (h .nests ++ around) class (spotAt p at) (tokensAt p (at + 1) ++ u) entry;
+      stands = s;
+      kind = kind ∙ h .kind;
+      low = h .low;
+      deep = omega (arith, h .deep);
+      within = omega arith;
+    }
+
+  -- a group: its inside is run, and its value taken to the level around it
+  module _ (opens : T (isOpener class)) {within to : Control} {closing : Closing} (entry : look class (row c (lineAt (p .cells) at)) ≡ push within to closing) where
+    grouped : (u : List Token) → tokensAt p at ++ u
+        ≡ token class (spotAt p at) ∷ (tokensAt (inside p at) 0 ++ (token (class + 1) (closerSpot p at) ∷ (tokensAt p (at + sizeAt (p .cells) at) ++ u)))
+    grouped u = group-then fine at class is u opens
+
+    abbrev rest : List Token → List Token
+    rest u = tokensAt p (at + sizeAt (p .cells) at) ++ u
+
+    opened : (around : List Held) (u : List Token)
+        → run (live from empty around) (tokensAt p 0 ++ u)
+        ≡ run (live within empty (held to closing (p .base + at) (h .g) ∷ (h .nests ++ around))) (tokensAt (inside p at) 0 ++ (token (class + 1) (closerSpot p at) ∷ rest u))
+    opened around u =
+        h .runs around u
+        ∙ ap (λ (ts : List Token). run (live c (h .g) (h .nests ++ around)) ts) (grouped u)
+        ∙ step-run c (h .g) (h .nests ++ around) class (spotAt p at) (tokensAt (inside p at) 0 ++ (token (class + 1) (closerSpot p at) ∷ rest u)) entry
+
+    pub goes-behind : {l′ : Level} {n : ℕ} {cells₁ stack₁ cells′ stack′ : List ℕ}
+        → (inner : Through (class + 1) (inside p at) within (l .count) (l .top) cells stack n cells₁ stack₁)
+        → Stands to (close closing (p .base + at) (inner .value) (h .g)) (h .nests) table before count top (at + sizeAt (p .cells) at) l′ stack′ cells′
+        → ofParameter to ≡ ofParameter c → length stack′ ≡ length stack
+        → Underway p from count top table before to l′ (at + sizeAt (p .cells) at) cells′ stack′
+    goes-behind inner s kind long = record {
+      g = close closing (p .base + at) (inner .value) (h .g);
+      nests = h .nests;
+      runs = λ around u.
+          opened around u
+          ∙ inner .runs (held to closing (p .base + at) (h .g) ∷ (h .nests ++ around)) (p .base + at + sizeAt (p .cells) at) (rest u)
+          ∙ rw (ne-eqb (class + 1) endOfText (opener-known class opens));
+      stands = s;
+      kind = kind ∙ h .kind;
+      low = h .low;
+      deep = omega (arith, h .deep);
+      within = fine .at at here .fits;
+    }
+
+    -- it dies inside the group
+    pub dies-inside : {place : ℕ}
+        → ((around : List Held) (mark : ℕ) (u : List Token) → run (live within empty around) (tokensAt (inside p at) 0 ++ (closerToken (class + 1) (inside p at) mark ∷ u)) ≡ dead place)
+        → (around : List Held) (u : List Token) → run (live from empty around) (tokensAt p 0 ++ u) ≡ dead place
+    dies-inside dies around u =
+        opened around u ∙ dies (held to closing (p .base + at) (h .g) ∷ (h .nests ++ around)) (p .base + at + sizeAt (p .cells) at) (rest u)
+
+  -- or at the record
+  pub dies-here : look class (row c (lineAt (p .cells) at)) ≡ fail
+      → (around : List Held) (u : List Token) → run (live from empty around) (tokensAt p 0 ++ u) ≡ dead (placeAt (p .cells) (p .close) at)
+  dies-here entry around u =
+      let t = first-token u in
+      h .runs around u
+      ∙ ap (λ (ts : List Token). run (live c (h .g) (h .nests ++ around)) ts) (t .1)
+      ∙ step-run c (h .g) (h .nests ++ around) class (spotAt p at) (t .0) entry
+      ∙ stays-dead (placeAt (p .cells) (p .close) at) (t .0)
+
+-- behind the last record, before the closer or the text's end
+pub record AtEnd (closer : ℕ) (p : Part) (from : Control) (count top : ℕ) (table before : List ℕ) (c : Control) (l : Level) (cells stack : List ℕ) : Type 0 where
+  pub g : Frame
+  pub nests : List Held
+  pub passed : ℕ
+  pub runs : (around : List Held) (mark : ℕ) (u : List Token)
+      → run (live from empty around) (tokensAt p 0 ++ (closerToken closer p mark ∷ u)) ≡ run (live c g (nests ++ around)) (closerToken closer p mark ∷ u)
+  pub stands : Stands c g nests table before count top passed l stack cells
+  pub kind : ofParameter c ≡ ofParameter from
+  pub few : passed ≤ countOf (p .cells)
+
+pub ready-at-end : {p : Part} {from : Control} {count top : ℕ} {table before : List ℕ} {control : code.Control} {l : Level} {at : ℕ} {cells stack : List ℕ}
+    → Underway p from count top table before (controlOf control) l at cells stack → countOf (p .cells) ≤ at
+    → (closer : ℕ) {s : Standing} {cells′ : List ℕ} → Readies control closer l stack cells s cells′
+    → AtEnd closer p from count top table before (controlOf (s .control)) (s .level) cells′ stack
+ready-at-end {p = p} {count = count} {top = top} {table = table} {before = before} {control = control} {at = at} h past closer readies =
+    let r = readies (h .g) (h .nests) table before count top at (h .stands) in
+    record {
+      g = r .frame-then;
+      nests = r .nests-then;
+      passed = at;
+      runs = λ around mark u.
+          h .runs around (closerToken closer p mark ∷ u)
+          ∙ ap (λ (ts : List Token). run (live (controlOf control) (h .g) (h .nests ++ around)) ts) (end-then p at past (closerToken closer p mark ∷ u))
+          ∙ r .takes around (record { line = false; mark = mark; first = p .close }) u;
+      stands = r .stands;
+      kind = r .kind ∙ h .kind;
+      few = h .within;
+    }
+
+pub end-settled : {p : Part} {from : Control} {count top : ℕ} {table before : List ℕ} {control : code.Control} {l : Level} {at : ℕ} {cells stack : List ℕ}
+    → Underway p from count top table before (controlOf control) l at cells stack → (closer : ℕ) {s : Standing} {cells′ : List ℕ}
+    → Readies control closer l stack cells s cells′ → Settled (s .control) closer
+end-settled {count = count} {top = top} {table = table} {before = before} {at = at} h closer readies =
+    readies (h .g) (h .nests) table before count top at (h .stands) .settled
+
+no-finish : {A : Type 0} {value : Value} → finish ≡ pop value → A
+no-finish e = absurd (let z : _≡_ {A = ℕ} 0 1 = cc in omega arith)
+
+no-fail : {A : Type 0} {value : Value} → fail ≡ pop value → A
+no-fail e = absurd (let z : _≡_ {A = ℕ} 0 1 = cc in omega arith)
+
+-- a level that pops does not stand at the text's end
+never-text : {c : Control} {class : ℕ} {value : Value} → Ends class c true (pop value) → look class (row c false) ≡ pop value → class ≡ endOfText → ⊥
+never-text (ends-statements {scope = body}) e q = no-finish (rw q at e)
+never-text (ends-statements {scope = block}) e q = no-fail (rw q at e)
+never-text (ends-expression {ending = byStatement setting} t) e q = absurd t
+never-text (ends-expression {ending = byReturn setting} t) e q = absurd t
+never-text (ends-expression {ending = byParen} {target = true} t) e q = no-fail (rw q at e)
+never-text (ends-expression {ending = byParen} {target = false} t) e q = no-fail (rw q at e)
+never-text (ends-expression {ending = byBrace} {target = true} t) e q = no-fail (rw q at e)
+never-text (ends-expression {ending = byBrace} {target = false} t) e q = no-fail (rw q at e)
+never-text ends-object e q = no-fail (rw q at e)
+never-text ends-parameter e q = no-fail (rw q at e)
+
+-- with its value the state behind it is reached
+closes : {c : Control} (class place : ℕ) (around : List Held) (mark : ℕ) (u : List Token) {action : Action} {g : Frame} {nests : List Held} {value : Syntax}
+    → nests ≡ [] → IsValue action g value → Ends class c true action → look class (row c false) ≡ action
+    → run (act action class (record { line = false; mark = mark; first = place }) g (nests ++ around)) u ≡ run (closedState class place value around) u
+closes class place around mark u none is-popped ends entry = rw (none, ne-eqb class endOfText (never-text ends entry))
+closes class place around mark u none is-program (ends-text e) entry = rw (none, e)
+
+module _ {closer : ℕ} {p : Part} {from : Control} {count top : ℕ} {table before : List ℕ} {c : Control} {l : Level} {cells stack : List ℕ}
+    (h : AtEnd closer p from count top table before c l cells stack) where
+  at-closer : (around : List Held) (mark : ℕ) (u : List Token) {action : Action} → look closer (row c false) ≡ action
+      → run (live from empty around) (tokensAt p 0 ++ (closerToken closer p mark ∷ u))
+      ≡ run (act action closer (record { line = false; mark = mark; first = p .close }) (h .g) (h .nests ++ around)) u
+  at-closer around mark u e =
+      h .runs around mark u ∙ step-run c (h .g) (h .nests ++ around) closer (record { line = false; mark = mark; first = p .close }) u e
+
+  -- it ends there with its value
+  pub through : {action : Action} {n : ℕ} {cells′ : List ℕ} → Ends closer c true action → look closer (row c false) ≡ action
+      → EndsLevel l stack cells n cells′ → Through closer p from count top table before n cells′ stack
+  through {action = action} {n = n} {cells′ = cells′} ends entry finishes =
+      let e = finishes closer c action (h .g) (h .nests) table before count top (h .passed) (h .stands) ends in
+      record {
+        value = e .value;
+        runs = λ around mark u. at-closer around mark u entry ∙ closes closer (p .close) around mark u (e .none) (e .value-is) ends entry;
+        count-is = e .count-is;
+        cells-are = e .cells-are;
+        kept = h .stands .kept;
+        passes = omega (arith, e .passes, h .few);
+        plain = λ t. parameter-value ends (h .kind ∙ t) (e .value-is);
+      }
+
+  pub dies-at-end : look closer (row c false) ≡ fail → Dies closer p from (p .close)
+  dies-at-end entry around mark u = at-closer around mark u entry ∙ stays-dead (p .close) u

@@ -1,0 +1,350 @@
+-- What each way through the loop of a level comes to, by what the code's step means.
+use mathlib.Core.Path.{_≡_, refl, sym, _∙_, ap, subst}
+use mathlib.Core.Bool.{Bool, true, false, cond, not, _||_}
+use mathlib.Core.List.{List}
+use Prim.Native.Nat.{ℕ, zero, suc, _+_, _-_, _*_, _≤_, _<_}
+use native.Mathlib.Omega.{arith}
+use borrow.Author.Tests.{eqb-true, eqb-false}
+use lib.Dec.{T, eqb}
+use lib.ListN.{length}
+use Rattle.tables.specs.Records.{mostTrees}
+use Rattle.grammar.specs.Tokens.{openParen, openBrace}
+use Rattle.grammar.specs.Grammar.{body}
+use Rattle.grammar.specs.Machine.{among, behindStatement, toStatement, Control, statementDue, ifFirst, Action, fail, goto, push, enter, look, row}
+use Rattle.controls.specs.Numbers.{settingBy, controlBy, controlOf, effectBy, closingBy, insideBy}
+use Rattle.controls.specs.Steps.{isOpener, isEnd, isSingle, Leads, Spans, Settled, Means, means-end, means-fail, means-goto, means-push, means-enter, Ends, goes-on}
+use Rattle.controls.specs.declared.Control as code
+use Rattle.controls.specs.declared.Step.{Step}
+use Rattle.controls.specs.declared.Step.the-variants.{Fail, Goto, Push, Enter}
+use Rattle.waiting.specs.Waiting.{width, Held}
+use Rattle.waiting.specs.declared.Level.{Level}
+use Rattle.frames.specs.Effects.{StandsSomewhere, Readies, MayAffect, Affects, MayEnter, Enters, Valued, MayClose, ClosesGroup, EndsLevel, ofParameter}
+use Rattle.frames.specs.declared.Standing.{Standing}
+use Rattle.frames.proofs.ParameterLaws.{leads-kind, spans-kind, parameter-inside}
+use Rattle.parts.specs.Parts.{Part, part, inside, countOf, classAt, sizeAt, placeAt, closerAt, lineAt, contentOf, Fine}
+use Rattle.parts.proofs.PartLaws.{inside-fine, inside-count, never-ends}
+use Rattle.levels.specs.Runs.{Begins, begins-statements, begins-expression, begins-object, begins-parameter, Through, Ran, ran-through, ran-dead, MayRun, MayOpen}
+use Rattle.levels.specs.declared.Parsed.{Parsed}
+use Rattle.levels.specs.declared.Parsed.the-variants.{Done, Bad}
+use Rattle.levels.proofs.RunLaws as runs
+use Rattle.levels.proofs.RunLaws.{Underway, AtEnd, through, dies-at-end}
+
+clash : {A : Type 0} (b : Bool) → T b → T (not b) → A
+clash true t s = absurd s
+clash false t s = absurd t
+
+-- the action that a step means
+fail-entry : {c : Control} {class : ℕ} {action : Action} → T (not (isEnd class)) → Means c class Fail action → action ≡ fail
+fail-entry {class = class} no-end (means-end t) = clash (isEnd class) t no-end
+fail-entry no-end means-fail = refl
+
+record GotoEntry (c : Control) (class : ℕ) (to : Control) (effect : ℕ) (action : Action) : Type 0 where
+  entry : action ≡ goto to (effectBy effect class)
+  single : T (isSingle class)
+  leads : Leads (effectBy effect class) c to
+
+goto-entry : {c : Control} {class effect : ℕ} {to : code.Control} {action : Action} → Means c class (Goto to effect) action
+    → GotoEntry c class (controlOf to) effect action
+goto-entry (means-goto t l) = record { entry = refl; single = t; leads = l }
+
+record PushEntry (c : Control) (class : ℕ) (to : Control) (closing : ℕ) (action : Action) : Type 0 where
+  entry : action ≡ push (insideBy closing) to (closingBy closing)
+  opens : T (isOpener class)
+  spans : Spans (closingBy closing) c to
+
+push-entry : {c : Control} {class closing : ℕ} {to : code.Control} {action : Action} → Means c class (Push to closing) action
+    → PushEntry c class (controlOf to) closing action
+push-entry (means-push t s) = record { entry = refl; opens = t; spans = s }
+
+record EnterEntry (c : Control) (class : ℕ) (to : Control) (number : ℕ) (action : Action) : Type 0 where
+  must : Bool
+  entry : action ≡ enter ifFirst (behindStatement (settingBy number)) toStatement
+  single : T (isSingle class)
+  small : number ≤ 2
+  there : c ≡ statementDue must (settingBy number)
+  inside : to ≡ ifFirst
+
+enter-entry : {c : Control} {class number : ℕ} {to : code.Control} {action : Action} → Means c class (Enter to number) action
+    → EnterEntry c class (controlOf to) number action
+enter-entry (means-enter t n e i) = record { must = _; entry = refl; single = t; small = n; there = e; inside = i }
+
+-- the class behind an opener's is a closer's
+opener-is : (class : ℕ) → T (isOpener class) → (class ≤ openBrace) × T (isEnd (class + 1))
+opener-is class t = go (eqb class openParen) (eqb class openBrace) refl refl t
+  where
+    go : (a b : Bool) → eqb class openParen ≡ a → eqb class openBrace ≡ b → T (a || b) → (class ≤ openBrace) × T (isEnd (class + 1))
+    go true b x y t = let e = eqb-true class openParen x in (omega arith, rw e tt)
+    go false true x y t = let e = eqb-true class openBrace y in (omega arith, rw e tt)
+    go false false x y t = absurd t
+
+ran : {q : Part} {c : Control} {class count top n : ℕ} {a b cells stack : List ℕ} → Ran class q c count top a b (Done n) cells stack
+    → Through class q c count top a b n cells stack
+ran (ran-through t) = t
+
+-- a turn of the loop up to its step: the level is under way before a record, it is readied for the record's token, and the step is that of
+-- the table
+pub record Turn (p : Part) (from : Control) (count top : ℕ) (table before : List ℕ) (control : code.Control) (first : Level) (at : ℕ) (old stack : List ℕ)
+    (class : ℕ) (line : Bool) (s : Standing) (cells : List ℕ) (step : Step) : Type 0 where
+  pub fine : Fine p
+  pub underway : Underway p from count top table before (controlOf control) first at old stack
+  pub here : at < countOf (p .cells)
+  pub is : class ≡ classAt (p .text) (p .cells) at
+  pub lined : line ≡ lineAt (p .cells) at
+  pub readies : Readies control class first stack old s cells
+  pub steps : Settled (s .control) class → Means (controlOf (s .control)) class step (look class (row (controlOf (s .control)) line))
+
+module _ {p : Part} {from : Control} {count top : ℕ} {table before : List ℕ} {control : code.Control} {first : Level} {at : ℕ} {old stack : List ℕ}
+    {class : ℕ} {line : Bool} {s : Standing} {cells : List ℕ} {step : Step}
+    (turn : Turn p from count top table before control first at old stack class line s cells step) where
+  abbrev fine : Fine p
+  fine = turn .fine
+
+  abbrev here : at < countOf (p .cells)
+  here = turn .here
+
+  abbrev is : class ≡ classAt (p .text) (p .cells) at
+  is = turn .is
+
+  abbrev c : Control
+  c = controlOf (s .control)
+
+  abbrev l : Level
+  l = s .level
+
+  h : Underway p from count top table before c l at cells stack
+  h = runs.ready-underway fine (turn .underway) class (sym is) here refl (turn .readies)
+
+  means : Means c class step (look class (row c line))
+  means = turn .steps (runs.ready-settled fine (turn .underway) class (sym is) here refl (turn .readies))
+
+  entry-at : {action : Action} → look class (row c line) ≡ action → look class (row c (lineAt (p .cells) at)) ≡ action
+  entry-at e = rw (turn .lined) at e
+
+  means-as : {s : Step} → step ≡ s → Means c class s (look class (row c line))
+  means-as e = subst (λ (s : Step). Means c class s (look class (row c line))) e means
+
+  abbrev somewhere : StandsSomewhere c l stack cells
+  somewhere = record { g = h .g; nests = h .nests; table = table; stack₀ = before; first = count; floor = top; passed = at; stands = h .stands }
+
+  room : (l .top + 1) * width ≤ length stack
+  room = omega (arith, h .deep, h .low, h .stands .passes)
+
+  below-most : count + top + at < mostTrees
+  below-most = omega (arith, h .low, fine .few)
+
+  -- it dies at the record
+  pub fails : {closer place : ℕ} {cells′ stack′ : List ℕ} → step ≡ Fail → place ≡ placeAt (p .cells) (p .close) at
+      → Ran closer p from count top table before (Bad place) cells′ stack′
+  fails e z =
+      let entry = fail-entry (rw is (never-ends (p .text) (p .cells) at)) (means-as e) in
+      rw z (ran-dead λ around mark u. runs.dies-here fine h class (sym is) here (entry-at entry) around _)
+
+  -- it goes on
+  module _ {to : code.Control} {effect : ℕ} (e : step ≡ Goto to effect) where
+    goes : GotoEntry c class (controlOf to) effect (look class (row c line))
+    goes = goto-entry (means-as e)
+
+    pub may-affect : MayAffect effect class (p .base + at) l stack cells
+    may-affect = record {
+      from = c;
+      to = controlOf to;
+      leads = goes .leads;
+      somewhere = somewhere;
+      room = room;
+      more = below-most;
+      marked = omega (arith, fine .few);
+    }
+
+    pub affected : {l′ : Level} {cells′ stack′ : List ℕ} → Affects effect class (p .base + at) l stack cells l′ stack′ cells′ → length stack′ ≡ length stack
+        → Underway p from count top table before (controlOf to) l′ (at + 1) cells′ stack′
+    affected affects long =
+        runs.goes-on fine h class (sym is) here (goes .single) (entry-at (goes .entry))
+        (affects c (controlOf to) (h .g) (h .nests) table before count top at (h .stands) (goes .leads) below-most) (leads-kind (goes .leads)) long
+
+  -- it enters a nest
+  module _ {to : code.Control} {number : ℕ} (e : step ≡ Enter to number) where
+    enters : EnterEntry c class (controlOf to) number (look class (row c line))
+    enters = enter-entry (means-as e)
+
+    pub may-enter : MayEnter number l stack cells
+    may-enter = record { must = enters .must; somewhere = rw (enters .there) at somewhere; room = room; small = omega (arith, enters .small) }
+
+    pub entered : {l′ : Level} {stack′ : List ℕ} → Enters number (p .base + at) l stack cells l′ stack′ → length stack′ ≡ length stack
+        → Underway p from count top table before (controlOf to) l′ (at + 1) cells stack′
+    entered {l′ = l′} {stack′ = stack′} opens long =
+        rw (enters .inside)
+        (runs.goes-in fine h class (sym is) here (enters .single) (entry-at (enters .entry))
+        (opens (enters .must) (h .g) (h .nests) table before count top at
+        (rw (enters .there) at (h .stands)) below-most (omega (arith, fine .few))) (sym (ap ofParameter (enters .there))) long)
+
+  -- it opens a group
+  module _ {to : code.Control} {closing : ℕ} (e : step ≡ Push to closing) where
+    pushes : PushEntry c class (controlOf to) closing (look class (row c line))
+    pushes = push-entry (means-as e)
+
+    pub class-small : class ≤ openBrace
+    class-small = opener-is class (pushes .opens) .0
+
+    pub may-open : {n m : ℕ} → n ≡ l .count → m ≡ l .top → MayOpen p at (class + 1) n m stack
+    may-open a b = record {
+      fine = fine;
+      here = here;
+      low = omega (arith, h .low, h .stands .passes);
+      deep = h .deep;
+      closes = opener-is class (pushes .opens) .1;
+    }
+
+    inner-dead : {closer place : ℕ} {cells₁ stack₁ cells′ stack′ : List ℕ}
+        → Ran (class + 1) (inside p at) (insideBy closing) (l .count) (l .top) cells stack (Bad place) cells₁ stack₁
+        → Ran closer p from count top table before (Bad place) cells′ stack′
+    inner-dead (ran-dead dies) = ran-dead λ around mark u. runs.dies-inside fine h class (sym is) here (pushes .opens) (entry-at (pushes .entry)) dies around _
+
+    pub inner-dies : {r : Parsed} {closer place : ℕ} {cells₁ stack₁ cells′ stack′ : List ℕ}
+        → Ran (class + 1) (inside p at) (insideBy closing) (l .count) (l .top) cells stack r cells₁ stack₁ → r ≡ Bad place
+        → Ran closer p from count top table before (Bad place) cells′ stack′
+    inner-dies {cells₁ = cells₁} {stack₁ = stack₁} inner q =
+        inner-dead (subst (λ (x : Parsed). Ran (class + 1) (inside p at) (insideBy closing) (l .count) (l .top) cells stack x cells₁ stack₁) q inner)
+
+    module _ {r : Parsed} {n : ℕ} {cells₁ stack₁ : List ℕ} (inside-ran : Ran (class + 1) (inside p at) (insideBy closing) (l .count) (l .top) cells stack r cells₁ stack₁) (q : r ≡ Done n) where
+      inner : Ran (class + 1) (inside p at) (insideBy closing) (l .count) (l .top) cells stack (Done n) cells₁ stack₁
+      inner = subst (λ (x : Parsed). Ran (class + 1) (inside p at) (insideBy closing) (l .count) (l .top) cells stack x cells₁ stack₁) q inside-ran
+
+      valued : Valued l n (ran inner .value) stack stack₁ cells cells₁
+      valued = let t = ran inner in record { count-is = t .count-is; cells-are = t .cells-are; kept = t .kept }
+
+      size-is : countOf (inside p at .cells) ≡ sizeAt (p .cells) at - 1
+      size-is = inside-count fine at here
+
+      fewer : n + l .top < count + top + (at + sizeAt (p .cells) at)
+      fewer =
+          let f = fine .at at here in
+          omega (arith, ran inner .passes, size-is, h .stands .passes, f .some)
+
+      few : count + top + (at + sizeAt (p .cells) at) ≤ mostTrees
+      few = omega (arith, h .low, fine .few, fine .at at here .fits)
+
+      long₁ : length stack₁ ≡ length stack
+      long₁ = ran inner .kept .same-length
+
+      pub may-close : MayClose closing (p .base + at) n l stack₁ cells₁
+      may-close = record {
+        from = c;
+        to = controlOf to;
+        spans = pushes .spans;
+        stackBefore = stack;
+        cellsBefore = cells;
+        somewhere = somewhere;
+        value = ran inner .value;
+        valued = valued;
+        room = omega (arith, room, long₁);
+        more = omega (arith, fewer, few);
+        marked = omega (arith, fine .few);
+      }
+
+      pub closed : {l′ : Level} {cells′ stack′ : List ℕ} → ClosesGroup closing (p .base + at) n l stack₁ cells₁ l′ stack′ cells′ → length stack′ ≡ length stack₁
+          → Underway p from count top table before (controlOf to) l′ (at + sizeAt (p .cells) at) cells′ stack′
+      closed closes long =
+          runs.goes-behind fine h class (sym is) here (pushes .opens) (entry-at (pushes .entry)) (ran inner)
+          (closes c (controlOf to) (h .g) (h .nests) table before count top at (at + sizeAt (p .cells) at) (ran inner .value) stack cells
+          (h .stands) (pushes .spans) valued (λ q. ran inner .plain (parameter-inside closing q)) fewer few) (spans-kind (pushes .spans)) (long ∙ long₁)
+
+-- behind the last record
+module _ {closer : ℕ} {p : Part} {from : Control} {count top : ℕ} {table before : List ℕ} {c : Control} {l : Level} {cells stack : List ℕ}
+    (h : AtEnd closer p from count top table before c l cells stack) where
+  pub may-end : Held l stack cells
+  may-end = record { table = table; first = count; done = _; ps = _; operand = _; holds = h .stands .holds }
+
+  pub ends : {b : Bool} {n : ℕ} {cells′ : List ℕ} → Ends closer c b (look closer (row c false)) → b ≡ true → EndsLevel l stack cells n cells′
+      → Ran closer p from count top table before (Done n) cells′ stack
+  ends e t finishes = ran-through (through h (subst (λ (x : Bool). Ends closer c x (look closer (row c false))) t e) refl finishes)
+
+  goes-on-entry : {action : Action} → Ends closer c false action → action ≡ fail
+  goes-on-entry goes-on = refl
+
+  pub dies : {b : Bool} {cells′ stack′ : List ℕ} → Ends closer c b (look closer (row c false)) → b ≡ false
+      → Ran closer p from count top table before (Bad (p .close)) cells′ stack′
+  dies e t = ran-dead (dies-at-end h (goes-on-entry (subst (λ (x : Bool). Ends closer c x (look closer (row c false))) t e)))
+
+-- the inside of a group, as the code has it
+any-close : {text cells : List ℕ} {base close : ℕ} → Fine (part text cells base close) → Fine (part text cells base 0)
+any-close fine = record { few = fine .few; at = fine .at }
+
+pub open-any : {text cells : List ℕ} {base close at closer count top : ℕ} {stack : List ℕ} → MayOpen (part text cells base close) at closer count top stack
+    → MayOpen (part text cells base 0) at closer count top stack
+open-any may = record { fine = any-close (may .fine); here = may .here; low = may .low; deep = may .deep; closes = may .closes }
+
+module _ {p : Part} {at closer count top : ℕ} {stack within : List ℕ} {end : ℕ} (may : MayOpen p at closer count top stack)
+    (content : within ≡ contentOf (p .cells) at) (closer-is : end ≡ closerAt (p .cells) at) where
+  size-inside : countOf within ≡ sizeAt (p .cells) at - 1
+  size-inside = ap countOf content ∙ inside-count (may .fine) at (may .here)
+
+  pub may-run : MayRun (part (p .text) within (p .base + at + 1) end) closer count top stack
+  may-run =
+      let f = may .fine .at at (may .here) in
+      record {
+        fine = rw (content, closer-is) (inside-fine (may .fine) at (may .here));
+        low = may .low;
+        deep = omega (arith, may .deep, size-inside, f .some, f .fits);
+        closes = may .closes;
+      }
+
+  pub fewer-inside : countOf within < countOf (p .cells)
+  fewer-inside = let f = may .fine .at at (may .here) in omega (arith, size-inside, f .some, f .fits)
+
+  pub as-inside : {c c′ : Control} {table before : List ℕ} {r : Parsed} {cells stack′ : List ℕ}
+      → Ran closer (part (p .text) within (p .base + at + 1) end) c count top table before r cells stack′ → c ≡ c′
+      → Ran closer (inside p at) c′ count top table before r cells stack′
+  as-inside ran e = rw (content, closer-is, e) at ran
+
+-- where the parsers start
+as-begins : {c d : Control} → c ≡ d → Begins d → Begins c
+as-begins e b = subst Begins (sym e) b
+
+either : (b : Bool) {x y : Control} → Begins x → Begins y → Begins (cond b x y)
+either true u v = u
+either false u v = v
+
+pub begins-inside : {c : Control} (closing : ℕ) → c ≡ insideBy closing → Begins c
+unfolding insideBy
+begins-inside closing e =
+    as-begins e
+    (either (eqb closing 2) begins-object
+    (either (eqb closing 4) begins-parameter
+    (either (eqb closing 5) begins-statements
+    (either (eqb closing 6) begins-statements
+    (either (eqb closing 7) begins-statements
+    begins-expression)))))
+
+pub statements-start : {c : Control} (scope : ℕ) → c ≡ controlBy 0 0 scope false → c ≡ statementDue false (settingBy scope)
+unfolding controlBy
+statements-start scope e = e
+
+pub begins-scope : {c : Control} (scope : ℕ) → scope ≤ 1 → c ≡ controlBy 0 0 scope false → Begins c
+unfolding settingBy
+begins-scope scope small e = as-begins (statements-start scope e) (go scope small)
+  where
+    go : (n : ℕ) → n ≤ 1 → Begins (statementDue false (settingBy n))
+    go zero h = begins-statements
+    go (suc zero) h = begins-statements
+    go (suc (suc n)) h = absurd (omega arith)
+
+pub body-inside : (closing : ℕ) → (closing ≡ 5 → ⊥) → 5 ≤ closing → closing < 8 → statementDue false (among body) ≡ insideBy closing
+unfolding insideBy
+body-inside closing other low high = go (eqb closing 6) refl
+  where
+    go : (b : Bool) → eqb closing 6 ≡ b → statementDue false (among body) ≡ insideBy closing
+    go true e = rw (eqb-true closing 6 e)
+    go false e = let z : closing ≡ 7 = omega (arith, eqb-false closing 6 e, other) in rw z
+
+pub body-scope : statementDue false (settingBy 0) ≡ statementDue false (among body)
+unfolding settingBy
+body-scope = refl
+
+pub block-inside : {closing : ℕ} → closing ≡ 5 → statementDue false (settingBy 1) ≡ insideBy closing
+unfolding insideBy settingBy
+block-inside e = rw e
+
+pub ran-as : {class : ℕ} {p : Part} {c d : Control} {count top : ℕ} {table before : List ℕ} {r : Parsed} {cells stack : List ℕ}
+    → Ran class p c count top table before r cells stack → c ≡ d → Ran class p d count top table before r cells stack
+ran-as {class = class} {p = p} {count = count} {top = top} {table = table} {before = before} {r = r} {cells = cells} {stack = stack} ran e =
+    subst (λ (k : Control). Ran class p k count top table before r cells stack) e ran

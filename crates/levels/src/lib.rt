@@ -1,0 +1,245 @@
+// Statement, expression and function parsers, which call each other over nested groups. Each runs the token machine over a level: the
+// part of the tree table inside a group, whose first record has the index `base` in the whole table, and behind which a token of the
+// class `closer` stands at the place `close`. Inside a level nothing is called for a part: what waits stands on the lent stack.
+ghost use Prim.Native.Nat.{_≤_};
+ghost use Rattle.controls.specs.Numbers.{controlOf, insideBy};
+ghost use Rattle.parts.specs.Parts.{part, inside};
+ghost use Rattle.levels.specs.Runs.{Begins, MayRun, MayOpen, Ran, RanStatements, RanExpression, RanFunction};
+use controls::Control;
+use controls::Step;
+use tables::TreeRecord;
+
+// What a parser answers: the number of syntax records so far; or the place where no program begins.
+pub enum Parsed {
+    Done(usize),
+    Bad(usize),
+}
+
+// Runs the machine over a level, from where it stands to the closer.
+fn level(
+    text: &[u8],
+    trees: &[u32],
+    base: usize,
+    close: usize,
+    closer: u32,
+    from: Control,
+    waiting: &mut [u16],
+    top: usize,
+    syntax: &mut [u32],
+    count: usize,
+) -> Parsed
+    requires { ⌜ MayRun (part (now text) (now trees) base close) closer count top (now waiting) × Begins (controlOf from) ⌝ }
+    ensures { λ r. ⌜ Ran closer (part (now (text .entry)) (now (trees .entry)) base close) (controlOf from) count top (now (syntax .entry)) (now (waiting .entry)) r (now (syntax .exit)) (now (waiting .exit)) ⌝ }
+{
+    let number = trees.len() / TreeRecord::WIDTH;
+    let mut control = from;
+    let mut l = frames::empty(count, top);
+    let mut at = 0;
+    while at < number {
+        let class = parts::class_at(text, trees, at);
+        let line = parts::line_at(trees, at);
+        let s = frames::ready(control, class, l, waiting, syntax);
+        let here = s.control;
+        let so_far = s.level;
+        let step = controls::row(here, class, line);
+        match step {
+            Step::Fail => {
+                return Parsed::Bad(parts::place_at(trees, close, at));
+            }
+            Step::Goto(next, effect) => {
+                l = frames::affect(effect, class, base + at, so_far, waiting, syntax);
+                control = next;
+                at = at + 1;
+            }
+            Step::Enter(next, setting) => {
+                l = frames::entered(so_far, setting, base + at, waiting, syntax);
+                control = next;
+                at = at + 1;
+            }
+            Step::Push(behind, closing) => {
+                let inner = group(
+                    text,
+                    trees,
+                    base,
+                    at,
+                    class + 1,
+                    closing,
+                    waiting,
+                    so_far.top,
+                    syntax,
+                    so_far.count,
+                );
+                match inner {
+                    Parsed::Bad(place) => {
+                        return Parsed::Bad(place);
+                    }
+                    Parsed::Done(n) => {
+                        l = frames::close(closing, base + at, n, so_far, waiting, syntax);
+                        control = behind;
+                        at = at + parts::size_at(trees, at);
+                    }
+                }
+            }
+        }
+    }
+    let s = frames::ready(control, closer, l, waiting, syntax);
+    let last = s.control;
+    if controls::ends(last, closer) {
+        let all = s.level;
+        return Parsed::Done(frames::ended(all, waiting, syntax));
+    }
+    Parsed::Bad(close)
+}
+
+// The inside of a group, by what the group is: the part of the table that starts behind the opener's record.
+fn group(
+    text: &[u8],
+    trees: &[u32],
+    base: usize,
+    at: usize,
+    closer: u32,
+    closing: u32,
+    waiting: &mut [u16],
+    top: usize,
+    syntax: &mut [u32],
+    count: usize,
+) -> Parsed
+    requires { ⌜ MayOpen (part (now text) (now trees) base 0) at closer count top (now waiting) ⌝ }
+    ensures { λ r. ⌜ Ran closer (inside (part (now (text .entry)) (now (trees .entry)) base 0) at) (insideBy closing) count top (now (syntax .entry)) (now (waiting .entry)) r (now (syntax .exit)) (now (waiting .exit)) ⌝ }
+{
+    let within = parts::inside(trees, at);
+    let close = parts::closer_at(trees, at);
+    match closing {
+        controls::TO_BLOCK => statements(
+            text,
+            within,
+            base + at + 1,
+            close,
+            closer,
+            controls::BLOCK,
+            waiting,
+            top,
+            syntax,
+            count,
+        ),
+        controls::TO_DECLARATION | controls::TO_FUNCTION => function(
+            text,
+            within,
+            base + at + 1,
+            close,
+            closer,
+            waiting,
+            top,
+            syntax,
+            count,
+        ),
+        _ => expression(
+            text,
+            within,
+            base + at + 1,
+            close,
+            closer,
+            closing,
+            waiting,
+            top,
+            syntax,
+            count,
+        ),
+    }
+}
+
+// Statements, and declarations in a body.
+pub fn statements(
+    text: &[u8],
+    trees: &[u32],
+    base: usize,
+    close: usize,
+    closer: u32,
+    scope: u32,
+    waiting: &mut [u16],
+    top: usize,
+    syntax: &mut [u32],
+    count: usize,
+) -> Parsed
+    requires { ⌜ MayRun (part (now text) (now trees) base close) closer count top (now waiting) × (scope ≤ 1) ⌝ }
+    ensures { λ r. ⌜ RanStatements scope closer (part (now (text .entry)) (now (trees .entry)) base close) count top (now (syntax .entry)) (now (waiting .entry)) r (now (syntax .exit)) (now (waiting .exit)) ⌝ }
+{
+    let from = controls::stand(
+        controls::STATEMENT_DUE,
+        controls::BY_STATEMENT,
+        scope,
+        false,
+    );
+    level(
+        text,
+        trees,
+        base,
+        close,
+        closer,
+        from,
+        waiting,
+        top,
+        syntax,
+        count,
+    )
+}
+
+// An expression, or what else stands inside parentheses or an object.
+fn expression(
+    text: &[u8],
+    trees: &[u32],
+    base: usize,
+    close: usize,
+    closer: u32,
+    closing: u32,
+    waiting: &mut [u16],
+    top: usize,
+    syntax: &mut [u32],
+    count: usize,
+) -> Parsed
+    requires { ⌜ MayRun (part (now text) (now trees) base close) closer count top (now waiting) ⌝ }
+    ensures { λ r. ⌜ RanExpression closing closer (part (now (text .entry)) (now (trees .entry)) base close) count top (now (syntax .entry)) (now (waiting .entry)) r (now (syntax .exit)) (now (waiting .exit)) ⌝ }
+{
+    let from = controls::inside_of(closing);
+    level(
+        text,
+        trees,
+        base,
+        close,
+        closer,
+        from,
+        waiting,
+        top,
+        syntax,
+        count,
+    )
+}
+
+// A function's body.
+fn function(
+    text: &[u8],
+    trees: &[u32],
+    base: usize,
+    close: usize,
+    closer: u32,
+    waiting: &mut [u16],
+    top: usize,
+    syntax: &mut [u32],
+    count: usize,
+) -> Parsed
+    requires { ⌜ MayRun (part (now text) (now trees) base close) closer count top (now waiting) ⌝ }
+    ensures { λ r. ⌜ RanFunction closer (part (now (text .entry)) (now (trees .entry)) base close) count top (now (syntax .entry)) (now (waiting .entry)) r (now (syntax .exit)) (now (waiting .exit)) ⌝ }
+{
+    statements(
+        text,
+        trees,
+        base,
+        close,
+        closer,
+        controls::BODY,
+        waiting,
+        top,
+        syntax,
+        count,
+    )
+}

@@ -1,0 +1,3 @@
+pub mod RuleClasses
+pub mod TokenClasses
+pub mod Vocabulary

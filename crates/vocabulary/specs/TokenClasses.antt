@@ -1,0 +1,55 @@
+-- Tokens as far as the grammar tells them apart: their classes, by number.
+use Prim.Native.Nat.{ℕ}
+
+-- a name, number, string, regular expression, `/`, `+` or `=` has the number of the part that it makes by itself
+abbrev pub name : ℕ
+name = 1
+
+abbrev pub number : ℕ
+number = 2
+
+abbrev pub string : ℕ
+string = 3
+
+abbrev pub pattern : ℕ
+pattern = 4
+
+abbrev pub divide : ℕ
+divide = 10
+
+abbrev pub plus : ℕ
+plus = 11
+
+abbrev pub assign : ℕ
+assign = 12
+
+-- the others make no part: their numbers, from 128 up, meet no kind of a part; 128 is the end of the text
+abbrev pub colon : ℕ
+colon = 129
+
+abbrev pub semicolon : ℕ
+semicolon = 130
+
+abbrev pub dot : ℕ
+dot = 131
+
+abbrev pub openParen : ℕ
+openParen = 132
+
+abbrev pub closeParen : ℕ
+closeParen = 133
+
+abbrev pub openBrace : ℕ
+openBrace = 134
+
+abbrev pub closeBrace : ℕ
+closeBrace = 135
+
+abbrev pub returnWord : ℕ
+returnWord = 136
+
+abbrev pub functionWord : ℕ
+functionWord = 137
+
+abbrev pub ifWord : ℕ
+ifWord = 138

@@ -1,0 +1,4 @@
+pub mod OperatorLaws
+pub mod HoldLaws
+pub mod PutLaws
+pub mod CloseLaws

@@ -1,0 +1,128 @@
+// What waits on a level for a part on its right, and the syntax records so far. What waits stands on a lent stack, three numbers each:
+// operators and beginnings of statements with their kind, their mark and their first syntax record; nests with 0, the number of the
+// setting around them and their first syntax record.
+ghost use mathlib.Core.Path.{_≡_};
+ghost use Prim.Native.Nat.{_+_, _-_, _*_, _≤_, _<_};
+ghost use lib.ListN.{length};
+ghost use Rattle.tables.specs.Records.{mostTrees, mostSyntax};
+ghost use Rattle.waiting.specs.Written.{putRecord};
+ghost use Rattle.waiting.specs.Waiting.{width, binding, Held, Closes, Completes, stackWith, waitingOne, madeOne};
+use controls::classes;
+
+pub mod records;
+
+// Numbers that what waits takes on the stack.
+pub const WIDTH: usize = 3;
+
+// In place of a kind, what stands for a nest.
+pub const NEST: u32 = 0;
+
+// A level: syntax records so far; how many parts wait, and how many on the levels around; the first syntax record of the operand; the
+// mark of a word or name that is held.
+pub struct Level {
+    pub count: usize,
+    pub top: usize,
+    pub floor: usize,
+    pub start: usize,
+    pub word: usize,
+}
+
+// How tight what waits binds: operators by precedence, `=` less, beginnings of statements 1, a nest 0.
+fn binding(kind: u32) -> u32
+    ensures { λ r. ⌜ r ≡ binding kind ⌝ }
+{
+    if kind == classes::ASSIGN {
+        return 2;
+    }
+    let precedence = classes::precedence(kind);
+    if 1 <= precedence {
+        return precedence + 2;
+    }
+    if kind == NEST {
+        return 0;
+    }
+    1
+}
+
+// Closes what waits above the floor and binds at least so tight.
+pub fn closed(l: Level, least: u32, waiting: &[u16], syntax: &mut [u32]) -> Level
+    requires { ⌜ Held l (now waiting) (now syntax) ⌝ }
+    ensures { λ r. ⌜ (r .floor ≡ l .floor) × (r .word ≡ l .word) × Closes least l (now (waiting .entry)) (now (syntax .entry)) r (now (syntax .exit)) ⌝ }
+{
+    let floor = l.floor;
+    let mut count = l.count;
+    let mut top = l.top;
+    let mut start = l.start;
+    while floor < top {
+        let at = (top - 1) * WIDTH;
+        let kind = waiting[at] as u32;
+        if binding(kind) < least {
+            return Level {
+                count: count,
+                top: top,
+                floor: floor,
+                start: start,
+                word: l.word,
+            };
+        }
+        start = waiting[at + 2] as usize;
+        count = records::put(syntax, count, kind, waiting[at + 1] as usize, start);
+        top = top - 1;
+    }
+    Level {
+        count: count,
+        top: top,
+        floor: floor,
+        start: start,
+        word: l.word,
+    }
+}
+
+// Lets the operand, or nothing, wait as the left side of a part.
+pub fn wait(l: Level, kind: u32, mark: usize, waiting: &mut [u16]) -> Level
+    requires { ⌜ ((l .top + 1) * width ≤ length (now waiting)) × (kind < 65536) × (mark ≤ mostTrees) × (l .start ≤ mostTrees) ⌝ }
+    ensures { λ r. ⌜ (r ≡ waitingOne l) × (now (waiting .exit) ≡ stackWith (now (waiting .entry)) (l .top) kind mark (l .start)) ⌝ }
+{
+    let at = l.top * WIDTH;
+    waiting[at] = kind as u16;
+    waiting[at + 1] = mark as u16;
+    waiting[at + 2] = l.start as u16;
+    Level {
+        count: l.count,
+        top: l.top + 1,
+        floor: l.floor,
+        start: l.count,
+        word: l.word,
+    }
+}
+
+// Puts the record of a part that holds the operand, or nothing; it is the operand now.
+pub fn made(l: Level, kind: u32, mark: usize, syntax: &mut [u32]) -> Level
+    requires { ⌜ (l .start ≤ l .count) × (l .count < mostSyntax) × (mark ≤ mostTrees) ⌝ }
+    ensures { λ r. ⌜ (r ≡ madeOne l) × (now (syntax .exit) ≡ putRecord (now (syntax .entry)) (l .count) kind mark (l .count - l .start + 1)) ⌝ }
+{
+    let start = l.start;
+    let count = records::put(syntax, l.count, kind, mark, start);
+    Level {
+        count: count,
+        top: l.top,
+        floor: l.floor,
+        start: start,
+        word: l.word,
+    }
+}
+
+// A statement is complete, and so are those that it ends.
+pub fn completed(l: Level, waiting: &[u16], syntax: &mut [u32]) -> Level
+    requires { ⌜ Held l (now waiting) (now syntax) ⌝ }
+    ensures { λ r. ⌜ Completes l (now (waiting .entry)) (now (syntax .entry)) r (now (syntax .exit)) ⌝ }
+{
+    let all = closed(l, 1, waiting, syntax);
+    Level {
+        count: all.count,
+        top: all.top,
+        floor: all.floor,
+        start: all.count,
+        word: all.word,
+    }
+}
