@@ -1,5 +1,5 @@
-// The token machine's table as code: where it stands, and what a token of a class does there. Places, rows and effects are named as
-// in grammar/specs/Machine.antt, so that the two can be laid side by side.
+// The token machine's table as code: where it stands, and what a token of a class does there. Places and effects are named after those
+// of grammar/specs/Machine.antt where there is one, so that the two can be laid side by side; specs/Numbers.antt ties them.
 ghost use mathlib.Core.Path.{_≡_};
 ghost use mathlib.Core.Bool.{Bool, true, false};
 ghost use mathlib.Core.List.{[], _∷_};

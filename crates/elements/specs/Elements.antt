@@ -114,9 +114,6 @@ slashAfter text (Gap.Fault number place) = false
 unfoldable pub slashMet : List ℕ → ℕ → Bool
 slashMet text place = slashAfter text (gap place false (drop place text))
 
--- whether a number is that of the reserved word, or of the sign, that is spelled so
-abbrev pub isWord : String → ℕ → Bool
-isWord t which = eqb which (wordNumber (bytes t))
-
+-- whether a number is that of the sign that is spelled so
 abbrev pub isSign : String → ℕ → Bool
 isSign t which = eqb which (numberOfSign (longestSign (bytes t)))

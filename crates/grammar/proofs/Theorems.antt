@@ -46,7 +46,7 @@ any-two-derivations text d f =
 pub slashes-by-kind : (text : List ℕ) (d : Derivation text) → d .choice ≡ answersOf text (d .elements)
 slashes-by-kind text d = choice-answers text (d .cut)
 
--- A text that is read, and whose elements the machine takes to where a program may end, is a program.
+-- A text that is read, and whose elements the machine takes with the text's end behind them, is a program.
 pub derivation-of : (text : List ℕ) (limits : Limits) (trees : Trees) (f : Frame) → reading text limits ≡ accepted trees
     → (stop : Spot) → run start (tokens (elementsOf trees) ++ (token endOfText stop ∷ [])) ≡ live finished f [] → Derivation text
 derivation-of text limits trees f a stop r =

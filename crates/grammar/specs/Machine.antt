@@ -16,7 +16,7 @@ endOfText = 128
 pub data Pending : Type 0 where
   pending : ℕ → ℕ → Syntax → Pending
 
--- what a level has so far: statements done, beginnings of statements, operators, and the operand
+-- what a level, or a nest on it, has so far: statements done, beginnings of statements, operators, and the operand
 pub data Frame : Type 0 where
   frame : Syntax → List Pending → List Pending → Syntax → Frame
 
@@ -120,7 +120,7 @@ valueOf expressionValue (frame done starts waiting operand) = operandOf (reduce 
 valueOf statementsValue f = doneOf f
 valueOf statementValue f = lastOf (doneOf f)
 
--- a part of a level that holds one statement: that of an `if`
+-- a stretch of a level, from `if` to the end of its statement; its frame holds that `if` alone
 pub data Nest : Type 0 where
   ifNest : Nest
 
@@ -163,7 +163,7 @@ pub data Action : Type 0 where
   pop leave : Value → Action
   finish : Action
 
--- a row of the machine's table: actions by the class of the token, and for any other
+-- an entry of a row: the action for a class, or for any that no entry before it names
 pub data Entry : Type 0 where
   on : ℕ → Action → Entry
   otherwise : Action → Entry
@@ -259,7 +259,7 @@ row finished line = []
 pub data Held : Type 0 where
   held nested : Control → Closing → ℕ → Frame → Held
 
--- the machine's state: dead, by the token at a place; or a control with the innermost level's frame and what is open
+-- the machine's state: dead, by the token at a place; or a control with the frame of the innermost level or nest, and what is open
 pub data State : Type 0 where
   dead : ℕ → State
   live : Control → Frame → List Held → State

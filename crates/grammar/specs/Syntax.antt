@@ -4,7 +4,7 @@ use Prim.Native.Nat.{ℕ, _+_}
 use mathlib.Core.List.{List, [], _∷_, _++_}
 
 -- "Kinds with marks". 1 name, 2 number, 3 string, 4 regular expression, 10 divide, 11 plus and 12 assign are the classes of the
--- tokens that mark them (Tokens.antt); the marks of all stand at their steps (Grammar.antt)
+-- tokens that mark them (TokenClasses.antt of `vocabulary`); the marks of all stand at their steps (Grammar.antt)
 abbrev pub objectSyntax : ℕ
 objectSyntax = 5
 

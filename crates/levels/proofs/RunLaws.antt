@@ -1,15 +1,14 @@
 -- The run of a level, step by step, by the actions of the machine's table and not by the forms of the grammar.
 use mathlib.Core.Path.{_≡_, refl, sym, _∙_, ap}
-use mathlib.Core.Bool.{Bool, true, false, cond, not, _&&_, _||_}
+use mathlib.Core.Bool.{Bool, true, false, not, _&&_, _||_}
 use mathlib.Core.List.{List, [], _∷_, _++_}
 use Prim.Native.Nat.{ℕ, _+_, _*_, _≤_, _<_}
 use native.Mathlib.Omega.{arith}
 use borrow.Author.Tests.{lt-ltb, eqb-true, ne-eqb}
-use lib.Dec.{T, eqb, ltb, ltb→lt}
+use lib.Dec.{T, eqb, ltb}
 use lib.ListN.{length}
-use Rattle.tables.specs.Records.{mostTrees}
 use Rattle.grammar.specs.Tokens.{Token, token, Spot, openParen, openBrace}
-use Rattle.grammar.specs.Syntax.{Syntax, nil, size}
+use Rattle.grammar.specs.Syntax.{Syntax, nil}
 use Rattle.grammar.specs.Grammar.{body, block}
 use Rattle.grammar.specs.Machine.{
   endOfText,
@@ -58,7 +57,7 @@ use Rattle.frames.specs.Effects.{Readies, Readied, EndsLevel, IsValue, is-poppe
 use Rattle.frames.proofs.ParameterLaws.{parameter-value}
 use Rattle.frames.specs.declared.Standing.{Standing}
 use Rattle.parts.specs.Parts.{Part, inside, countOf, classAt, sizeAt, placeAt, lineAt, tokensAt, spotAt, closerSpot, Fine}
-use Rattle.parts.proofs.PartLaws.{element-then, group-then, end-then, class-within}
+use Rattle.parts.proofs.PartLaws.{element-then, group-then, end-then}
 use Rattle.levels.specs.Runs.{closerToken, closedState, Through, Dies, MayRun, Begins, begins-statements, begins-expression, begins-object, begins-parameter}
 
 -- where the run of a level is, before a record: what stands around it is behind the nests that are open on it

@@ -33,7 +33,7 @@ use Rattle.waiting.specs.Written.{putSyntax}
 use Rattle.waiting.specs.Waiting.{width}
 use Rattle.frames.specs.Stands.{Kept}
 use Rattle.frames.specs.Effects.{ofParameter}
-use Rattle.parts.specs.Parts.{Part, part, countOf, tokensAt, Fine}
+use Rattle.parts.specs.Parts.{Part, countOf, tokensAt, Fine}
 use Rattle.levels.specs.declared.Parsed.{Parsed}
 use Rattle.levels.specs.declared.Parsed.the-variants.{Done, Bad}
 

@@ -9,7 +9,8 @@ use controls::Control;
 use controls::Step;
 use tables::TreeRecord;
 
-// What a parser answers: the number of syntax records so far; or the place where no program begins.
+// What a parser answers: the number of syntax records so far; or the place of the first element with which those so far
+// begin no program.
 pub enum Parsed {
     Done(usize),
     Bad(usize),
@@ -109,11 +110,12 @@ fn group(
 {
     let within = parts::inside(trees, at);
     let close = parts::closer_at(trees, at);
+    let first = base + at + 1;
     match closing {
         controls::TO_BLOCK => statements(
             text,
             within,
-            base + at + 1,
+            first,
             close,
             closer,
             controls::BLOCK,
@@ -125,7 +127,7 @@ fn group(
         controls::TO_DECLARATION | controls::TO_FUNCTION => function(
             text,
             within,
-            base + at + 1,
+            first,
             close,
             closer,
             waiting,
@@ -136,7 +138,7 @@ fn group(
         _ => expression(
             text,
             within,
-            base + at + 1,
+            first,
             close,
             closer,
             closing,

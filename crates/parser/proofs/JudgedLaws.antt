@@ -1,7 +1,7 @@
 -- The whole table: what `program` answers by its statements, and what `parse` answers by that.
 use mathlib.Core.Path.{_≡_, refl, sym, ap, subst, _∙_}
 use mathlib.Core.List.{List, [], _∷_, _++_}
-use mathlib.Core.Bool.{Bool, false, cond}
+use mathlib.Core.Bool.{Bool, cond}
 use Prim.Native.Nat.{ℕ, _+_, _-_, _*_, _≤_, _<_}
 use native.Mathlib.Omega.{arith}
 use borrow.Author.Tests.{le-leb, lt-leb}
@@ -16,14 +16,14 @@ use Rattle.reader.specs.Read
 use Rattle.reader.specs.Read.{readLimits, readingFor, tableAfter}
 use Rattle.reader.proofs.CellLaws.{records-length}
 use Rattle.grammar.specs.Tokens.{Token, tokens}
-use Rattle.grammar.specs.Syntax.{Syntax, nil, size, syntaxRecords, programSyntax, programTree}
+use Rattle.grammar.specs.Syntax.{Syntax, size, syntaxRecords, programSyntax, programTree}
 use Rattle.grammar.specs.TreeElements.{elementsOf}
-use Rattle.grammar.specs.Machine.{endOfText, State, dead, live, finished, frame, run, start}
+use Rattle.grammar.specs.Machine.{endOfText, State, dead, run, start}
 use Rattle.controls.specs.Numbers.{settingBy}
 use Rattle.waiting.specs.Written.{putRecord, putSyntax}
 use Rattle.parts.specs.Parts.{Part, part, countOf, Fine, tokensAt}
 use Rattle.parts.proofs.ReadParts.{reading-fine, reading-tokens}
-use Rattle.levels.specs.Runs.{Through, ran-through, ran-dead, RanStatements}
+use Rattle.levels.specs.Runs.{ran-through, ran-dead, RanStatements}
 use Rattle.levels.specs.declared.Parsed.{Parsed}
 use Rattle.levels.specs.declared.Parsed.the-variants.{Done, Bad}
 use Rattle.parser.specs.Parse.{noProgram, syntaxFull, Parsing, program, denied, endToken, stateAfter, judged, fitting, parsed, parsingFor, answerOf, treesAfter, syntaxAfter}

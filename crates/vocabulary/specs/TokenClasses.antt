@@ -23,7 +23,8 @@ plus = 11
 abbrev pub assign : ℕ
 assign = 12
 
--- the others make no part: their numbers, from 128 up, meet no kind of a part; 128 is the end of the text
+-- the others make none by themselves, and what they mark has a kind of its own: their numbers, from 128 up, meet no kind of a part. 128 is
+-- the end of the text (Machine.antt of `grammar`), and a closer has the number behind its opener's
 abbrev pub colon : ℕ
 colon = 129
 

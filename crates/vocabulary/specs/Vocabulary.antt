@@ -1,5 +1,5 @@
--- Document 01, Elements: the reserved words and the signs, one row for each. What the prefix rule and the grammar say of a word
--- or sign stands in its row.
+-- Document 01, Elements: the reserved words and the signs, one row for each. Its classes for the prefix rule and for the grammar, and its
+-- precedence, stand in its row.
 use Prim.Native.Nat.{ℕ}
 use Prim.Native.String.{String}
 use mathlib.Core.Bool.{Bool, true, false}
@@ -14,11 +14,11 @@ pub data Row : Type 0 where
   -- refused here: its spelling
   barred : String → Row
   -- "Taken here", or "Legal here": its spelling, its class for the prefix rule, its class for the grammar, and its precedence
-  -- as a binary operator, from 1 up, or 0 where it is none
+  -- as a binary operator, from 1 up, the higher the tighter, or 0 where it is none
   taken : String → Class → ℕ → ℕ → Row
 
 -- "The 36 reserved words of ES5.1 section 7.6.1 are compared byte for byte. Taken here: `return`, `function`, `if`.": the keywords
--- (7.6.1.1), the future reserved words (7.6.1.2) and the null and Boolean literals, row by row as that section prints them
+-- (7.6.1.1) and the future reserved words (7.6.1.2), row by row as that section prints them, and the null and Boolean literals (7.8.1, 7.8.2)
 abbrev pub words : List Row
 words =
     barred "break" ∷ barred "do" ∷ barred "instanceof" ∷ barred "typeof" ∷
@@ -34,7 +34,7 @@ words =
     []
 
 -- "the 48 signs of ES5.1 section 7.7 .. Legal here: `/ + : ; = .` and `( ) { }`.", in the order of that section. "Binary: Chains
--- joined by `/` and `+`; `/` binds tighter"
+-- joined by `/` and `+`; `/` binds tighter". A delimiter is no tree by itself, and its class for the rule is never asked
 abbrev pub signs : List Row
 signs =
     taken "{" Class.other openBrace 0 ∷ taken "}" Class.other closeBrace 0 ∷
@@ -65,10 +65,6 @@ ruleClass (taken t rule token precedence) = rule
 abbrev pub tokenClass : Row → ℕ
 tokenClass (barred t) = 0
 tokenClass (taken t rule token precedence) = token
-
-abbrev pub precedenceOf : Row → ℕ
-precedenceOf (barred t) = 0
-precedenceOf (taken t rule token precedence) = precedence
 
 -- the row of a number that is no word's or sign's
 abbrev pub noRow : Row

@@ -1,7 +1,6 @@
 -- The settings past the scopes are the nest's.
 use mathlib.Core.Path.{refl, sym, _∙_}
 use native.Mathlib.Omega.{arith}
-use Rattle.controls.specs.Numbers.{settingBy}
 use Rattle.controls.proofs.NumberLaws.{nest-setting}
 use Rattle.controls.proofs.setting_number.Statement.{statement}
 use Rattle.controls.proofs.setting_number.Tie as tie

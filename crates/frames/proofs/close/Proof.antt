@@ -1,4 +1,5 @@
 -- Each group by its law.
+use mathlib.Core.Path.{refl, _∙_}
 use borrow.Author.Needs.{needs}
 use Rattle.grammar.specs.Syntax.{blockSyntax, declarationSyntax}
 use Rattle.frames.proofs.GroupLaws.{
@@ -44,25 +45,25 @@ made-requires-6 : tie.Need-made-requires-6
 made-requires-6 c κs = search needs
 
 same-length : tie.Need-same-length
-same-length c = search needs
+same-length c = c .before .syntax .given
 
 returns : tie.Need-returns
 returns c = rw (c .before .before .before .before .match .keys1) (parens-close (c .before .before .before .before .before .before .before .args .mark) (c .before .before .before .before .before .before .before .args .count) (c .before .before .made .ensures))
 
 same-length-2 : tie.Need-same-length-2
-same-length-2 c = search needs
+same-length-2 c = c .before .syntax2 .given
 
 returns-2 : tie.Need-returns-2
 returns-2 c = rw (c .before .before .before .before .match .keys2) (call-closes (c .before .before .before .before .before .before .before .args .mark) (c .before .before .before .before .before .before .before .args .count) (c .before .before .made2 .ensures))
 
 same-length-3 : tie.Need-same-length-3
-same-length-3 c = search needs
+same-length-3 c = c .before .syntax3 .given
 
 returns-3 : tie.Need-returns-3
 returns-3 c = rw (c .before .before .before .before .match .keys3) (object-closes (c .before .before .before .before .before .before .before .args .mark) (c .before .before .before .before .before .before .before .args .count) (c .before .before .made3 .ensures))
 
 same-length-4 : tie.Need-same-length-4
-same-length-4 c = search needs
+same-length-4 c = c .before .waiting .given
 
 returns-4 : tie.Need-returns-4
 returns-4 c = rw (c .before .before .before .before .match .keys4) (condition-closes (c .before .before .before .before .before .before .before .args .mark) (c .before .before .before .before .before .before .before .args .count) (c .before .before .before .before .before .before .before .pre .room) (c .before .before .wait .ensures))
@@ -71,25 +72,25 @@ returns-5 : tie.Need-returns-5
 returns-5 c = rw (c .match .keys5) (parameter-closes (c .before .before .before .args .mark) (c .before .before .before .args .count))
 
 same-length-5 : tie.Need-same-length-5
-same-length-5 c = search needs
+same-length-5 c = refl
 
 same-length-6 : tie.Need-same-length-6
-same-length-6 c = search needs
+same-length-6 c = c .before .syntax5 .given ∙ c .before .before .before .before .before .before .syntax4 .given
 
 returns-6 : tie.Need-returns-6
 returns-6 c = rw (c .before .before .before .before .before .before .before .before .before .match .keys6) (block-closes (c .before .before .before .before .before .before .before .before .before .before .before .before .args .mark) (c .before .before .before .before .before .before .before .before .before .before .before .before .args .count) (c .before .before .before .before .before .before .before .made4 .ensures) (c .before .before .completed .ensures))
 
 same-length-7 : tie.Need-same-length-7
-same-length-7 c = search needs
+same-length-7 c = refl
 
 same-length-8 : tie.Need-same-length-8
-same-length-8 c = search needs
+same-length-8 c = c .before .syntax7 .given ∙ c .before .before .before .before .before .before .syntax6 .given
 
 returns-7 : tie.Need-returns-7
 returns-7 c = rw (c .before .before .before .before .before .before .before .before .before .match .keys7) (declaration-closes (c .before .before .before .before .before .before .before .before .before .before .before .before .args .mark) (c .before .before .before .before .before .before .before .before .before .before .before .before .args .count) (c .before .before .before .before .before .before .before .made5 .ensures) (c .before .before .completed2 .ensures))
 
 same-length-9 : tie.Need-same-length-9
-same-length-9 c = search needs
+same-length-9 c = c .before .syntax8 .given
 
 returns-8 : tie.Need-returns-8
 returns-8 c = function-closes (c .before .before .before .before .before .before .before .args .mark) (c .before .before .before .before .before .before .before .args .count) (c .before .before .before .before .before .before .before .args .closing) (closing-function (c .before .before .before .before .before .before .before .args .closing) (c .before .before .before .before .match .rest .0 .0 .0 .0 .0 .0 .1) (c .before .before .before .before .match .rest .0 .0 .0 .0 .0 .1) (c .before .before .before .before .match .rest .0 .0 .0 .0 .1) (c .before .before .before .before .match .rest .0 .0 .0 .1) (c .before .before .before .before .match .rest .0 .0 .1) (c .before .before .before .before .match .rest .0 .1) (c .before .before .before .before .match .rest .1)) (c .before .before .made6 .ensures)

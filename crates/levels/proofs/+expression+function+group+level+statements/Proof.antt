@@ -1,11 +1,12 @@
-use Prim.Native.Nat.{ℕ, _+_, _-_, _*_, _<_, _≤_}
-use mathlib.Core.Path.{_≡_, refl, sym, _∙_, ap}
+-- The five functions of the cycle meet their contracts: a turn of `level` is one law by what the step means, and the records left fall.
+use Prim.{tt}
+use Prim.Native.Nat.{ℕ, _+_, _-_, _*_, _<_}
+use mathlib.Core.Path.{_≡_, refl, _∙_}
 use native.Mathlib.Omega.{arith}
 use borrow.Author.Needs.{needs}
 use lib.ListN.{length}
 use Rattle.controls.specs.Numbers.{controlOf}
 use Rattle.parts.specs.Parts.{part, countOf}
-use Rattle.levels.specs.Runs.{MayRun, Begins}
 use Rattle.levels.proofs.RunLaws.{Underway, starts-underway, ready-at-end, end-settled}
 use Rattle.levels.proofs.StepLaws.{Turn, fails, may-affect, affected, may-enter, entered, class-small, may-open, inner-dies, may-close, closed, may-end, ends, dies, open-any, may-run, fewer-inside, as-inside, begins-inside, statements-start, begins-scope, body-scope, body-inside, block-inside, ran-as}
 use borrow.Fn.Kinds.{In}
@@ -109,121 +110,80 @@ level-claims t = (empty-reads.Asked, empty-reads.Learnt, class-at-reads.Asked, c
 abbrev statements-claims : ℕ → statements-lts.Claims
 statements-claims t = (stand-reads.Asked, stand-reads.Learnt, level-below t, level.Post)
 
--- src/lib.rt:205:9
 expression-inside-of-requires : (t : ℕ) → expression-lts.Need-inside-of-requires (expression-claims t) (expression-at t) expression.Post
-expression-inside-of-requires t c κs = search needs
+expression-inside-of-requires t c κs = tt
 
--- src/lib.rt:206:5
 expression-level-requires : (t : ℕ) → expression-lts.Need-level-requires (expression-claims t) (expression-at t) expression.Post
 expression-level-requires t c κs = (omega (arith, (c .before .before .before .before .before .before .before) .pre .0), ((c .before .before .before .before .before .before .before) .pre .1, begins-inside ((c .before .before .before .before .before .before .before) .args .closing) ((c .before .before .inside-of) .ensures)))
 
--- src/lib.rt:190:1
 expression-same-length : (t : ℕ) → expression-lts.Need-same-length (expression-claims t) (expression-at t) expression.Post
-expression-same-length t c = search needs
+expression-same-length t c = c .before .before .before .waiting .given
 
--- src/lib.rt:190:1
 expression-same-length-2 : (t : ℕ) → expression-lts.Need-same-length-2 (expression-claims t) (expression-at t) expression.Post
-expression-same-length-2 t c = search needs
+expression-same-length-2 t c = c .before .syntax .given
 
--- src/lib.rt:190:1
 expression-returns : (t : ℕ) → expression-lts.Need-returns (expression-claims t) (expression-at t) expression.Post
 expression-returns t c = ran-as ((c .before .before .before .before .level) .ensures) ((c .before .before .before .before .before .before .before .inside-of) .ensures)
 
--- src/lib.rt:235:5
 function-statements-requires : (t : ℕ) → function-lts.Need-statements-requires (function-claims t) (function-at t) function.Post
-function-statements-requires t c κs = search needs
+function-statements-requires t c κs = let s = c .before .before .before .before .before .before in (omega (arith, s .pre .0), (s .pre .1, omega arith))
 
--- src/lib.rt:221:1
 function-same-length : (t : ℕ) → function-lts.Need-same-length (function-claims t) (function-at t) function.Post
-function-same-length t c = search needs
+function-same-length t c = c .before .before .before .waiting .given
 
--- src/lib.rt:221:1
 function-same-length-2 : (t : ℕ) → function-lts.Need-same-length-2 (function-claims t) (function-at t) function.Post
-function-same-length-2 t c = search needs
+function-same-length-2 t c = c .before .syntax .given
 
--- src/lib.rt:221:1
 function-returns :
     (t : ℕ) →
     function-lts.Need-returns (statements-below t, statements.Post) (function-at t) function.Post
 function-returns t c = ran-as ((c .before .before .before .before .statements) .ensures) body-scope
 
--- src/lib.rt:112:9
 group-inside-requires : (t : ℕ) → group-lts.Need-inside-requires (group-claims t) (group-at t) group.Post
 group-inside-requires t c κs = let f = (c .before .before .before .before) .pre .1 .fine .at ((c .before .before .before .before) .args .at) ((c .before .before .before .before) .pre .1 .here) in (f .some, f .fits)
 
--- src/lib.rt:113:9
 group-closer-at-requires : (t : ℕ) → group-lts.Need-closer-at-requires (group-claims t) (group-at t) group.Post
-group-closer-at-requires t c κs = search needs
+group-closer-at-requires t c κs = tt
 
--- src/lib.rt:118:13
-group-add-statements : (t : ℕ) → group-lts.Need-add-statements (group-claims t) (group-at t) group.Post
-group-add-statements t c = search needs
+group-add-first : (t : ℕ) → group-lts.Need-add-first (group-claims t) (group-at t) group.Post
+group-add-first t c = search needs
 
--- src/lib.rt:118:13
-group-add-statements-2 : (t : ℕ) → group-lts.Need-add-statements-2 (group-claims t) (group-at t) group.Post
-group-add-statements-2 t c = search needs
+group-add-first-2 : (t : ℕ) → group-lts.Need-add-first-2 (group-claims t) (group-at t) group.Post
+group-add-first-2 t c = search needs
 
--- src/lib.rt:115:31
 group-statements-requires : (t : ℕ) → group-lts.Need-statements-requires (group-claims t) (group-at t) group.Post
 group-statements-requires t c κs = (omega (arith, (c .before .before .before .before .before .before .before .before .before) .pre .0, fewer-inside ((c .before .before .before .before .before .before .before .before .before) .pre .1) ((c .before .before .before .before .inside) .ensures) ((c .before .before .before .closer-at) .ensures)), (may-run ((c .before .before .before .before .before .before .before .before .before) .pre .1) ((c .before .before .before .before .inside) .ensures) ((c .before .before .before .closer-at) .ensures), omega arith))
 
--- src/lib.rt:130:13
-group-add-function : (t : ℕ) → group-lts.Need-add-function (group-claims t) (group-at t) group.Post
-group-add-function t c = search needs
-
--- src/lib.rt:130:13
-group-add-function-2 : (t : ℕ) → group-lts.Need-add-function-2 (group-claims t) (group-at t) group.Post
-group-add-function-2 t c = search needs
-
--- src/lib.rt:127:61
 group-function-requires : (t : ℕ) → group-lts.Need-function-requires (group-claims t) (group-at t) group.Post
 group-function-requires t c κs = (omega (arith, (c .before .before .before .before .before .before .before .before .before .before .before) .pre .0, fewer-inside ((c .before .before .before .before .before .before .before .before .before .before .before) .pre .1) ((c .before .before .before .before .before .before .inside) .ensures) ((c .before .before .before .before .before .closer-at) .ensures)), may-run ((c .before .before .before .before .before .before .before .before .before .before .before) .pre .1) ((c .before .before .before .before .before .before .inside) .ensures) ((c .before .before .before .before .before .closer-at) .ensures))
 
--- src/lib.rt:141:13
-group-add-expression : (t : ℕ) → group-lts.Need-add-expression (group-claims t) (group-at t) group.Post
-group-add-expression t c = search needs
-
--- src/lib.rt:141:13
-group-add-expression-2 : (t : ℕ) → group-lts.Need-add-expression-2 (group-claims t) (group-at t) group.Post
-group-add-expression-2 t c = search needs
-
--- src/lib.rt:138:14
 group-expression-requires : (t : ℕ) → group-lts.Need-expression-requires (group-claims t) (group-at t) group.Post
 group-expression-requires t c κs = (omega (arith, (c .before .before .before .before .before .before .before .before .before .before) .pre .0, fewer-inside ((c .before .before .before .before .before .before .before .before .before .before) .pre .1) ((c .before .before .before .before .before .inside) .ensures) ((c .before .before .before .before .closer-at) .ensures)), may-run ((c .before .before .before .before .before .before .before .before .before .before) .pre .1) ((c .before .before .before .before .before .inside) .ensures) ((c .before .before .before .before .closer-at) .ensures))
 
--- src/lib.rt:97:1
 group-same-length : (t : ℕ) → group-lts.Need-same-length (group-claims t) (group-at t) group.Post
-group-same-length t c = search needs
+group-same-length t c = c .before .before .before .waiting .given
 
--- src/lib.rt:97:1
 group-same-length-2 : (t : ℕ) → group-lts.Need-same-length-2 (group-claims t) (group-at t) group.Post
-group-same-length-2 t c = search needs
+group-same-length-2 t c = c .before .syntax .given
 
--- src/lib.rt:97:1
 group-returns : (t : ℕ) → group-lts.Need-returns (group-claims t) (group-at t) group.Post
 group-returns t c = as-inside ((c .before .before .before .before .before .before .before .before .before .before .before .before .before .before) .pre .1) ((c .before .before .before .before .before .before .before .before .before .inside) .ensures) ((c .before .before .before .before .before .before .before .before .closer-at) .ensures) ((c .before .before .before .before .statements) .ensures) (block-inside ((c .before .before .before .before .before .before .before .match) .keys1))
 
--- src/lib.rt:97:1
 group-same-length-3 : (t : ℕ) → group-lts.Need-same-length-3 (group-claims t) (group-at t) group.Post
-group-same-length-3 t c = search needs
+group-same-length-3 t c = c .before .before .before .waiting2 .given
 
--- src/lib.rt:97:1
 group-same-length-4 : (t : ℕ) → group-lts.Need-same-length-4 (group-claims t) (group-at t) group.Post
-group-same-length-4 t c = search needs
+group-same-length-4 t c = c .before .syntax2 .given
 
--- src/lib.rt:97:1
 group-returns-2 : (t : ℕ) → group-lts.Need-returns-2 (group-claims t) (group-at t) group.Post
 group-returns-2 t c = as-inside ((c .before .before .before .before .before .before .before .before .before .before .before .before .before .before .before .before) .pre .1) ((c .before .before .before .before .before .before .before .before .before .before .before .inside) .ensures) ((c .before .before .before .before .before .before .before .before .before .before .closer-at) .ensures) ((c .before .before .before .before .function) .ensures) (body-inside ((c .before .before .before .before .before .before .before .before .before .before .before .before .before .before .before .before) .args .closing) ((c .before .before .before .before .before .before .before .before .before .match) .rest .1) ((c .before .before .before .before .before .before .before .before .if1) .left) ((c .before .before .before .before .before .before .before .if2) .taken))
 
--- src/lib.rt:97:1
 group-same-length-5 : (t : ℕ) → group-lts.Need-same-length-5 (group-claims t) (group-at t) group.Post
-group-same-length-5 t c = search needs
+group-same-length-5 t c = c .before .before .before .waiting3 .given
 
--- src/lib.rt:97:1
 group-same-length-6 : (t : ℕ) → group-lts.Need-same-length-6 (group-claims t) (group-at t) group.Post
-group-same-length-6 t c = search needs
+group-same-length-6 t c = c .before .syntax3 .given
 
--- src/lib.rt:97:1
 group-returns-3 : (t : ℕ) → group-lts.Need-returns-3 (group-claims t) (group-at t) group.Post
 group-returns-3 t c = as-inside ((c .before .before .before .before .before .before .before .before .before .before .before .before .before .before .before) .pre .1) ((c .before .before .before .before .before .before .before .before .before .before .inside) .ensures) ((c .before .before .before .before .before .before .before .before .before .closer-at) .ensures) ((c .before .before .before .before .expression) .ensures) refl
 
@@ -251,207 +211,156 @@ turn t c = record {
   steps = c .row .ensures;
 }
 
--- src/lib.rt:38:9
 level-empty-requires : (t : ℕ) → level-lts.Need-empty-requires (level-claims t) (level-at t) level.Post level-Inv-loop level-μ-loop
-level-empty-requires t c κs = search needs
+level-empty-requires t c κs = tt
 
--- src/lib.rt:40:5
 level-loop-holds : (t : ℕ) → level-lts.Need-loop-holds (level-claims t) (level-at t) level.Post level-Inv-loop level-μ-loop
 level-loop-holds t c = (refl, refl, starts-underway ((c .before .before .before .before .before) .pre .1 .0) ((c .before .before .before .before .before) .pre .1 .1) ((c .empty) .ensures .0) ((c .empty) .ensures .1) ((c .empty) .ensures .2) ((c .empty) .ensures .3) ((c .empty) .ensures .4))
 
--- src/lib.rt:41:13
 level-class-at-requires : (t : ℕ) → level-lts.Need-class-at-requires (level-claims t) (level-at t) level.Post level-Inv-loop level-μ-loop
-level-class-at-requires t c κs = search needs
+level-class-at-requires t c κs = tt
 
--- src/lib.rt:42:13
 level-line-at-requires : (t : ℕ) → level-lts.Need-line-at-requires (level-claims t) (level-at t) level.Post level-Inv-loop level-μ-loop
-level-line-at-requires t c κs = search needs
+level-line-at-requires t c κs = tt
 
--- src/lib.rt:43:13
 level-ready-requires : (t : ℕ) → level-lts.Need-ready-requires (level-claims t) (level-at t) level.Post level-Inv-loop level-μ-loop
 level-ready-requires t c κs = search needs
 
--- src/lib.rt:46:13
 level-row-requires : (t : ℕ) → level-lts.Need-row-requires (level-claims t) (level-at t) level.Post level-Inv-loop level-μ-loop
-level-row-requires t c κs = search needs
+level-row-requires t c κs = tt
 
--- src/lib.rt:49:36
 level-enum-told : (t : ℕ) → level-lts.Need-enum-told (level-claims t) (level-at t) level.Post level-Inv-loop level-μ-loop
 level-enum-told t c = search needs
 
--- src/lib.rt:49:36
 level-place-at-requires : (t : ℕ) → level-lts.Need-place-at-requires (level-claims t) (level-at t) level.Post level-Inv-loop level-μ-loop
-level-place-at-requires t c κs = search needs
+level-place-at-requires t c κs = tt
 
--- src/lib.rt:49:17
 level-same-length : (t : ℕ) → level-lts.Need-same-length (level-claims t) (level-at t) level.Post level-Inv-loop level-μ-loop
-level-same-length t c = search needs
+level-same-length t c = c .before .before .before .before .before .before .before .before .before .before .before .before .before .before .loop .inv .1
 
--- src/lib.rt:49:17
 level-same-length-2 : (t : ℕ) → level-lts.Need-same-length-2 (level-claims t) (level-at t) level.Post level-Inv-loop level-μ-loop
-level-same-length-2 t c = search needs
+level-same-length-2 t c = c .before .before .before .before .before .before .before .syntax .given ∙ c .before .before .before .before .before .before .before .before .before .before .before .before .before .before .loop .inv .0
 
--- src/lib.rt:49:17
 level-returns : (t : ℕ) → level-lts.Need-returns (level-claims t) (level-at t) level.Post level-Inv-loop level-μ-loop
 level-returns t c = fails (turn t (c .before .before .before)) ((c .before .enum-told) .given .1) ((c .place-at) .ensures)
 
--- src/lib.rt:51:24
 level-enum-known-step : (t : ℕ) → level-lts.Need-enum-known-step (level-claims t) (level-at t) level.Post level-Inv-loop level-μ-loop
 level-enum-known-step t c = search needs
 
--- src/lib.rt:52:50
 level-add-affect : (t : ℕ) → level-lts.Need-add-affect (level-claims t) (level-at t) level.Post level-Inv-loop level-μ-loop
 level-add-affect t c = omega (arith, (c .before .before .before .before .before .before .before .before .before .before .before .before .before .loop-test) .taken, (c .before .before .before .before .before .before .before .before .before .before .before .before .before .before .before .before .before .before .before .before) .pre .1 .0 .fine .few)
 
--- src/lib.rt:52:17
 level-affect-requires : (t : ℕ) → level-lts.Need-affect-requires (level-claims t) (level-at t) level.Post level-Inv-loop level-μ-loop
 level-affect-requires t c κs = may-affect (turn t (c .before .before .before .before .before)) ((c .before .before .before .step) .given .1)
 
--- src/lib.rt:54:22
 level-add-at : (t : ℕ) → level-lts.Need-add-at (level-claims t) (level-at t) level.Post level-Inv-loop level-μ-loop
 level-add-at t c = omega (arith, (c .before .before .before .before .before .before .before .before .before .before .before .before .before .before .before .before .before .before .before .before .loop-test) .taken, (c .before .before .before .before .before .before .before .before .before .before .before .before .before .before .before .before .before .before .before .before .before .before .before .before .before .before .before) .pre .1 .0 .fine .few)
 
--- src/lib.rt:40:5
 level-loop-less : (t : ℕ) → level-lts.Need-loop-less (level-claims t) (level-at t) level.Post level-Inv-loop level-μ-loop
 level-loop-less t c = search needs
 
--- src/lib.rt:40:5
 level-loop-again : (t : ℕ) → level-lts.Need-loop-again (level-claims t) (level-at t) level.Post level-Inv-loop level-μ-loop
 level-loop-again t c = ((c .before .syntax2) .given ∙ (c .before .before .before .before .before .before .before .before .before .before .before .before .before .before .syntax) .given ∙ (c .before .before .before .before .before .before .before .before .before .before .before .before .before .before .before .before .before .before .before .before .before .loop) .inv .0, (c .before .before .before .waiting) .given ∙ (c .before .before .before .before .before .before .before .before .before .before .before .before .before .before .before .before .before .before .before .before .before .loop) .inv .1, affected (turn t (c .before .before .before .before .before .before .before .before .before .before)) ((c .before .before .before .before .before .before .before .before .step) .given .1) ((c .before .before .before .before .affect) .ensures) ((c .before .before .before .waiting) .given))
 
--- src/lib.rt:56:25
 level-enum-known-step-2 : (t : ℕ) → level-lts.Need-enum-known-step-2 (level-claims t) (level-at t) level.Post level-Inv-loop level-μ-loop
 level-enum-known-step-2 t c = search needs
 
--- src/lib.rt:57:53
 level-add-entered : (t : ℕ) → level-lts.Need-add-entered (level-claims t) (level-at t) level.Post level-Inv-loop level-μ-loop
 level-add-entered t c = omega (arith, (c .before .before .before .before .before .before .before .before .before .before .before .before .before .loop-test) .taken, (c .before .before .before .before .before .before .before .before .before .before .before .before .before .before .before .before .before .before .before .before) .pre .1 .0 .fine .few)
 
--- src/lib.rt:57:17
 level-entered-requires : (t : ℕ) → level-lts.Need-entered-requires (level-claims t) (level-at t) level.Post level-Inv-loop level-μ-loop
 level-entered-requires t c κs = may-enter (turn t (c .before .before .before .before .before)) ((c .before .before .before .step2) .given .1)
 
--- src/lib.rt:59:22
 level-add-at-2 : (t : ℕ) → level-lts.Need-add-at-2 (level-claims t) (level-at t) level.Post level-Inv-loop level-μ-loop
 level-add-at-2 t c = omega (arith, (c .before .before .before .before .before .before .before .before .before .before .before .before .before .before .before .before .before .before .loop-test) .taken, (c .before .before .before .before .before .before .before .before .before .before .before .before .before .before .before .before .before .before .before .before .before .before .before .before .before) .pre .1 .0 .fine .few)
 
--- src/lib.rt:40:5
 level-loop-less-2 : (t : ℕ) → level-lts.Need-loop-less-2 (level-claims t) (level-at t) level.Post level-Inv-loop level-μ-loop
 level-loop-less-2 t c = search needs
 
--- src/lib.rt:40:5
 level-loop-again-2 : (t : ℕ) → level-lts.Need-loop-again-2 (level-claims t) (level-at t) level.Post level-Inv-loop level-μ-loop
 level-loop-again-2 t c = ((c .before .before .before .before .before .before .before .before .before .before .before .before .syntax) .given ∙ (c .before .before .before .before .before .before .before .before .before .before .before .before .before .before .before .before .before .before .before .loop) .inv .0, (c .before .waiting2) .given ∙ (c .before .before .before .before .before .before .before .before .before .before .before .before .before .before .before .before .before .before .before .loop) .inv .1, entered (turn t (c .before .before .before .before .before .before .before .before)) ((c .before .before .before .before .before .before .step2) .given .1) ((c .before .before .entered) .ensures) ((c .before .waiting2) .given))
 
--- src/lib.rt:61:24
 level-enum-known-step-3 : (t : ℕ) → level-lts.Need-enum-known-step-3 (level-claims t) (level-at t) level.Post level-Inv-loop level-μ-loop
 level-enum-known-step-3 t c = search needs
 
--- src/lib.rt:67:21
 level-add-group : (t : ℕ) → level-lts.Need-add-group (level-claims t) (level-at t) level.Post level-Inv-loop level-μ-loop
 level-add-group t c = omega (arith, class-small (turn t (c .before .before .before)) ((c .before .step3) .given .1))
 
--- src/lib.rt:62:21
 level-group-requires : (t : ℕ) → level-lts.Need-group-requires (level-claims t) (level-at t) level.Post level-Inv-loop level-μ-loop
 level-group-requires t c κs = (omega (arith, (c .before .before .before .before .before .before .before .before .before .before .before .before .before .before .before .before .before .before .before .before .before .before) .pre .0), open-any (may-open (turn t (c .before .before .before .before .before)) ((c .before .before .before .step3) .given .1) refl refl))
 
--- src/lib.rt:75:33
 level-enum-known-inner : (t : ℕ) → level-lts.Need-enum-known-inner (level-claims t) (level-at t) level.Post level-Inv-loop level-μ-loop
 level-enum-known-inner t c = search needs
 
--- src/lib.rt:76:25
 level-same-length-3 : (t : ℕ) → level-lts.Need-same-length-3 (level-claims t) (level-at t) level.Post level-Inv-loop level-μ-loop
 level-same-length-3 t c = (c .before .before .before .before .before .before .waiting3) .given ∙ (c .before .before .before .before .before .before .before .before .before .before .before .before .before .before .before .before .before .before .before .before .before .before .before .before .loop) .inv .1
 
--- src/lib.rt:76:25
 level-same-length-4 : (t : ℕ) → level-lts.Need-same-length-4 (level-claims t) (level-at t) level.Post level-Inv-loop level-μ-loop
 level-same-length-4 t c = (c .before .before .before .before .syntax3) .given ∙ (c .before .before .before .before .before .before .before .before .before .before .before .before .before .before .before .before .before .syntax) .given ∙ (c .before .before .before .before .before .before .before .before .before .before .before .before .before .before .before .before .before .before .before .before .before .before .before .before .loop) .inv .0
 
--- src/lib.rt:76:25
 level-returns-2 : (t : ℕ) → level-lts.Need-returns-2 (level-claims t) (level-at t) level.Post level-Inv-loop level-μ-loop
 level-returns-2 t c = inner-dies (turn t (c .before .before .before .before .before .before .before .before .before .before .before .before .before)) ((c .before .before .before .before .before .before .before .before .before .before .before .step3) .given .1) ((c .before .before .before .before .before .before .before .group) .ensures) ((c .before .inner) .given .1)
 
--- src/lib.rt:78:34
 level-enum-known-inner-2 : (t : ℕ) → level-lts.Need-enum-known-inner-2 (level-claims t) (level-at t) level.Post level-Inv-loop level-μ-loop
 level-enum-known-inner-2 t c = search needs
 
--- src/lib.rt:79:51
 level-add-close : (t : ℕ) → level-lts.Need-add-close (level-claims t) (level-at t) level.Post level-Inv-loop level-μ-loop
 level-add-close t c = omega (arith, (c .before .before .before .before .before .before .before .before .before .before .before .before .before .before .before .before .before .before .before .before .before .before .before .loop-test) .taken, (c .before .before .before .before .before .before .before .before .before .before .before .before .before .before .before .before .before .before .before .before .before .before .before .before .before .before .before .before .before .before) .pre .1 .0 .fine .few)
 
--- src/lib.rt:79:25
 level-close-requires : (t : ℕ) → level-lts.Need-close-requires (level-claims t) (level-at t) level.Post level-Inv-loop level-μ-loop
 level-close-requires t c κs = may-close (turn t (c .before .before .before .before .before .before .before .before .before .before .before .before .before .before .before)) ((c .before .before .before .before .before .before .before .before .before .before .before .before .before .step3) .given .1) ((c .before .before .before .before .before .before .before .before .before .group) .ensures) ((c .before .before .before .inner2) .given .1)
 
--- src/lib.rt:81:35
 level-size-at-requires : (t : ℕ) → level-lts.Need-size-at-requires (level-claims t) (level-at t) level.Post level-Inv-loop level-μ-loop
-level-size-at-requires t c κs = search needs
+level-size-at-requires t c κs = tt
 
--- src/lib.rt:81:30
 level-add-at-3 : (t : ℕ) → level-lts.Need-add-at-3 (level-claims t) (level-at t) level.Post level-Inv-loop level-μ-loop
 level-add-at-3 t c = omega (arith, (c .size-at) .ensures, (c .before .before .before .before .before .before .before .before .before .before .before .before .before .before .before .before .before .before .before .before .before .before .before .before .before .before .before .before .before .before .before .before .before .before .before .before .before .before) .pre .1 .0 .fine .at ((c .before .before .before .before .before .before .before .before .before .before .before .before .before .before .before .before .before .before .before .before .before .before .before .before .before .before .before .before .before .before .before .before .loop) .at) ((c .before .before .before .before .before .before .before .before .before .before .before .before .before .before .before .before .before .before .before .before .before .before .before .before .before .before .before .before .before .before .before .loop-test) .taken) .fits, (c .before .before .before .before .before .before .before .before .before .before .before .before .before .before .before .before .before .before .before .before .before .before .before .before .before .before .before .before .before .before .before .before .before .before .before .before .before .before) .pre .1 .0 .fine .few)
 
--- src/lib.rt:40:5
 level-loop-less-3 : (t : ℕ) → level-lts.Need-loop-less-3 (level-claims t) (level-at t) level.Post level-Inv-loop level-μ-loop
 level-loop-less-3 t c = omega (arith, (c .before .before .before .before .before .before .before .before .before .before .before .before .before .before .before .before .before .before .before .before .before .before .before .before .before .before .before .before .before .before .before .loop-test) .taken, (c .size-at) .ensures, (c .before .before .before .before .before .before .before .before .before .before .before .before .before .before .before .before .before .before .before .before .before .before .before .before .before .before .before .before .before .before .before .before .before .before .before .before .before .before) .pre .1 .0 .fine .at ((c .before .before .before .before .before .before .before .before .before .before .before .before .before .before .before .before .before .before .before .before .before .before .before .before .before .before .before .before .before .before .before .before .loop) .at) ((c .before .before .before .before .before .before .before .before .before .before .before .before .before .before .before .before .before .before .before .before .before .before .before .before .before .before .before .before .before .before .before .loop-test) .taken) .some)
 
--- src/lib.rt:40:5
 level-loop-again-3 : (t : ℕ) → level-lts.Need-loop-again-3 (level-claims t) (level-at t) level.Post level-Inv-loop level-μ-loop
 level-loop-again-3 t c = ((c .before .before .syntax4) .given ∙ (c .before .before .before .before .before .before .before .before .before .before .before .before .syntax3) .given ∙ (c .before .before .before .before .before .before .before .before .before .before .before .before .before .before .before .before .before .before .before .before .before .before .before .before .before .syntax) .given ∙ (c .before .before .before .before .before .before .before .before .before .before .before .before .before .before .before .before .before .before .before .before .before .before .before .before .before .before .before .before .before .before .before .before .loop) .inv .0, (c .before .before .before .before .waiting4) .given ∙ (c .before .before .before .before .before .before .before .before .before .before .before .before .before .before .waiting3) .given ∙ (c .before .before .before .before .before .before .before .before .before .before .before .before .before .before .before .before .before .before .before .before .before .before .before .before .before .before .before .before .before .before .before .before .loop) .inv .1, rw ((c .size-at) .ensures) (closed (turn t (c .before .before .before .before .before .before .before .before .before .before .before .before .before .before .before .before .before .before .before .before .before)) ((c .before .before .before .before .before .before .before .before .before .before .before .before .before .before .before .before .before .before .before .step3) .given .1) ((c .before .before .before .before .before .before .before .before .before .before .before .before .before .before .before .group) .ensures) ((c .before .before .before .before .before .before .before .before .before .inner2) .given .1) ((c .before .before .before .before .before .close) .ensures) ((c .before .before .before .before .waiting4) .given)))
 
--- src/lib.rt:87:9
 level-ready-requires-2 : (t : ℕ) → level-lts.Need-ready-requires-2 (level-claims t) (level-at t) level.Post level-Inv-loop level-μ-loop
 level-ready-requires-2 t c κs = search needs
 
--- src/lib.rt:89:8
 level-ends-requires : (t : ℕ) → level-lts.Need-ends-requires (level-claims t) (level-at t) level.Post level-Inv-loop level-μ-loop
-level-ends-requires t c κs = search needs
+level-ends-requires t c κs = tt
 
--- src/lib.rt:91:29
 level-ended-requires : (t : ℕ) → level-lts.Need-ended-requires (level-claims t) (level-at t) level.Post level-Inv-loop level-μ-loop
 level-ended-requires t c κs = may-end (ready-at-end ((c .before .before .before .before .before .before .before .before .before .before .before .before .loop) .inv .2) ((c .before .before .before .before .before .before .before .before .before .before .before .loop-test) .left) ((c .before .before .before .before .before .before .before .before .before .before .before .before .before .before .before .before .before .before) .args .closer) ((c .before .before .before .before .before .before .before .before .ready2) .ensures))
 
--- src/lib.rt:91:9
 level-same-length-5 : (t : ℕ) → level-lts.Need-same-length-5 (level-claims t) (level-at t) level.Post level-Inv-loop level-μ-loop
 level-same-length-5 t c = search needs
 
--- src/lib.rt:91:9
 level-same-length-6 : (t : ℕ) → level-lts.Need-same-length-6 (level-claims t) (level-at t) level.Post level-Inv-loop level-μ-loop
 level-same-length-6 t c = search needs
 
--- src/lib.rt:91:9
 level-returns-3 : (t : ℕ) → level-lts.Need-returns-3 (level-claims t) (level-at t) level.Post level-Inv-loop level-μ-loop
 level-returns-3 t c = ends (ready-at-end ((c .before .before .before .before .before .before .before .before .before .before .before .before .before .before .before .loop) .inv .2) ((c .before .before .before .before .before .before .before .before .before .before .before .before .before .before .loop-test) .left) ((c .before .before .before .before .before .before .before .before .before .before .before .before .before .before .before .before .before .before .before .before .before) .args .closer) ((c .before .before .before .before .before .before .before .before .before .before .before .ready2) .ensures)) ((c .before .before .before .before .before .before .before .ends) .ensures (end-settled ((c .before .before .before .before .before .before .before .before .before .before .before .before .before .before .before .loop) .inv .2) ((c .before .before .before .before .before .before .before .before .before .before .before .before .before .before .before .before .before .before .before .before .before) .args .closer) ((c .before .before .before .before .before .before .before .before .before .before .before .ready2) .ensures)) ((c .before .before .before .before .before .before .before .before .before .before .before .before .before .before .before .before .before .before .before .before .before) .pre .1 .0 .closes)) ((c .before .before .before .before .before .before .if1) .taken) ((c .before .before .ended) .ensures)
 
--- src/lib.rt:21:1
 level-same-length-7 : (t : ℕ) → level-lts.Need-same-length-7 (level-claims t) (level-at t) level.Post level-Inv-loop level-μ-loop
-level-same-length-7 t c = search needs
+level-same-length-7 t c = c .before .before .before .before .before .before .before .before .before .loop .inv .1
 
--- src/lib.rt:21:1
 level-same-length-8 : (t : ℕ) → level-lts.Need-same-length-8 (level-claims t) (level-at t) level.Post level-Inv-loop level-μ-loop
-level-same-length-8 t c = search needs
+level-same-length-8 t c = c .before .before .before .before .syntax5 .given ∙ c .before .before .before .before .before .before .before .before .before .loop .inv .0
 
--- src/lib.rt:21:1
 level-returns-4 : (t : ℕ) → level-lts.Need-returns-4 (level-claims t) (level-at t) level.Post level-Inv-loop level-μ-loop
 level-returns-4 t c = dies (ready-at-end ((c .before .before .before .before .before .before .before .before .before .loop) .inv .2) ((c .before .before .before .before .before .before .before .before .loop-test) .left) ((c .before .before .before .before .before .before .before .before .before .before .before .before .before .before .before) .args .closer) ((c .before .before .before .before .before .ready2) .ensures)) ((c .before .ends) .ensures (end-settled ((c .before .before .before .before .before .before .before .before .before .loop) .inv .2) ((c .before .before .before .before .before .before .before .before .before .before .before .before .before .before .before) .args .closer) ((c .before .before .before .before .before .ready2) .ensures)) ((c .before .before .before .before .before .before .before .before .before .before .before .before .before .before .before) .pre .1 .0 .closes)) ((c .if1) .left)
 
--- src/lib.rt:169:9
 statements-stand-requires : (t : ℕ) → statements-lts.Need-stand-requires (statements-claims t) (statements-at t) statements.Post
-statements-stand-requires t c κs = search needs
+statements-stand-requires t c κs = tt
 
--- src/lib.rt:175:5
 statements-level-requires : (t : ℕ) → statements-lts.Need-level-requires (statements-claims t) (statements-at t) statements.Post
 statements-level-requires t c κs = (omega (arith, (c .before .before .before .before .before .before .before) .pre .0), ((c .before .before .before .before .before .before .before) .pre .1 .0, begins-scope ((c .before .before .before .before .before .before .before) .args .scope) ((c .before .before .before .before .before .before .before) .pre .1 .1) ((c .before .before .stand) .ensures)))
 
--- src/lib.rt:154:1
 statements-same-length : (t : ℕ) → statements-lts.Need-same-length (statements-claims t) (statements-at t) statements.Post
-statements-same-length t c = search needs
+statements-same-length t c = c .before .before .before .waiting .given
 
--- src/lib.rt:154:1
 statements-same-length-2 : (t : ℕ) → statements-lts.Need-same-length-2 (statements-claims t) (statements-at t) statements.Post
-statements-same-length-2 t c = search needs
+statements-same-length-2 t c = c .before .syntax .given
 
--- src/lib.rt:154:1
 statements-returns : (t : ℕ) → statements-lts.Need-returns (statements-claims t) (statements-at t) statements.Post
 statements-returns t c = ran-as ((c .before .before .before .before .level) .ensures) (statements-start ((c .before .before .before .before .before .before .before .before .before .before .before .before) .args .scope) ((c .before .before .before .before .before .before .before .stand) .ensures))
 
@@ -494,14 +403,10 @@ pub +expression+function+group+level+statements-spec : {M : Type 1} → statemen
     group.Post
     (group-inside-requires t)
     (group-closer-at-requires t)
-    (group-add-statements t)
-    (group-add-statements-2 t)
+    (group-add-first t)
+    (group-add-first-2 t)
     (group-statements-requires t)
-    (group-add-function t)
-    (group-add-function-2 t)
     (group-function-requires t)
-    (group-add-expression t)
-    (group-add-expression-2 t)
     (group-expression-requires t)
     (group-same-length t)
     (group-same-length-2 t)

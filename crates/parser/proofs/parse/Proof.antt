@@ -1,3 +1,4 @@
+-- A reading that is refused answers; one that is accepted is judged over the records in front of the table.
 use borrow.Author.Needs.{needs}
 use Rattle.parser.proofs.parse.Statement.{statement}
 use Rattle.parser.proofs.parse.Tie as tie
@@ -6,102 +7,80 @@ use native.Mathlib.Omega.{arith}
 use lib.ListN.{replicate}
 use Rattle.parser.proofs.JudgedLaws.{read-done, front-fine, answers-refused, not-read, judged-refused, judged-accepted}
 
--- src/lib.rt:71:9
 read-requires : tie.Need-read-requires
 read-requires c κs = search needs
 
--- src/lib.rt:73:25
 enum-known-read : tie.Need-enum-known-read
 enum-known-read c = search needs
 
--- src/lib.rt:74:13
 clear-requires : tie.Need-clear-requires
 clear-requires c κs = search needs
 
--- src/lib.rt:77:26
 enum-known-read-2 : tie.Need-enum-known-read-2
 enum-known-read-2 c = search needs
 
--- src/lib.rt:78:50
 mul-program-of : tie.Need-mul-program-of
 mul-program-of c =
     let d = read-done _ ((c .before .before .before .before .before .before .before .before .before .before .args) .trees .now) _ _ _ (c .before .before .before .before .before .read .ensures .0) (c .before .before .before .before .before .read .ensures .1) (c .before .read3 .given .1) in
     omega (arith, d .few)
 
--- src/lib.rt:78:40
 sub-program-of : tie.Need-sub-program-of
 sub-program-of c = search needs
 
--- src/lib.rt:78:40
 part-program-of-start : tie.Need-part-program-of-start
 part-program-of-start c = search needs
 
--- src/lib.rt:78:40
 part-program-of-end : tie.Need-part-program-of-end
 part-program-of-end c =
     let d = read-done _ ((c .before .before .before .before .before .before .before .before .before .before .before .args) .trees .now) _ _ _ (c .before .before .before .before .before .before .read .ensures .0) (c .before .before .before .before .before .before .read .ensures .1) (c .before .before .read3 .given .1) in
     omega (arith, d .within)
 
--- src/lib.rt:78:17
 program-of-requires : tie.Need-program-of-requires
 program-of-requires c κs =
     front-fine (read-done _ ((c .before .before .before .before .before .before .before .before .before .before .before .before .before .args) .trees .now) _ _ _ (c .before .before .before .before .before .before .before .before .read .ensures .0) (c .before .before .before .before .before .before .before .before .read .ensures .1) (c .before .before .before .before .read3 .given .1)) _
 
--- src/lib.rt:80:34
 enum-known-answer : tie.Need-enum-known-answer
 enum-known-answer c = search needs
 
--- src/lib.rt:81:33
 enum-known-answer-2 : tie.Need-enum-known-answer-2
 enum-known-answer-2 c = search needs
 
--- src/lib.rt:82:21
 clear-requires-2 : tie.Need-clear-requires-2
 clear-requires-2 c κs = search needs
 
--- src/lib.rt:83:21
 clear-requires-3 : tie.Need-clear-requires-3
 clear-requires-3 c κs = search needs
 
--- src/lib.rt:68:1
 same-length : tie.Need-same-length
 same-length c = search needs
 
--- src/lib.rt:68:1
 same-length-2 : tie.Need-same-length-2
 same-length-2 c = search needs
 
--- src/lib.rt:68:1
 returns : tie.Need-returns
 returns c =
     let a = c .before .before .before .before .before .before .before .before .before .before .before .before .before .before .args in
     let r = not-read (a .text .now) (a .trees .now) (a .syntax .now) (c .before .before .before .before .before .before .before .before .before .read .ensures .0) (c .before .before .before .before .before .before .before .before .before .read .ensures .1) (c .before .before .before .before .before .read2 .given .1) in
     answers-refused (a .text .now) (a .trees .now) (a .syntax .now) (r .0) (r .1) (c .before .before .clear .ensures)
 
--- src/lib.rt:68:1
 same-length-3 : tie.Need-same-length-3
 same-length-3 c = search needs
 
--- src/lib.rt:68:1
 same-length-4 : tie.Need-same-length-4
 same-length-4 c = search needs
 
--- src/lib.rt:68:1
 returns-2 : tie.Need-returns-2
 returns-2 c =
     let a = c .before .before .before .before .before .before .before .before .before .before .before .before .before .before .before .before .before .before .before .args in
     let d = read-done _ ((c .before .before .before .before .before .before .before .before .before .before .before .before .before .before .before .before .before .before .before .args) .trees .now) _ _ _ (c .before .before .before .before .before .before .before .before .before .before .before .before .before .before .read .ensures .0) (c .before .before .before .before .before .before .before .before .before .before .before .before .before .before .read .ensures .1) (c .before .before .before .before .before .before .before .before .before .before .read3 .given .1) in
     judged-accepted (a .text .now) (a .trees .now) (a .syntax .now) d (c .before .before .before .before .before .program-of .ensures) (c .before .answer .given .1)
 
--- src/lib.rt:68:1
 same-length-5 : tie.Need-same-length-5
 same-length-5 c = search needs
 
--- src/lib.rt:68:1
 same-length-6 : tie.Need-same-length-6
 same-length-6 c = search needs
 
--- src/lib.rt:68:1
 returns-3 : tie.Need-returns-3
 returns-3 c =
     let a = c .before .before .before .before .before .before .before .before .before .before .before .before .before .before .before .before .before .before .before .before .before .before .before .before .before .before .before .args in
