@@ -5,10 +5,10 @@ use Prim.Native.Nat.{ℕ}
 use borrow.Author.Tests.{eqb-true}
 use lib.Dec.{T, eqb}
 use Rattle.grammar.specs.Tokens.{closeParen, closeBrace}
-use Rattle.grammar.specs.Machine.{endOfText, Control, Action, fail}
+use Rattle.grammar.specs.Machinery.Machine.{endOfText, Control, Action, fail}
 use Rattle.controls.specs.declared.Step.{Step}
 use Rattle.controls.specs.declared.Step.the-variants.{Fail}
-use Rattle.controls.specs.Steps.{isEnd, Means, means-end, means-fail}
+use Rattle.controls.specs.Machinery.Steps.{isEnd, Means, means-end, means-fail}
 
 -- what holds of the three closers holds of each class that ends a level
 pub at-closers : (P : ℕ → Type 0) → P closeParen → P closeBrace → P endOfText → (class : ℕ) → T (isEnd class) → P class

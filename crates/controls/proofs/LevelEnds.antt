@@ -5,7 +5,7 @@ use Prim.Native.Nat.{ℕ}
 use borrow.Author.Tests.{ne-eqb}
 use lib.Dec.{T, eqb}
 use Rattle.grammar.specs.Tokens.{closeParen, closeBrace}
-use Rattle.grammar.specs.Machine.{
+use Rattle.grammar.specs.Machinery.Machine.{
   endOfText,
   Setting,
   Ending,
@@ -29,8 +29,8 @@ use Rattle.grammar.specs.Machine.{
   look,
   row,
 }
-use Rattle.controls.specs.Numbers.{settingBy, endingBy, controlBy}
-use Rattle.controls.specs.Steps.{isEnd, Ends, goes-on}
+use Rattle.controls.specs.Machinery.Numbers.{settingBy, endingBy, controlBy}
+use Rattle.controls.specs.Machinery.Steps.{isEnd, Ends, goes-on}
 use Rattle.controls.proofs.EndLaws.{at-closers}
 
 abbrev pub GoesOn : ℕ → Control → Type 0

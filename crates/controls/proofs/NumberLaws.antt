@@ -6,8 +6,8 @@ use native.Mathlib.Omega.{arith}
 use borrow.Author.Tests.{eq-eqb, ne-eqb, eqb-false}
 use lib.Dec.{T, eqb, ltb, ltb→lt}
 use Rattle.grammar.specs.Grammar.{body, block}
-use Rattle.grammar.specs.Machine.{ifNest, among, inNest, byStatement, byReturn, byParen, byBrace, finished}
-use Rattle.controls.specs.Numbers.{settingBy, endingBy, controlBy}
+use Rattle.grammar.specs.Machinery.Machine.{ifNest, among, inNest, byStatement, byReturn, byParen, byBrace, finished}
+use Rattle.controls.specs.Machinery.Numbers.{settingBy, endingBy, controlBy}
 
 -- numbers that are passed one by one
 pub beyond : (k n : ℕ) → k ≤ n → (n ≡ k → ⊥) → k + 1 ≤ n

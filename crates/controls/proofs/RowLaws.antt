@@ -9,7 +9,7 @@ use lib.Dec.{T, eqb, leb, ltb, leb→le, ltb→lt}
 use Rattle.text.proofs.Range.{and-left, and-right}
 use Rattle.grammar.specs.Tokens.{name, assign, colon, semicolon, dot, openParen, openBrace, returnWord, functionWord, ifWord}
 use Rattle.grammar.specs.Grammar.{body, block, Operator, operator, operators, precedenceAmong, precedence}
-use Rattle.grammar.specs.Machine.{
+use Rattle.grammar.specs.Machinery.Machine.{
   ifNest,
   Setting,
   among,
@@ -42,7 +42,7 @@ use Rattle.grammar.specs.Machine.{
   row,
 }
 use Rattle.controls.specs.declared.Step.{Step}
-use Rattle.controls.specs.Steps.{isLeaf, isSingle, Means}
+use Rattle.controls.specs.Machinery.Steps.{isLeaf, isSingle, Means}
 use Rattle.controls.proofs.EndLaws.{NoCloser, at-closers, besides-closers}
 
 leaf-few : (class : ℕ) → isLeaf class ≡ true → (1 ≤ class) × (class ≤ 4)
@@ -81,9 +81,9 @@ module _ {class : ℕ} (no-name : class ≡ name → ⊥) (no-if : class ≡ ifW
   only-leaves : (ending : Ending) (target : Bool) → look class (operand ending target) ≡ look class (leaves ending target [])
   only-leaves ending target = simp (ne-eqb class name no-name, ne-eqb class openBrace no-block, ne-eqb class functionWord no-function)
 
-  statement-leaves : (must : Bool) (setting : Setting) (line : Bool)
-      → look class (row (statementDue must setting) line) ≡ look class (leaves (byStatement setting) true (noStatement must setting))
-  statement-leaves must setting line =
+  statement-leaves : (must : Bool) (setting : Setting) (newline : Bool)
+      → look class (row (statementDue must setting) newline) ≡ look class (leaves (byStatement setting) true (noStatement must setting))
+  statement-leaves must setting newline =
       simp (ne-eqb class name no-name, ne-eqb class openBrace no-block, ne-eqb class ifWord no-if, ne-eqb class returnWord no-return)
 
   nothing-else : (must : Bool) (setting : Setting) → NoCloser class → look class (noStatement must setting) ≡ fail
@@ -92,11 +92,11 @@ module _ {class : ℕ} (no-name : class ≡ name → ⊥) (no-if : class ≡ ifW
   nothing-else false (among block) h = rw (h .no-brace)
   nothing-else false (inNest nest) h = refl
 
-  pub statement-operand : {from : Control} {step : Step} (must : Bool) (setting : Setting) (line : Bool)
+  pub statement-operand : {from : Control} {step : Step} (must : Bool) (setting : Setting) (newline : Bool)
       → Means from class step (look class (operand (byStatement setting) true))
-      → Means from class step (look class (row (statementDue must setting) line))
-  statement-operand must setting line m =
-      rw (statement-leaves must setting line)
+      → Means from class step (look class (row (statementDue must setting) newline))
+  statement-operand must setting newline m =
+      rw (statement-leaves must setting newline)
       (besides-closers (rw (only-leaves (byStatement setting) true) at m)
       (at-closers (λ (k : ℕ). look k (leaves (byStatement setting) true []) ≡ fail) refl refl refl class)
       (λ h. rw (nothing-else must setting h)))
@@ -107,9 +107,9 @@ function-nowhere true = refl
 function-nowhere false = refl
 
 -- a name that is held, before `:`
-pub label-row : (class : ℕ) (setting : Setting) (line : Bool) → class ≡ colon
-    → look class (row (nameFirst setting) line) ≡ look class (on colon (goto (statementDue true setting) takeLabel) ∷ [])
-label-row class setting line e = rw e
+pub label-row : (class : ℕ) (setting : Setting) (newline : Bool) → class ≡ colon
+    → look class (row (nameFirst setting) newline) ≡ look class (on colon (goto (statementDue true setting) takeLabel) ∷ [])
+label-row class setting newline e = rw e
 
 -- `;` ends no group
 pub semicolon-group : (b : Bool) → look semicolon (endingEntry (cond b byParen byBrace) ∷ []) ≡ fail

@@ -3,12 +3,12 @@ use mathlib.Core.Path.{_≡_, subst}
 use mathlib.Core.List.{[], _∷_}
 use Prim.Native.Nat.{ℕ}
 use lib.Dec.{T}
-use Rattle.grammar.specs.Machine.{Control, goto, push, on, look}
-use Rattle.controls.specs.Numbers.{controlBy, controlOf, effectBy, closingBy, insideBy}
+use Rattle.grammar.specs.Machinery.Machine.{Control, goto, push, on, look}
+use Rattle.controls.specs.Machinery.Numbers.{controlBy, controlOf, effectBy, closingBy, insideBy}
 use Rattle.controls.specs.declared.Control as code
 use Rattle.controls.specs.declared.Step.{Step}
 use Rattle.controls.specs.declared.Step.the-variants.{Goto, Push}
-use Rattle.controls.specs.Steps.{isSingle, isOpener, Leads, Spans, Means, means-goto, means-push}
+use Rattle.controls.specs.Machinery.Steps.{isSingle, isOpener, Leads, Spans, Means, means-goto, means-push}
 
 -- where the code stands, by the number of its place
 pub at-place : (at : code.Control) (place : ℕ) → at .place ≡ place → controlOf at ≡ controlBy place (at .ending) (at .setting) (at .flag)

@@ -1,7 +1,7 @@
 // Classes of tokens: those that make a part by themselves have the kind of that part, the others numbers from 128 up.
 ghost use mathlib.Core.Path.{_≡_};
 ghost use Rattle.grammar.specs.Grammar.{precedence};
-ghost use Rattle.controls.specs.Steps.{isLeaf};
+ghost use Rattle.controls.specs.Machinery.Steps.{isLeaf};
 
 pub const NAME: u32 = 1;
 

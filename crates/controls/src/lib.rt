@@ -6,9 +6,9 @@ ghost use mathlib.Core.List.{[], _∷_};
 ghost use Prim.Native.Nat.{_≤_};
 ghost use lib.Dec.{T};
 ghost use Rattle.grammar.specs.Tokens.{semicolon, functionWord};
-ghost use Rattle.grammar.specs.Machine.{behindStatement, statementDue, returnFirst, operandDue, operandDone, on, goto, push, look, operand, noStatement, endingEntry, afterOperand, row};
-ghost use Rattle.controls.specs.Numbers.{settingBy, endingBy, controlBy, controlOf, effectBy, closingBy, insideBy};
-ghost use Rattle.controls.specs.Steps.{isOpener, isEnd, isSingle, Due, Leads, Spans, Means, Settled, Ends};
+ghost use Rattle.grammar.specs.Machinery.Machine.{behindStatement, statementDue, returnFirst, operandDue, operandDone, on, goto, push, look, operand, noStatement, endingEntry, afterOperand, row};
+ghost use Rattle.controls.specs.Machinery.Numbers.{settingBy, endingBy, controlBy, controlOf, effectBy, closingBy, insideBy};
+ghost use Rattle.controls.specs.Machinery.Steps.{isOpener, isEnd, isSingle, Due, Leads, Spans, Means, Settled, Ends};
 
 pub mod classes;
 
@@ -157,7 +157,7 @@ fn setting_number(setting: u32) -> u32
 
 // Where an operand is due, and may be assigned to or not.
 fn operand_row(class: u32, ending: u32, setting: u32, target: bool) -> Step
-    ensures { λ r. ⌜ ((from : Rattle.grammar.specs.Machine.Control) → Due from (endingBy ending setting) target → Means from class r (look class (operand (endingBy ending setting) target))) ⌝ }
+    ensures { λ r. ⌜ ((from : Rattle.grammar.specs.Machinery.Machine.Control) → Due from (endingBy ending setting) target → Means from class r (look class (operand (endingBy ending setting) target))) ⌝ }
 {
     if classes::is_leaf(class) {
         return Step::Goto(stand(OPERAND_DONE, ending, setting, target), TAKE_LEAF);
@@ -227,7 +227,7 @@ fn declaration_row(setting: u32, must: bool) -> Step
 
 // Where a statement is due.
 fn statement_row(class: u32, setting: u32, must: bool) -> Step
-    ensures { λ r. ⌜ ((line : Bool) → Means (statementDue must (settingBy setting)) class r (look class (row (statementDue must (settingBy setting)) line))) ⌝ }
+    ensures { λ r. ⌜ ((newline : Bool) → Means (statementDue must (settingBy setting)) class r (look class (row (statementDue must (settingBy setting)) newline))) ⌝ }
 {
     if class == classes::NAME {
         return Step::Goto(stand(NAME_FIRST, BY_STATEMENT, setting, true), HOLD_NAME);
@@ -249,13 +249,13 @@ fn statement_row(class: u32, setting: u32, must: bool) -> Step
 }
 
 // Behind `return`.
-fn return_row(class: u32, setting: u32, line: bool) -> Step
-    ensures { λ r. ⌜ Means (returnFirst (settingBy setting)) class r (look class (row (returnFirst (settingBy setting)) line)) ⌝ }
+fn return_row(class: u32, setting: u32, newline: bool) -> Step
+    ensures { λ r. ⌜ Means (returnFirst (settingBy setting)) class r (look class (row (returnFirst (settingBy setting)) newline)) ⌝ }
 {
     if class == classes::SEMICOLON {
         return Step::Goto(behind_statement(setting), END_BARE_RETURN);
     }
-    if line {
+    if newline {
         return Step::Fail;
     }
     operand_row(class, BY_RETURN, setting, true)
@@ -263,7 +263,7 @@ fn return_row(class: u32, setting: u32, line: bool) -> Step
 
 // One class goes on, and no other.
 fn only(class: u32, one: u32, next: Control, effect: u32) -> Step
-    ensures { λ r. ⌜ ((from : Rattle.grammar.specs.Machine.Control) → T (isSingle one) → Leads (effectBy effect one) from (controlOf next) → Means from class r (look class (on one (goto (controlOf next) (effectBy effect one)) ∷ []))) ⌝ }
+    ensures { λ r. ⌜ ((from : Rattle.grammar.specs.Machinery.Machine.Control) → T (isSingle one) → Leads (effectBy effect one) from (controlOf next) → Means from class r (look class (on one (goto (controlOf next) (effectBy effect one)) ∷ []))) ⌝ }
 {
     if class == one {
         return Step::Goto(next, effect);
@@ -273,7 +273,7 @@ fn only(class: u32, one: u32, next: Control, effect: u32) -> Step
 
 // One class opens a group, and no other does anything.
 fn opens(class: u32, one: u32, behind: Control, closing: u32) -> Step
-    ensures { λ r. ⌜ ((from : Rattle.grammar.specs.Machine.Control) → T (isOpener one) → Spans (closingBy closing) from (controlOf behind) → Means from class r (look class (on one (push (insideBy closing) (controlOf behind) (closingBy closing)) ∷ []))) ⌝ }
+    ensures { λ r. ⌜ ((from : Rattle.grammar.specs.Machinery.Machine.Control) → T (isOpener one) → Spans (closingBy closing) from (controlOf behind) → Means from class r (look class (on one (push (insideBy closing) (controlOf behind) (closingBy closing)) ∷ []))) ⌝ }
 {
     if class == one {
         return Step::Push(behind, closing);
@@ -283,23 +283,20 @@ fn opens(class: u32, one: u32, behind: Control, closing: u32) -> Step
 
 // The places inside a form whose next token is settled.
 fn form_row(at: Control, class: u32) -> Step
-    ensures { λ r. ⌜ (4 ≤ at .place → Settled at class → (line : Bool) → Means (controlOf at) class r (look class (row (controlOf at) line))) ⌝ }
+    ensures { λ r. ⌜ (4 ≤ at .place → Settled at class → (newline : Bool) → Means (controlOf at) class r (look class (row (controlOf at) newline))) ⌝ }
 {
     let place = at.place;
-    let ending = at.ending;
-    let setting = at.setting;
-    let flag = at.flag;
     match place {
         DOT_LAST => only(
             class,
             classes::NAME,
-            stand(OPERAND_DONE, ending, setting, flag),
+            stand(OPERAND_DONE, at.ending, at.setting, at.flag),
             TAKE_MEMBER,
         ),
         NAME_FIRST => only(
             class,
             classes::COLON,
-            stand(STATEMENT_DUE, BY_STATEMENT, setting, true),
+            stand(STATEMENT_DUE, BY_STATEMENT, at.setting, true),
             TAKE_LABEL,
         ),
         IF_FIRST => opens(
@@ -311,19 +308,19 @@ fn form_row(at: Control, class: u32) -> Step
         OBJECT_OPENED => only(
             class,
             classes::NAME,
-            stand(PROPERTY_NAMED, BY_BRACE, setting, true),
+            stand(PROPERTY_NAMED, BY_BRACE, at.setting, true),
             KEEP,
         ),
         PROPERTY_NAMED => only(
             class,
             classes::COLON,
-            stand(OPERAND_DUE, BY_BRACE, setting, true),
+            stand(OPERAND_DUE, BY_BRACE, at.setting, true),
             KEEP,
         ),
         PARAMETER_DUE => only(
             class,
             classes::NAME,
-            stand(PARAMETER_NAMED, ending, setting, flag),
+            stand(PARAMETER_NAMED, at.ending, at.setting, at.flag),
             KEEP,
         ),
         PARAMETER_NAMED => Step::Fail,
@@ -334,41 +331,38 @@ fn form_row(at: Control, class: u32) -> Step
 
 // The places of a function, declared or an operand.
 fn function_row(at: Control, class: u32) -> Step
-    ensures { λ r. ⌜ (12 ≤ at .place → (line : Bool) → Means (controlOf at) class r (look class (row (controlOf at) line))) ⌝ }
+    ensures { λ r. ⌜ (12 ≤ at .place → (newline : Bool) → Means (controlOf at) class r (look class (row (controlOf at) newline))) ⌝ }
 {
     let place = at.place;
-    let ending = at.ending;
-    let setting = at.setting;
-    let flag = at.flag;
     match place {
         FUNCTION_FIRST => only(
             class,
             classes::NAME,
-            stand(FUNCTION_NAMED, ending, setting, flag),
+            stand(FUNCTION_NAMED, at.ending, at.setting, at.flag),
             KEEP,
         ),
         FUNCTION_NAMED => opens(
             class,
             classes::OPEN_PAREN,
-            stand(PARAMETER_PAST, ending, setting, flag),
+            stand(PARAMETER_PAST, at.ending, at.setting, at.flag),
             TO_PARAMETER,
         ),
         PARAMETER_PAST => opens(
             class,
             classes::OPEN_BRACE,
-            stand(OPERAND_DONE, ending, setting, flag),
+            stand(OPERAND_DONE, at.ending, at.setting, at.flag),
             TO_FUNCTION,
         ),
         DECLARED_FIRST => only(
             class,
             classes::NAME,
-            stand(DECLARED_NAMED, ending, setting, flag),
+            stand(DECLARED_NAMED, at.ending, at.setting, at.flag),
             KEEP,
         ),
         DECLARED_NAMED => opens(
             class,
             classes::OPEN_PAREN,
-            stand(DECLARED_PAST, ending, setting, flag),
+            stand(DECLARED_PAST, at.ending, at.setting, at.flag),
             TO_PARAMETER,
         ),
         DECLARED_PAST => opens(
@@ -382,15 +376,15 @@ fn function_row(at: Control, class: u32) -> Step
 }
 
 // The machine's table, for a token that a record makes.
-pub fn row(at: Control, class: u32, line: bool) -> Step
-    ensures { λ r. ⌜ (Settled at class → Means (controlOf at) class r (look class (row (controlOf at) line))) ⌝ }
+pub fn row(at: Control, class: u32, newline: bool) -> Step
+    ensures { λ r. ⌜ (Settled at class → Means (controlOf at) class r (look class (row (controlOf at) newline))) ⌝ }
 {
     let place = at.place;
     match place {
         STATEMENT_DUE => statement_row(class, at.setting, at.flag),
         OPERAND_DONE => operator_row(class, at.ending, at.setting, at.flag),
         OPERAND_DUE => operand_row(class, at.ending, at.setting, at.flag),
-        RETURN_FIRST => return_row(class, at.setting, line),
+        RETURN_FIRST => return_row(class, at.setting, newline),
         _ => form_row(at, class),
     }
 }

@@ -20,7 +20,7 @@ use Rattle.literals.specs.Numbers.{numberFrom}
 use Rattle.literals.specs.Strings.{quote, stringRest}
 use Rattle.literals.specs.Patterns.{patternRest}
 use Rattle.elements.specs.Elements.{
-  literal,
+  literalElement,
   named,
   delimiter,
   signOrStray,
@@ -45,49 +45,49 @@ use Rattle.gaps.proofs.GapLaws.{gap-past}
 use Rattle.elements.proofs.ElementLaws.{from-past}
 
 -- an element cut at `first` and within hi, behind a gap that has a line end or not
-pub record Cut (line : Bool) (first hi : ℕ) (e : Element) : Type 0 where
+pub record Cut (newline : Bool) (first hi : ℕ) (e : Element) : Type 0 where
   pub start : e .first ≡ first
-  pub flag : e .line ≡ line
+  pub flag : e .newline ≡ newline
   pub some : first < e .end
   pub within : e .end ≤ hi
 
 -- an element cut there, or a fault from there on
 abbrev pub NextIn : Bool → ℕ → ℕ → Next → Type 0
-NextIn line first hi Next.End = Unit
-NextIn line first hi (Next.Found e) = Cut line first hi e
-NextIn line first hi (Next.Fault number at) = Faulted first hi number at
+NextIn newline first hi Next.End = Unit
+NextIn newline first hi (Next.Found e) = Cut newline first hi e
+NextIn newline first hi (Next.Fault number at) = Faulted first hi number at
 
-module _ (line : Bool) (first hi b : ℕ) (s : List ℕ) (fits : first + 1 + length s ≡ hi) where
-  literal-in : (kind low : ℕ) → first ≤ low → (l : Literal) → LiteralIn first low hi l → NextIn line first hi (literal kind line first l)
+module _ (newline : Bool) (first hi b : ℕ) (s : List ℕ) (fits : first + 1 + length s ≡ hi) where
+  literal-in : (kind low : ℕ) → first ≤ low → (l : Literal) → LiteralIn first low hi l → NextIn newline first hi (literalElement kind newline first l)
   literal-in kind low h (Literal.Ends end) p = record { start = refl; flag = refl; some = omega arith; within = p .1 }
   literal-in kind low h (Literal.Fault number at) p = p
 
   cut : (n : ℕ) → 1 ≤ n → n ≤ 1 + length s → (kind which : ℕ)
-      → Cut line first hi (record { kind = kind; which = which; first = first; end = first + n; line = line })
+      → Cut newline first hi (record { kind = kind; which = which; first = first; end = first + n; newline = newline })
   cut n h k kind which = record { start = refl; flag = refl; some = omega arith; within = omega arith }
 
-  named-in : letter b ≡ true → NextIn line first hi (named line first (b ∷ s))
+  named-in : letter b ≡ true → NextIn newline first hi (named newline first (b ∷ s))
   unfolding named nameByte
   named-in l =
       let n = run nameByte (b ∷ s) in
       let h : 1 ≤ n = run-some nameByte b s (rw l) in
       let k : n ≤ 1 + length s = omega (arith, run-le nameByte (b ∷ s)) in
       let word = wordNumber (take n (b ∷ s)) in
-      cond-both (NextIn line first hi) (eqb word 0) (cut n h k nameKind 0)
-      (cond-both (NextIn line first hi) (taken word) (cut n h k wordKind word)
+      cond-both (NextIn newline first hi) (eqb word 0) (cut n h k nameKind 0)
+      (cond-both (NextIn newline first hi) (taken word) (cut n h k wordKind word)
       (omega arith))
 
-  sign-in : (l : Longest) → longestSign (b ∷ s) ≡ l → NextIn line first hi (signOrStray line first l)
+  sign-in : (l : Longest) → longestSign (b ∷ s) ≡ l → NextIn newline first hi (signOrStray newline first l)
   sign-in Longest.None e = omega arith
   sign-in (Longest.Sign number n legal) e =
       let f = longest-fits (b ∷ s) number n legal e in
-      cond-both (NextIn line first hi) legal
+      cond-both (NextIn newline first hi) legal
       (cut n (f .0) (omega arith) (cond (delimiter number) delimiterKind signKind) number) (omega arith)
 
-  cons-in : (pattern : Bool) → NextIn line first hi (elementFrom pattern line first (b ∷ s))
+  cons-in : (pattern : Bool) → NextIn newline first hi (elementFrom pattern newline first (b ∷ s))
   unfolding elementFrom
   cons-in pattern =
-      let P = NextIn line first hi in
+      let P = NextIn newline first hi in
       let low = first + 1 in
       let h : first < low = omega arith in
       cond-known P (letter b) named-in (λ x.
@@ -99,10 +99,10 @@ module _ (line : Bool) (first hi b : ℕ) (s : List ℕ) (fits : first + 1 + len
       (cond-both P (eqb b (byte ".") && digit (getD s 0 0)) (omega arith)
       (sign-in (longestSign (b ∷ s)) refl)))))
 
-pub from-in : (pattern line : Bool) (first hi : ℕ) (s : List ℕ) → first + length s ≡ hi → NextIn line first hi (elementFrom pattern line first s)
+pub from-in : (pattern newline : Bool) (first hi : ℕ) (s : List ℕ) → first + length s ≡ hi → NextIn newline first hi (elementFrom pattern newline first s)
 unfolding elementFrom
-from-in pattern line first hi [] e = tt
-from-in pattern line first hi (b ∷ s) e = cons-in line first hi b s (omega arith) pattern
+from-in pattern newline first hi [] e = tt
+from-in pattern newline first hi (b ∷ s) e = cons-in newline first hi b s (omega arith) pattern
 
 -- an element that was looked for from a place on
 pub record Placed (s : List ℕ) (place : ℕ) (e : Element) : Type 0 where
@@ -116,15 +116,15 @@ NextPlaced s place (Next.Found e) = Placed s place e
 NextPlaced s place (Next.Fault number at) = Faulted place (length s) number at
 
 module _ (s : List ℕ) (place : ℕ) (pattern : Bool) where
-  later : (line : Bool) (first : ℕ) → place ≤ first → (n : Next) → NextIn line first (length s) n → NextPlaced s place n
-  later line first h Next.End p = tt
-  later line first h (Next.Found e) p = record { from = omega arith; some = omega arith; within = p .within }
-  later line first h (Next.Fault number at) p = omega arith
+  later : (newline : Bool) (first : ℕ) → place ≤ first → (n : Next) → NextIn newline first (length s) n → NextPlaced s place n
+  later newline first h Next.End p = tt
+  later newline first h (Next.Found e) p = record { from = omega arith; some = omega arith; within = p .within }
+  later newline first h (Next.Fault number at) p = omega arith
 
   after-in : (g : Gap) → GapIn place place (length s) g → NextPlaced s place (afterGap s pattern g)
-  after-in (Gap.Ends first line) p =
-      later line first (p .0) (elementFrom pattern line first (drop first s))
-      (from-in pattern line first (length s) (drop first s) (omega (arith, length-drop first s)))
+  after-in (Gap.Ends first newline) p =
+      later newline first (p .0) (elementFrom pattern newline first (drop first s))
+      (from-in pattern newline first (length s) (drop first s) (omega (arith, length-drop first s)))
   after-in (Gap.Fault number at) p = p
 
   at-in : place ≤ length s → NextPlaced s place (elementAt s place pattern)

@@ -9,7 +9,7 @@ use Rattle.elements.specs.declared.Element.{Element}
 use Rattle.elements.specs.declared.Next.{Next}
 
 module _ {A : Type 0} {number at : ℕ} where
-  pub no-gap : {first : ℕ} {line : Bool} → Gap.Fault number at ≡ Gap.Ends first line → A
+  pub no-gap : {first : ℕ} {newline : Bool} → Gap.Fault number at ≡ Gap.Ends first newline → A
   no-gap e = absurd (let z : _≡_ {A = ℕ} 0 1 = cc in omega arith)
 
   pub no-literal : {end : ℕ} → Literal.Fault number at ≡ Literal.Ends end → A

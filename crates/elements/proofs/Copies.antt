@@ -22,7 +22,7 @@ use Rattle.literals.specs.Strings.{quote, stringRest}
 use Rattle.literals.specs.Patterns.{patternRest}
 use Rattle.elements.specs.Elements.{
   element,
-  literal,
+  literalElement,
   named,
   wordOrName,
   delimiter,
@@ -46,28 +46,28 @@ use Rattle.elements.proofs.Shifts.{no-digit, no-name, string-own, patte
 
 -- an element moved to another place, and behind another gap
 abbrev pub moved : ℕ → Bool → ℕ → Element → Next
-moved first line size e = element (e .kind) (e .which) line first (first + size)
+moved first newline size e = element (e .kind) (e .which) newline first (first + size)
 
 module _ (x : ℕ) (v : List ℕ) (separates : (blank x || lineEnd x) ≡ true) where
   -- an element of size k from `first` on, moved to `there`
-  module _ (e : Element) (first there k : ℕ) (line lined : Bool) (size : e .end ≡ first + k) where
-    same-size : (kind which end : ℕ) → element kind which line first end ≡ Next.Found e → end ≡ first + k
+  module _ (e : Element) (first there k : ℕ) (newline lined : Bool) (size : e .end ≡ first + k) where
+    same-size : (kind which end : ℕ) → element kind which newline first end ≡ Next.Found e → end ≡ first + k
     same-size kind which end f =
-        let p : record { kind = kind; which = which; first = first; end = end; line = line } ≡ e = cc in
+        let p : record { kind = kind; which = which; first = first; end = end; newline = newline } ≡ e = cc in
         ap (λ z. z .end) p ∙ size
 
-    found-own : (kind which end : ℕ) → element kind which line first end ≡ Next.Found e
+    found-own : (kind which end : ℕ) → element kind which newline first end ≡ Next.Found e
         → element kind which lined there (there + k) ≡ moved there lined k e
     found-own kind which end f =
-        let p : record { kind = kind; which = which; first = first; end = end; line = line } ≡ e = cc in
+        let p : record { kind = kind; which = which; first = first; end = end; newline = newline } ≡ e = cc in
         rw (← p)
 
     literal-own : (kind : ℕ) (l m : Literal) → (l ≡ Literal.Ends (first + k) → m ≡ Literal.Ends (there + k))
-        → literal kind line first l ≡ Next.Found e → literal kind lined there m ≡ moved there lined k e
+        → literalElement kind newline first l ≡ Next.Found e → literalElement kind lined there m ≡ moved there lined k e
     literal-own kind (Literal.Ends end) m g f = rw (g (ap Literal.Ends (same-size kind 0 end f))) (found-own kind 0 end f)
     literal-own kind (Literal.Fault number at) m g f = no-element f
 
-    word-own : (word n : ℕ) → wordOrName word line first n ≡ Next.Found e
+    word-own : (word n : ℕ) → wordOrName word newline first n ≡ Next.Found e
         → (n ≡ first + k) × (wordOrName word lined there (there + k) ≡ moved there lined k e)
     word-own word n f = (
       cond-both (λ z. z ≡ Next.Found e → n ≡ first + k) (eqb word 0) (same-size nameKind 0 n)
@@ -77,7 +77,7 @@ module _ (x : ℕ) (v : List ℕ) (separates : (blank x || lineEnd x) ≡ true) 
     )
 
     module _ (s : List ℕ) where
-      named-own : named line first s ≡ Next.Found e → named lined there (take k s ++ x ∷ v) ≡ moved there lined k e
+      named-own : named newline first s ≡ Next.Found e → named lined there (take k s ++ x ∷ v) ≡ moved there lined k e
       unfolding named
       named-own f =
           let n = run nameByte s in
@@ -87,7 +87,7 @@ module _ (x : ℕ) (v : List ℕ) (separates : (blank x || lineEnd x) ≡ true) 
           let h : k ≤ length s = omega (arith, run-le nameByte s) in
           rw (r, take-at (take k s) (x ∷ v) k (length-take-le k s h)) (rw q at (w .1))
 
-      sign-own : (l : Longest) → longestSign s ≡ l → signOrStray line first l ≡ Next.Found e
+      sign-own : (l : Longest) → longestSign s ≡ l → signOrStray newline first l ≡ Next.Found e
           → signOrStray lined there (longestSign (take k s ++ x ∷ v)) ≡ moved there lined k e
       sign-own Longest.None g f = no-element f
       sign-own (Longest.Sign number n legal) g f =
@@ -104,14 +104,14 @@ module _ (x : ℕ) (v : List ℕ) (separates : (blank x || lineEnd x) ≡ true) 
   second-own t [] (suc k) h e = absurd (omega arith)
   second-own t (b ∷ s) (suc k) h e = e
 
-  module _ (e : Element) (first there : ℕ) (pattern line lined : Bool) where
-    pub from-own : (s : List ℕ) (k : ℕ) → k ≤ length s → e .end ≡ first + k → elementFrom pattern line first s ≡ Next.Found e
+  module _ (e : Element) (first there : ℕ) (pattern newline lined : Bool) where
+    pub from-own : (s : List ℕ) (k : ℕ) → k ≤ length s → e .end ≡ first + k → elementFrom pattern newline first s ≡ Next.Found e
         → elementFrom pattern lined there (take k s ++ x ∷ v) ≡ moved there lined k e
     unfolding elementFrom
     from-own [] k h p f = absurd (let z : _≡_ {A = ℕ} 0 1 = cc in omega arith)
     from-own (b ∷ s) zero h p f =
         let hi = first + length (b ∷ s) in
-        let c : Cut line first hi e = rw f at (from-in pattern line first hi (b ∷ s) refl) in
+        let c : Cut newline first hi e = rw f at (from-in pattern newline first hi (b ∷ s) refl) in
         absurd (omega arith)
     from-own (b ∷ s) (suc k) h p f =
         let h₁ : k ≤ length s = omega arith in
@@ -120,20 +120,20 @@ module _ (x : ℕ) (v : List ℕ) (separates : (blank x || lineEnd x) ≡ true) 
         cond (eqb b (byte ".") && digit (getD rest 0 0)) (Next.Fault badNumber there) (signOrStray lined there (longestSign (b ∷ rest))) in
         let end = first + suc k in
         let ends = there + suc k in
-        cond-follow (letter b) (named-own e first there (suc k) line lined p (b ∷ s))
+        cond-follow (letter b) (named-own e first there (suc k) newline lined p (b ∷ s))
         (cond-follow (digit b)
-        (literal-own e first there (suc k) line lined p numberKind (numberFrom first (b ∷ s)) (numberFrom there (b ∷ rest))
+        (literal-own e first there (suc k) newline lined p numberKind (numberFrom first (b ∷ s)) (numberFrom there (b ∷ rest))
         (number-own x v separates end ends b s k first there h₁ refl refl))
         (cond-follow (quote b)
-        (literal-own e first there (suc k) line lined p stringKind
+        (literal-own e first there (suc k) newline lined p stringKind
         (stringRest b first false (first + 1) s) (stringRest b there false (there + 1) rest)
         (string-own x v separates end ends s k b first there (first + 1) (there + 1) false (omega arith) (omega arith) (omega arith)))
         (cond-follow (pattern && eqb b (byte "/"))
-        (literal-own e first there (suc k) line lined p patternKind
+        (literal-own e first there (suc k) newline lined p patternKind
         (patternRest first false false (first + 1) s) (patternRest there false false (there + 1) rest)
         (pattern-own x v separates end ends s k first there (first + 1) (there + 1) false false (omega arith) (omega arith) (omega arith)))
         (cond-known (λ z. z ≡ Next.Found e → dotOrSign ≡ moved there lined (suc k) e)
         (eqb b (byte ".") && digit (getD s 0 0)) (λ q. no-element)
         (λ q g.
         rw (second-own (eqb b (byte ".")) s k h₁ q)
-        (sign-own e first there (suc k) line lined p (b ∷ s) (longestSign (b ∷ s)) refl g)))))) f
+        (sign-own e first there (suc k) newline lined p (b ∷ s) (longestSign (b ∷ s)) refl g)))))) f

@@ -17,7 +17,7 @@ use Rattle.gaps.specs.Gaps.{gap}
 use Rattle.literals.specs.Numbers.{numberFrom}
 use Rattle.literals.specs.Strings.{quote, stringRest}
 use Rattle.literals.specs.Patterns.{patternRest}
-use Rattle.elements.specs.Elements.{literal, named, delimiter, signOrStray, elementFrom, afterGap, elementAt, delimiterKind, numberKind, stringKind, patternKind, signKind}
+use Rattle.elements.specs.Elements.{literalElement, named, delimiter, signOrStray, elementFrom, afterGap, elementAt, delimiterKind, numberKind, stringKind, patternKind, signKind}
 use Rattle.gaps.specs.declared.Gap.{Gap}
 use Rattle.literals.specs.declared.Literal.{Literal}
 use Rattle.elements.specs.declared.Element.{Element}
@@ -29,19 +29,19 @@ OneByte Next.End = Unit {0}
 OneByte (Next.Found e) = e .kind ≡ delimiterKind → (e .end ≡ e .first + 1) × (delimiter (e .which) ≡ true)
 OneByte (Next.Fault number at) = Unit {0}
 
-literal-byte : (kind : ℕ) → 0 < kind → (line : Bool) (first : ℕ) (l : Literal) → OneByte (literal kind line first l)
-literal-byte kind h line first (Literal.Ends end) = λ k. absurd (omega arith)
-literal-byte kind h line first (Literal.Fault number place) = tt
+literal-byte : (kind : ℕ) → 0 < kind → (newline : Bool) (first : ℕ) (l : Literal) → OneByte (literalElement kind newline first l)
+literal-byte kind h newline first (Literal.Ends end) = λ k. absurd (omega arith)
+literal-byte kind h newline first (Literal.Fault number place) = tt
 
-named-byte : (line : Bool) (first : ℕ) (s : List ℕ) → OneByte (named line first s)
+named-byte : (newline : Bool) (first : ℕ) (s : List ℕ) → OneByte (named newline first s)
 unfolding named
-named-byte line first s =
+named-byte newline first s =
     let word = wordNumber (take (run nameByte s) s) in
     cond-both OneByte (eqb word 0) (λ k. absurd (omega arith)) (cond-both OneByte (taken word) (λ k. absurd (omega arith)) tt)
 
-sign-byte : (line : Bool) (first : ℕ) (s : List ℕ) (l : Longest) → longestSign s ≡ l → OneByte (signOrStray line first l)
-sign-byte line first s Longest.None e = tt
-sign-byte line first s (Longest.Sign number n legal) e =
+sign-byte : (newline : Bool) (first : ℕ) (s : List ℕ) (l : Longest) → longestSign s ≡ l → OneByte (signOrStray newline first l)
+sign-byte newline first s Longest.None e = tt
+sign-byte newline first s (Longest.Sign number n legal) e =
     cond-known OneByte legal
     (λ allowed k. (ap (_+_ first) (legal-single s number n (e ∙ ap (Longest.Sign number n) allowed)), only (delimiter number) refl k))
     (λ refused. tt)
@@ -50,19 +50,19 @@ sign-byte line first s (Longest.Sign number n legal) e =
     only true d k = d
     only false d k = absurd (omega arith)
 
-from-byte : (pattern line : Bool) (first : ℕ) (s : List ℕ) → OneByte (elementFrom pattern line first s)
+from-byte : (pattern newline : Bool) (first : ℕ) (s : List ℕ) → OneByte (elementFrom pattern newline first s)
 unfolding elementFrom
-from-byte pattern line first [] = tt
-from-byte pattern line first (b ∷ s) =
-    cond-both OneByte (letter b) (named-byte line first (b ∷ s))
-    (cond-both OneByte (digit b) (literal-byte numberKind (omega arith) line first (numberFrom first (b ∷ s)))
-    (cond-both OneByte (quote b) (literal-byte stringKind (omega arith) line first (stringRest b first false (first + 1) s))
-    (cond-both OneByte (pattern && eqb b (byte "/")) (literal-byte patternKind (omega arith) line first (patternRest first false false (first + 1) s))
+from-byte pattern newline first [] = tt
+from-byte pattern newline first (b ∷ s) =
+    cond-both OneByte (letter b) (named-byte newline first (b ∷ s))
+    (cond-both OneByte (digit b) (literal-byte numberKind (omega arith) newline first (numberFrom first (b ∷ s)))
+    (cond-both OneByte (quote b) (literal-byte stringKind (omega arith) newline first (stringRest b first false (first + 1) s))
+    (cond-both OneByte (pattern && eqb b (byte "/")) (literal-byte patternKind (omega arith) newline first (patternRest first false false (first + 1) s))
     (cond-both OneByte (eqb b (byte ".") && digit (getD s 0 0)) tt
-    (sign-byte line first (b ∷ s) (longestSign (b ∷ s)) refl)))))
+    (sign-byte newline first (b ∷ s) (longestSign (b ∷ s)) refl)))))
 
 after-byte : (s : List ℕ) (pattern : Bool) (g : Gap) → OneByte (afterGap s pattern g)
-after-byte s pattern (Gap.Ends first line) = from-byte pattern line first (drop first s)
+after-byte s pattern (Gap.Ends first newline) = from-byte pattern newline first (drop first s)
 after-byte s pattern (Gap.Fault number place) = tt
 
 found-delimiter : (s : List ℕ) (place : ℕ) (pattern : Bool) (e : Element) → elementAt s place pattern ≡ Next.Found e

@@ -22,7 +22,7 @@ use Rattle.literals.specs.Strings.{quote, stringRest}
 use Rattle.literals.specs.Patterns.{patternRest}
 use Rattle.elements.specs.Elements.{
   element,
-  literal,
+  literalElement,
   named,
   wordOrName,
   delimiter,
@@ -39,40 +39,40 @@ use Rattle.elements.specs.Elements.{
 use Rattle.elements.specs.declared.Next.{Next}
 
 -- a name or word whose end and number are known
-module _ (line : Bool) (first end word : ℕ) (s : List ℕ) (e : end ≡ first + run nameByte s) (w : word ≡ wordNumber (take (end - first) s)) where
-  known : named line first s ≡ wordOrName word line first end
+module _ (newline : Bool) (first end word : ℕ) (s : List ℕ) (e : end ≡ first + run nameByte s) (w : word ≡ wordNumber (take (end - first) s)) where
+  known : named newline first s ≡ wordOrName word newline first end
   unfolding named
   known =
       let n : end - first ≡ run nameByte s = omega arith in
       rw (w, n, e)
 
-  pub named-name : word ≡ 0 → named line first s ≡ element nameKind 0 line first end
+  pub named-name : word ≡ 0 → named newline first s ≡ element nameKind 0 newline first end
   named-name z = known ∙ rw (eq-eqb word 0 z)
 
-  pub named-word : (word ≡ 0 → ⊥) → taken word ≡ true → named line first s ≡ element wordKind word line first end
+  pub named-word : (word ≡ 0 → ⊥) → taken word ≡ true → named newline first s ≡ element wordKind word newline first end
   named-word z t = known ∙ rw (ne-eqb word 0 z, t)
 
-  pub named-barred : (word ≡ 0 → ⊥) → taken word ≡ false → named line first s ≡ Next.Fault barredWord first
+  pub named-barred : (word ≡ 0 → ⊥) → taken word ≡ false → named newline first s ≡ Next.Fault barredWord first
   named-barred z t = known ∙ rw (ne-eqb word 0 z, t)
 
 -- a sign that is known
-module _ (line : Bool) (first : ℕ) (l : Longest) where
-  pub sign-stray : l ≡ Longest.None → signOrStray line first l ≡ Next.Fault stray first
-  sign-stray e = ap (signOrStray line first) e
+module _ (newline : Bool) (first : ℕ) (l : Longest) where
+  pub sign-stray : l ≡ Longest.None → signOrStray newline first l ≡ Next.Fault stray first
+  sign-stray e = ap (signOrStray newline first) e
 
   module _ (number n : ℕ) (legal : Bool) (e : l ≡ Longest.Sign number n legal) where
-    pub sign-barred : legal ≡ false → signOrStray line first l ≡ Next.Fault barredSign first
-    sign-barred f = ap (signOrStray line first) e ∙ rw f
+    pub sign-barred : legal ≡ false → signOrStray newline first l ≡ Next.Fault barredSign first
+    sign-barred f = ap (signOrStray newline first) e ∙ rw f
 
-    pub sign-delimiter : legal ≡ true → delimiter number ≡ true → signOrStray line first l ≡ element delimiterKind number line first (first + n)
-    sign-delimiter f d = ap (signOrStray line first) e ∙ rw (f, d)
+    pub sign-delimiter : legal ≡ true → delimiter number ≡ true → signOrStray newline first l ≡ element delimiterKind number newline first (first + n)
+    sign-delimiter f d = ap (signOrStray newline first) e ∙ rw (f, d)
 
-    pub sign-other : legal ≡ true → delimiter number ≡ false → signOrStray line first l ≡ element signKind number line first (first + n)
-    sign-other f d = ap (signOrStray line first) e ∙ rw (f, d)
+    pub sign-other : legal ≡ true → delimiter number ≡ false → signOrStray newline first l ≡ element signKind number newline first (first + n)
+    sign-other f d = ap (signOrStray newline first) e ∙ rw (f, d)
 
 -- the element whose first byte stands at i
-module _ (pattern line : Bool) (s : List ℕ) (i : ℕ) where
-  pub from-past : length s ≤ i → elementFrom pattern line i (drop i s) ≡ Next.End
+module _ (pattern newline : Bool) (s : List ℕ) (i : ℕ) where
+  pub from-past : length s ≤ i → elementFrom pattern newline i (drop i s) ≡ Next.End
   unfolding elementFrom
   from-past h = rw (drop-of-length-le s h)
 
@@ -81,35 +81,35 @@ module _ (pattern line : Bool) (s : List ℕ) (i : ℕ) where
     second : getD (drop (i + 1) s) 0 0 ≡ getD s (i + 1) 0
     second = getD-drop (i + 1) s 0 0 ∙ rw (add-zero (i + 1))
 
-    pub from-letter : letter (getD s i 0) ≡ true → elementFrom pattern line i (drop i s) ≡ named line i (drop i s)
+    pub from-letter : letter (getD s i 0) ≡ true → elementFrom pattern newline i (drop i s) ≡ named newline i (drop i s)
     unfolding elementFrom
     from-letter l = rw (drop-at s i h) (rw (l, elementFrom))
 
     module _ (l : letter (getD s i 0) ≡ false) where
-      pub from-digit : digit (getD s i 0) ≡ true → elementFrom pattern line i (drop i s) ≡ literal numberKind line i (numberFrom i (drop i s))
+      pub from-digit : digit (getD s i 0) ≡ true → elementFrom pattern newline i (drop i s) ≡ literalElement numberKind newline i (numberFrom i (drop i s))
       unfolding elementFrom
       from-digit d = rw (drop-at s i h) (rw (l, d, elementFrom))
 
       module _ (d : digit (getD s i 0) ≡ false) where
         pub from-quote : quote (getD s i 0) ≡ true
-            → elementFrom pattern line i (drop i s) ≡ literal stringKind line i (stringRest (getD s i 0) i false (i + 1) (drop (i + 1) s))
+            → elementFrom pattern newline i (drop i s) ≡ literalElement stringKind newline i (stringRest (getD s i 0) i false (i + 1) (drop (i + 1) s))
         unfolding elementFrom
         from-quote q = rw (drop-at s i h) (rw (l, d, q, elementFrom))
 
         module _ (q : quote (getD s i 0) ≡ false) where
           -- a slash that opens a regular expression
           pub from-pattern : (pattern && eqb (getD s i 0) (byte "/")) ≡ true
-              → elementFrom pattern line i (drop i s) ≡ literal patternKind line i (patternRest i false false (i + 1) (drop (i + 1) s))
+              → elementFrom pattern newline i (drop i s) ≡ literalElement patternKind newline i (patternRest i false false (i + 1) (drop (i + 1) s))
           unfolding elementFrom
           from-pattern p = rw (drop-at s i h) (rw (l, d, q, p, elementFrom))
 
           module _ (p : (pattern && eqb (getD s i 0) (byte "/")) ≡ false) where
             pub from-dot : (eqb (getD s i 0) (byte ".") && digit (getD s (i + 1) 0)) ≡ true
-                → elementFrom pattern line i (drop i s) ≡ Next.Fault badNumber i
+                → elementFrom pattern newline i (drop i s) ≡ Next.Fault badNumber i
             unfolding elementFrom
             from-dot f = rw (drop-at s i h) (rw (l, d, q, p, second, f, elementFrom))
 
             pub from-sign : (eqb (getD s i 0) (byte ".") && digit (getD s (i + 1) 0)) ≡ false
-                → elementFrom pattern line i (drop i s) ≡ signOrStray line i (longestSign (drop i s))
+                → elementFrom pattern newline i (drop i s) ≡ signOrStray newline i (longestSign (drop i s))
             unfolding elementFrom
             from-sign f = rw (drop-at s i h) (rw (l, d, q, p, second, f, elementFrom))

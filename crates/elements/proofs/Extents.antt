@@ -26,66 +26,66 @@ pub record Faulted (lo hi number at : ℕ) : Type 0 where
 
 -- a gap that ends from i to hi, or has its fault from lo to before hi
 abbrev pub GapIn : ℕ → ℕ → ℕ → Gap → Type 0
-GapIn lo i hi (Gap.Ends first line) = (i ≤ first) × (first ≤ hi)
+GapIn lo i hi (Gap.Ends first newline) = (i ≤ first) × (first ≤ hi)
 GapIn lo i hi (Gap.Fault number at) = Faulted lo hi number at
 
 module _ (lo low hi : ℕ) (l : lo ≤ low) where
   mutual
     unfolding gap
 
-    pub gap-in : (s : List ℕ) (i : ℕ) (line : Bool) → low ≤ i → i + length s ≡ hi → GapIn lo low hi (gap i line s)
-    gap-in [] i line h e = omega arith
-    gap-in (b ∷ s) i line h e =
+    pub gap-in : (s : List ℕ) (i : ℕ) (newline : Bool) → low ≤ i → i + length s ≡ hi → GapIn lo low hi (gap i newline s)
+    gap-in [] i newline h e = omega arith
+    gap-in (b ∷ s) i newline h e =
         let P = GapIn lo low hi in
-        cond-both P (blank b) (gap-in s (i + 1) line (omega arith) (omega arith))
+        cond-both P (blank b) (gap-in s (i + 1) newline (omega arith) (omega arith))
         (cond-both P (lineEnd b) (gap-in s (i + 1) true (omega arith) (omega arith))
-        (cond-both P (eqb b (byte "/")) (slash-in s i line h (omega arith))
+        (cond-both P (eqb b (byte "/")) (slash-in s i newline h (omega arith))
         (omega arith)))
 
-    slash-in : (s : List ℕ) (i : ℕ) (line : Bool) → low ≤ i → i + 1 + length s ≡ hi → GapIn lo low hi (afterSlash i line s)
-    slash-in [] i line h e = omega arith
-    slash-in (b ∷ s) i line h e =
+    slash-in : (s : List ℕ) (i : ℕ) (newline : Bool) → low ≤ i → i + 1 + length s ≡ hi → GapIn lo low hi (afterSlash i newline s)
+    slash-in [] i newline h e = omega arith
+    slash-in (b ∷ s) i newline h e =
         let P = GapIn lo low hi in
-        cond-both P (eqb b (byte "/")) (line-in s (i + 2) line (omega arith) (omega arith))
-        (cond-both P (eqb b (byte "*")) (block-in s i (i + 2) line false (omega arith) (omega arith) (omega arith) (omega arith))
+        cond-both P (eqb b (byte "/")) (newline-in s (i + 2) newline (omega arith) (omega arith))
+        (cond-both P (eqb b (byte "*")) (block-in s i (i + 2) newline false (omega arith) (omega arith) (omega arith) (omega arith))
         (omega arith))
 
-    line-in : (s : List ℕ) (i : ℕ) (line : Bool) → low ≤ i → i + length s ≡ hi → GapIn lo low hi (inLine i line s)
-    line-in [] i line h e = omega arith
-    line-in (b ∷ s) i line h e =
+    newline-in : (s : List ℕ) (i : ℕ) (newline : Bool) → low ≤ i → i + length s ≡ hi → GapIn lo low hi (inLine i newline s)
+    newline-in [] i newline h e = omega arith
+    newline-in (b ∷ s) i newline h e =
         let P = GapIn lo low hi in
         cond-both P (lineEnd b) (gap-in s (i + 1) true (omega arith) (omega arith))
         (cond-both P (illegal b) (omega arith)
-        (line-in s (i + 1) line (omega arith) (omega arith)))
+        (newline-in s (i + 1) newline (omega arith) (omega arith)))
 
-    block-in : (s : List ℕ) (slash i : ℕ) (line star : Bool) → lo ≤ slash → slash < i → low ≤ i → i + length s ≡ hi
-        → GapIn lo low hi (inBlock slash i line star s)
-    block-in [] slash i line star p q h e = omega arith
-    block-in (b ∷ s) slash i line star p q h e =
+    block-in : (s : List ℕ) (slash i : ℕ) (newline star : Bool) → lo ≤ slash → slash < i → low ≤ i → i + length s ≡ hi
+        → GapIn lo low hi (inBlock slash i newline star s)
+    block-in [] slash i newline star p q h e = omega arith
+    block-in (b ∷ s) slash i newline star p q h e =
         let P = GapIn lo low hi in
         cond-both P (lineEnd b) (block-in s slash (i + 1) true false p (omega arith) (omega arith) (omega arith))
         (cond-both P (illegal b) (omega arith)
-        (cond-both P (star && eqb b (byte "/")) (gap-in s (i + 1) line (omega arith) (omega arith))
-        (block-in s slash (i + 1) line (eqb b (byte "*")) p (omega arith) (omega arith) (omega arith))))
+        (cond-both P (star && eqb b (byte "/")) (gap-in s (i + 1) newline (omega arith) (omega arith))
+        (block-in s slash (i + 1) newline (eqb b (byte "*")) p (omega arith) (omega arith) (omega arith))))
 
 -- no gap or comment ends before it starts
-module _ (s : List ℕ) (i first : ℕ) (line m : Bool) where
-  pub gap-reach : gap i line s ≡ Gap.Ends first m → i ≤ first
+module _ (s : List ℕ) (i first : ℕ) (newline m : Bool) where
+  pub gap-reach : gap i newline s ≡ Gap.Ends first m → i ≤ first
   gap-reach e =
       let p : GapIn i i (i + length s) (Gap.Ends first m) =
-      rw e at (gap-in i i (i + length s) (omega arith) s i line (omega arith) refl) in
+      rw e at (gap-in i i (i + length s) (omega arith) s i newline (omega arith) refl) in
       p .0
 
-  pub line-reach : inLine i line s ≡ Gap.Ends first m → i ≤ first
-  line-reach e =
+  pub newline-reach : inLine i newline s ≡ Gap.Ends first m → i ≤ first
+  newline-reach e =
       let p : GapIn i i (i + length s) (Gap.Ends first m) =
-      rw e at (line-in i i (i + length s) (omega arith) s i line (omega arith) refl) in
+      rw e at (newline-in i i (i + length s) (omega arith) s i newline (omega arith) refl) in
       p .0
 
-  pub block-reach : (slash : ℕ) (star : Bool) → slash < i → inBlock slash i line star s ≡ Gap.Ends first m → i ≤ first
+  pub block-reach : (slash : ℕ) (star : Bool) → slash < i → inBlock slash i newline star s ≡ Gap.Ends first m → i ≤ first
   block-reach slash star h e =
       let p : GapIn 0 i (i + length s) (Gap.Ends first m) =
-      rw e at (block-in 0 i (i + length s) (omega arith) s slash i line star (omega arith) h (omega arith) refl) in
+      rw e at (block-in 0 i (i + length s) (omega arith) s slash i newline star (omega arith) h (omega arith) refl) in
       p .0
 
 -- a literal that ends past i and within hi, or has its fault from lo to before hi

@@ -16,7 +16,7 @@ use Rattle.gaps.specs.Gaps.{gap}
 use Rattle.literals.specs.Numbers.{numberFrom}
 use Rattle.literals.specs.Strings.{quote, stringRest}
 use Rattle.literals.specs.Patterns.{patternRest}
-use Rattle.elements.specs.Elements.{literal, named, delimiter, signOrStray, elementFrom, afterGap, elementAt, numberKind, stringKind, patternKind}
+use Rattle.elements.specs.Elements.{literalElement, named, delimiter, signOrStray, elementFrom, afterGap, elementAt, numberKind, stringKind, patternKind}
 use Rattle.gaps.specs.declared.Gap.{Gap}
 use Rattle.literals.specs.declared.Literal.{Literal}
 use Rattle.elements.specs.declared.Element.{Element}
@@ -28,34 +28,34 @@ KindIn Next.End = Unit {0}
 KindIn (Next.Found e) = e .kind ≤ 6
 KindIn (Next.Fault number at) = Unit {0}
 
-literal-kind : (kind : ℕ) → kind ≤ 6 → (line : Bool) (first : ℕ) (l : Literal) → KindIn (literal kind line first l)
-literal-kind kind h line first (Literal.Ends end) = h
-literal-kind kind h line first (Literal.Fault number place) = tt
+literal-kind : (kind : ℕ) → kind ≤ 6 → (newline : Bool) (first : ℕ) (l : Literal) → KindIn (literalElement kind newline first l)
+literal-kind kind h newline first (Literal.Ends end) = h
+literal-kind kind h newline first (Literal.Fault number place) = tt
 
-sign-kind : (line : Bool) (first : ℕ) (l : Longest) → KindIn (signOrStray line first l)
-sign-kind line first Longest.None = tt
-sign-kind line first (Longest.Sign number n legal) =
+sign-kind : (newline : Bool) (first : ℕ) (l : Longest) → KindIn (signOrStray newline first l)
+sign-kind newline first Longest.None = tt
+sign-kind newline first (Longest.Sign number n legal) =
     cond-both KindIn legal (cond-both (λ k. k ≤ 6) (delimiter number) (omega arith) (omega arith)) tt
 
-named-kind : (line : Bool) (first : ℕ) (s : List ℕ) → KindIn (named line first s)
+named-kind : (newline : Bool) (first : ℕ) (s : List ℕ) → KindIn (named newline first s)
 unfolding named
-named-kind line first s =
+named-kind newline first s =
     let word = wordNumber (take (run nameByte s) s) in
     cond-both KindIn (eqb word 0) (omega arith) (cond-both KindIn (taken word) (omega arith) tt)
 
-from-kind : (pattern line : Bool) (first : ℕ) (s : List ℕ) → KindIn (elementFrom pattern line first s)
+from-kind : (pattern newline : Bool) (first : ℕ) (s : List ℕ) → KindIn (elementFrom pattern newline first s)
 unfolding elementFrom
-from-kind pattern line first [] = tt
-from-kind pattern line first (b ∷ s) =
-    cond-both KindIn (letter b) (named-kind line first (b ∷ s))
-    (cond-both KindIn (digit b) (literal-kind numberKind (omega arith) line first (numberFrom first (b ∷ s)))
-    (cond-both KindIn (quote b) (literal-kind stringKind (omega arith) line first (stringRest b first false (first + 1) s))
-    (cond-both KindIn (pattern && eqb b (byte "/")) (literal-kind patternKind (omega arith) line first (patternRest first false false (first + 1) s))
+from-kind pattern newline first [] = tt
+from-kind pattern newline first (b ∷ s) =
+    cond-both KindIn (letter b) (named-kind newline first (b ∷ s))
+    (cond-both KindIn (digit b) (literal-kind numberKind (omega arith) newline first (numberFrom first (b ∷ s)))
+    (cond-both KindIn (quote b) (literal-kind stringKind (omega arith) newline first (stringRest b first false (first + 1) s))
+    (cond-both KindIn (pattern && eqb b (byte "/")) (literal-kind patternKind (omega arith) newline first (patternRest first false false (first + 1) s))
     (cond-both KindIn (eqb b (byte ".") && digit (getD s 0 0)) tt
-    (sign-kind line first (longestSign (b ∷ s)))))))
+    (sign-kind newline first (longestSign (b ∷ s)))))))
 
 after-kind : (s : List ℕ) (pattern : Bool) (g : Gap) → KindIn (afterGap s pattern g)
-after-kind s pattern (Gap.Ends first line) = from-kind pattern line first (drop first s)
+after-kind s pattern (Gap.Ends first newline) = from-kind pattern newline first (drop first s)
 after-kind s pattern (Gap.Fault number place) = tt
 
 pub found-kind : (s : List ℕ) (place : ℕ) (pattern : Bool) (e : Element) → elementAt s place pattern ≡ Next.Found e → e .kind ≤ 6

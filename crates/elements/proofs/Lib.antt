@@ -10,5 +10,5 @@ pub mod Copies
 pub mod OwnBytes
 pub mod FoundKinds
 pub mod Delimiters
-pub mod PartLaws
+pub mod LexemeLaws
 pub mod Spellings

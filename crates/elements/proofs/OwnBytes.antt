@@ -24,7 +24,7 @@ use Rattle.elements.proofs.Copies.{from-own}
 -- where a gap ends, no further gap starts
 module _ (text : List ℕ) where
   abbrev Settled : Gap → Type 0
-  Settled (Gap.Ends first m) = (line : Bool) → gap first line (drop first text) ≡ Gap.Ends first line
+  Settled (Gap.Ends first m) = (newline : Bool) → gap first newline (drop first text) ≡ Gap.Ends first newline
   Settled (Gap.Fault number at) = Unit
 
   next : (b : ℕ) (s : List ℕ) (i n : ℕ) → n ≡ i + 1 → drop i text ≡ b ∷ s → drop n text ≡ s
@@ -33,38 +33,38 @@ module _ (text : List ℕ) where
   mutual
     unfolding gap
 
-    gap-settled : (s : List ℕ) (i : ℕ) (line : Bool) → drop i text ≡ s → Settled (gap i line s)
-    gap-settled [] i line e = λ l. rw e
-    gap-settled (b ∷ s) i line e =
+    gap-settled : (s : List ℕ) (i : ℕ) (newline : Bool) → drop i text ≡ s → Settled (gap i newline s)
+    gap-settled [] i newline e = λ l. rw e
+    gap-settled (b ∷ s) i newline e =
         let n : drop (i + 1) text ≡ s = next b s i (i + 1) refl e in
-        cond-known Settled (blank b) (λ p. gap-settled s (i + 1) line n) (λ p.
+        cond-known Settled (blank b) (λ p. gap-settled s (i + 1) newline n) (λ p.
         cond-known Settled (lineEnd b) (λ q. gap-settled s (i + 1) true n) (λ q.
-        cond-known Settled (eqb b (byte "/")) (λ r. slash-settled s i line n (λ l. rw e (rw (p, q, r, gap)))) (λ r l.
+        cond-known Settled (eqb b (byte "/")) (λ r. slash-settled s i newline n (λ l. rw e (rw (p, q, r, gap)))) (λ r l.
         rw e (rw (p, q, r, gap)))))
 
-    slash-settled : (s : List ℕ) (i : ℕ) (line : Bool) → drop (i + 1) text ≡ s
-        → ((l : Bool) → gap i l (drop i text) ≡ afterSlash i l s) → Settled (afterSlash i line s)
-    slash-settled [] i line e g = g
-    slash-settled (b ∷ s) i line e g =
+    slash-settled : (s : List ℕ) (i : ℕ) (newline : Bool) → drop (i + 1) text ≡ s
+        → ((l : Bool) → gap i l (drop i text) ≡ afterSlash i l s) → Settled (afterSlash i newline s)
+    slash-settled [] i newline e g = g
+    slash-settled (b ∷ s) i newline e g =
         let n : drop (i + 2) text ≡ s = next b s (i + 1) (i + 2) (omega arith) e in
-        cond-known Settled (eqb b (byte "/")) (λ p. line-settled s (i + 2) line n) (λ p.
-        cond-known Settled (eqb b (byte "*")) (λ q. block-settled s i (i + 2) line false n) (λ q l.
+        cond-known Settled (eqb b (byte "/")) (λ p. newline-settled s (i + 2) newline n) (λ p.
+        cond-known Settled (eqb b (byte "*")) (λ q. block-settled s i (i + 2) newline false n) (λ q l.
         g l ∙ rw (p, q, afterSlash)))
 
-    line-settled : (s : List ℕ) (i : ℕ) (line : Bool) → drop i text ≡ s → Settled (inLine i line s)
-    line-settled [] i line e = λ l. rw e
-    line-settled (b ∷ s) i line e =
+    newline-settled : (s : List ℕ) (i : ℕ) (newline : Bool) → drop i text ≡ s → Settled (inLine i newline s)
+    newline-settled [] i newline e = λ l. rw e
+    newline-settled (b ∷ s) i newline e =
         let n : drop (i + 1) text ≡ s = next b s i (i + 1) refl e in
-        cond-both Settled (lineEnd b) (gap-settled s (i + 1) true n) (cond-both Settled (illegal b) tt (line-settled s (i + 1) line n))
+        cond-both Settled (lineEnd b) (gap-settled s (i + 1) true n) (cond-both Settled (illegal b) tt (newline-settled s (i + 1) newline n))
 
-    block-settled : (s : List ℕ) (slash i : ℕ) (line star : Bool) → drop i text ≡ s → Settled (inBlock slash i line star s)
-    block-settled [] slash i line star e = tt
-    block-settled (b ∷ s) slash i line star e =
+    block-settled : (s : List ℕ) (slash i : ℕ) (newline star : Bool) → drop i text ≡ s → Settled (inBlock slash i newline star s)
+    block-settled [] slash i newline star e = tt
+    block-settled (b ∷ s) slash i newline star e =
         let n : drop (i + 1) text ≡ s = next b s i (i + 1) refl e in
         cond-both Settled (lineEnd b) (block-settled s slash (i + 1) true false n)
         (cond-both Settled (illegal b) tt
-        (cond-both Settled (star && eqb b (byte "/")) (gap-settled s (i + 1) line n)
-        (block-settled s slash (i + 1) line (eqb b (byte "*")) n)))
+        (cond-both Settled (star && eqb b (byte "/")) (gap-settled s (i + 1) newline n)
+        (block-settled s slash (i + 1) newline (eqb b (byte "*")) n)))
 
 -- a text from a place on, where it is cut and goes on otherwise
 cut-drop : (s w : List ℕ) (place k end : ℕ) → end ≡ place + k → place ≤ length s → drop place (take end s ++ w) ≡ take k (drop place s) ++ w
@@ -73,17 +73,17 @@ cut-drop s w place k end p h =
 
 module _ (s : List ℕ) (place : ℕ) (pattern : Bool) (e : Element) (found : elementAt s place pattern ≡ Next.Found e) where
   -- the gap before an element, and the element behind it
-  pub found-gap : (gap place false (drop place s) ≡ Gap.Ends (e .first) (e .line))
-      × (elementFrom pattern (e .line) (e .first) (drop (e .first) s) ≡ Next.Found e)
+  pub found-gap : (gap place false (drop place s) ≡ Gap.Ends (e .first) (e .newline))
+      × (elementFrom pattern (e .newline) (e .first) (drop (e .first) s) ≡ Next.Found e)
   unfolding elementAt
   found-gap = go (gap place false (drop place s)) refl found
     where
       go : (g : Gap) → gap place false (drop place s) ≡ g → afterGap s pattern g ≡ Next.Found e
-          → (gap place false (drop place s) ≡ Gap.Ends (e .first) (e .line))
-          × (elementFrom pattern (e .line) (e .first) (drop (e .first) s) ≡ Next.Found e)
-      go (Gap.Ends first line) f a =
+          → (gap place false (drop place s) ≡ Gap.Ends (e .first) (e .newline))
+          × (elementFrom pattern (e .newline) (e .first) (drop (e .first) s) ≡ Next.Found e)
+      go (Gap.Ends first newline) f a =
           let hi = first + length (drop first s) in
-          let c : Cut line first hi e = rw a at (from-in pattern line first hi (drop first s) refl) in
+          let c : Cut newline first hi e = rw a at (from-in pattern newline first hi (drop first s) refl) in
           (rw (c .start, c .flag) f, rw (← c .start, ← c .flag) at a)
       go (Gap.Fault number at) f a = no-element a
 
@@ -91,20 +91,20 @@ module _ (s : List ℕ) (place : ℕ) (pattern : Bool) (e : Element) (found : el
     -- the element's bytes, moved behind u
     pub own-bytes : (u v : List ℕ)
         → elementAt (u ++ (take (e .end - e .first) (drop (e .first) s) ++ (x ∷ v))) (length u) pattern
-        ≡ Next.Found (record { kind = e .kind; which = e .which; first = length u; end = length u + (e .end - e .first); line = false })
+        ≡ Next.Found (record { kind = e .kind; which = e .which; first = length u; end = length u + (e .end - e .first); newline = false })
     unfolding elementAt
     own-bytes u v =
         let p : Placed s place e = found-placed s place pattern e found in
         let size = e .end - e .first in
         let rest = drop (e .first) s in
         let fits : size ≤ length rest = omega (arith, length-drop (e .first) s) in
-        let settled : Settled s (Gap.Ends (e .first) (e .line)) = rw (found-gap .0) at (gap-settled s (drop place s) place false refl) in
+        let settled : Settled s (Gap.Ends (e .first) (e .newline)) = rw (found-gap .0) at (gap-settled s (drop place s) place false refl) in
         let empty : gap (length u) false (take size rest ++ x ∷ v) ≡ Gap.Ends (length u) false =
         gap-own x v separates (e .first) (length u) false rest size (e .first) (length u) false
         (omega arith) (omega arith) fits (settled false) in
         rw (drop-append-seam u (take size rest ++ x ∷ v), empty)
         (rw (drop-append-seam u (take size rest ++ x ∷ v))
-        (from-own x v separates e (e .first) (length u) pattern (e .line) false rest size fits (omega arith) (found-gap .1)))
+        (from-own x v separates e (e .first) (length u) pattern (e .newline) false rest size fits (omega arith) (found-gap .1)))
 
     -- the text up to the element's end, comments before the element included
     pub prefix-only : (v : List ℕ) → elementAt (take (e .end) s ++ (x ∷ v)) place pattern ≡ Next.Found e
@@ -115,11 +115,11 @@ module _ (s : List ℕ) (place : ℕ) (pattern : Bool) (e : Element) (found : el
         let span = e .end - place in
         let rest = drop (e .first) s in
         let fits : size ≤ length rest = omega (arith, length-drop (e .first) s) in
-        let before : gap place false (take span (drop place s) ++ x ∷ v) ≡ Gap.Ends (e .first) (e .line) =
-        gap-own x v separates (e .first) (e .first) (e .line) (drop place s) span place place false
+        let before : gap place false (take span (drop place s) ++ x ∷ v) ≡ Gap.Ends (e .first) (e .newline) =
+        gap-own x v separates (e .first) (e .first) (e .newline) (drop place s) span place place false
         refl (omega arith) (omega (arith, length-drop place s)) (found-gap .0) in
         let ends : e .first + size ≡ e .end = omega arith in
         rw (cut-drop s (x ∷ v) place span (e .end) (omega arith) (omega arith), before)
         (rw (cut-drop s (x ∷ v) (e .first) size (e .end) (omega arith) (omega arith))
-        (from-own x v separates e (e .first) (e .first) pattern (e .line) (e .line) rest size fits (omega arith) (found-gap .1)
-        ∙ ap (element (e .kind) (e .which) (e .line) (e .first)) ends))
+        (from-own x v separates e (e .first) (e .first) pattern (e .newline) (e .newline) rest size fits (omega arith) (found-gap .1)
+        ∙ ap (element (e .kind) (e .which) (e .newline) (e .first)) ends))

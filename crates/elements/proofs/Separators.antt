@@ -1,4 +1,4 @@
--- What a blank or a line end in front of an element does: the first nothing, the second sets the element's line flag.
+-- What a blank or a line end in front of an element does: the first nothing, the second sets the element's newline flag.
 use mathlib.Core.Path.{_≡_, refl}
 use mathlib.Core.List.{List, [], _∷_, _++_}
 use mathlib.Core.Bool.{Bool, true, false, _&&_}
@@ -18,7 +18,7 @@ use Rattle.literals.specs.Numbers.{numberFrom}
 use Rattle.literals.specs.Strings.{quote, stringRest}
 use Rattle.literals.specs.Patterns.{patternRest}
 use Rattle.elements.specs.Elements.{
-  literal,
+  literalElement,
   named,
   signOrStray,
   elementFrom,
@@ -37,60 +37,60 @@ use Rattle.gaps.proofs.GapLaws.{gap-blank, gap-line-end}
 -- an answer whose element, if it has one, stands behind a line end
 abbrev pub lined : Next → Next
 lined Next.End = Next.End
-lined (Next.Found e) = Next.Found (record { kind = e .kind; which = e .which; first = e .first; end = e .end; line = true })
+lined (Next.Found e) = Next.Found (record { kind = e .kind; which = e .which; first = e .first; end = e .end; newline = true })
 lined (Next.Fault number at) = Next.Fault number at
 
 abbrev linedGap : Gap → Gap
-linedGap (Gap.Ends first line) = Gap.Ends first true
+linedGap (Gap.Ends first newline) = Gap.Ends first true
 linedGap (Gap.Fault number at) = Gap.Fault number at
 
 -- a line end before a gap is one in it, and decides nothing else
 mutual
   unfolding gap
 
-  gap-lined : (s : List ℕ) (i : ℕ) (line : Bool) → gap i true s ≡ linedGap (gap i line s)
-  gap-lined [] i line = refl
-  gap-lined (b ∷ s) i line =
-      cond-map linedGap (blank b) (gap-lined s (i + 1) line)
+  gap-lined : (s : List ℕ) (i : ℕ) (newline : Bool) → gap i true s ≡ linedGap (gap i newline s)
+  gap-lined [] i newline = refl
+  gap-lined (b ∷ s) i newline =
+      cond-map linedGap (blank b) (gap-lined s (i + 1) newline)
       (cond-map linedGap (lineEnd b) (gap-lined s (i + 1) true)
-      (cond-map linedGap (eqb b (byte "/")) (slash-lined s i line) refl))
+      (cond-map linedGap (eqb b (byte "/")) (slash-lined s i newline) refl))
 
-  slash-lined : (s : List ℕ) (i : ℕ) (line : Bool) → afterSlash i true s ≡ linedGap (afterSlash i line s)
-  slash-lined [] i line = refl
-  slash-lined (b ∷ s) i line =
-      cond-map linedGap (eqb b (byte "/")) (in-line-lined s (i + 2) line)
-      (cond-map linedGap (eqb b (byte "*")) (in-block-lined s i (i + 2) line false) refl)
+  slash-lined : (s : List ℕ) (i : ℕ) (newline : Bool) → afterSlash i true s ≡ linedGap (afterSlash i newline s)
+  slash-lined [] i newline = refl
+  slash-lined (b ∷ s) i newline =
+      cond-map linedGap (eqb b (byte "/")) (in-newline-lined s (i + 2) newline)
+      (cond-map linedGap (eqb b (byte "*")) (in-block-lined s i (i + 2) newline false) refl)
 
-  in-line-lined : (s : List ℕ) (i : ℕ) (line : Bool) → inLine i true s ≡ linedGap (inLine i line s)
-  in-line-lined [] i line = refl
-  in-line-lined (b ∷ s) i line =
-      cond-map linedGap (lineEnd b) (gap-lined s (i + 1) true) (cond-map linedGap (illegal b) refl (in-line-lined s (i + 1) line))
+  in-newline-lined : (s : List ℕ) (i : ℕ) (newline : Bool) → inLine i true s ≡ linedGap (inLine i newline s)
+  in-newline-lined [] i newline = refl
+  in-newline-lined (b ∷ s) i newline =
+      cond-map linedGap (lineEnd b) (gap-lined s (i + 1) true) (cond-map linedGap (illegal b) refl (in-newline-lined s (i + 1) newline))
 
-  in-block-lined : (s : List ℕ) (slash i : ℕ) (line star : Bool) → inBlock slash i true star s ≡ linedGap (inBlock slash i line star s)
-  in-block-lined [] slash i line star = refl
-  in-block-lined (b ∷ s) slash i line star =
+  in-block-lined : (s : List ℕ) (slash i : ℕ) (newline star : Bool) → inBlock slash i true star s ≡ linedGap (inBlock slash i newline star s)
+  in-block-lined [] slash i newline star = refl
+  in-block-lined (b ∷ s) slash i newline star =
       cond-map linedGap (lineEnd b) (in-block-lined s slash (i + 1) true false)
       (cond-map linedGap (illegal b) refl
-      (cond-map linedGap (star && eqb b (byte "/")) (gap-lined s (i + 1) line)
-      (in-block-lined s slash (i + 1) line (eqb b (byte "*")))))
+      (cond-map linedGap (star && eqb b (byte "/")) (gap-lined s (i + 1) newline)
+      (in-block-lined s slash (i + 1) newline (eqb b (byte "*")))))
 
 -- the element does not depend on it otherwise
-module _ (line : Bool) (first : ℕ) where
-  literal-lined : (kind : ℕ) (l : Literal) → literal kind true first l ≡ lined (literal kind line first l)
+module _ (newline : Bool) (first : ℕ) where
+  literal-lined : (kind : ℕ) (l : Literal) → literalElement kind true first l ≡ lined (literalElement kind newline first l)
   literal-lined kind (Literal.Ends end) = refl
   literal-lined kind (Literal.Fault number at) = refl
 
-  named-lined : (s : List ℕ) → named true first s ≡ lined (named line first s)
+  named-lined : (s : List ℕ) → named true first s ≡ lined (named newline first s)
   unfolding named
   named-lined s =
       let word = wordNumber (take (run nameByte s) s) in
       cond-map lined (eqb word 0) refl (cond-map lined (taken word) refl refl)
 
-  sign-lined : (l : Longest) → signOrStray true first l ≡ lined (signOrStray line first l)
+  sign-lined : (l : Longest) → signOrStray true first l ≡ lined (signOrStray newline first l)
   sign-lined Longest.None = refl
   sign-lined (Longest.Sign number n legal) = cond-map lined legal refl refl
 
-  from-lined : (pattern : Bool) (s : List ℕ) → elementFrom pattern true first s ≡ lined (elementFrom pattern line first s)
+  from-lined : (pattern : Bool) (s : List ℕ) → elementFrom pattern true first s ≡ lined (elementFrom pattern newline first s)
   unfolding elementFrom
   from-lined pattern [] = refl
   from-lined pattern (b ∷ s) =
@@ -102,7 +102,7 @@ module _ (line : Bool) (first : ℕ) where
       (sign-lined (longestSign (b ∷ s)))))))
 
 after-lined : (s : List ℕ) (pattern : Bool) (g : Gap) → afterGap s pattern (linedGap g) ≡ lined (afterGap s pattern g)
-after-lined s pattern (Gap.Ends first line) = from-lined line first pattern (drop first s)
+after-lined s pattern (Gap.Ends first newline) = from-lined newline first pattern (drop first s)
 after-lined s pattern (Gap.Fault number at) = refl
 
 module _ (s : List ℕ) (place : ℕ) (pattern : Bool) (h : place < length s) where

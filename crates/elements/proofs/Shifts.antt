@@ -22,7 +22,7 @@ use Rattle.gaps.specs.declared.Gap.{Gap}
 use Rattle.literals.specs.declared.Literal.{Literal}
 use Rattle.elements.proofs.Choices.{cond-both, cond-follow}
 use Rattle.elements.proofs.Clashes.{no-gap, no-literal}
-use Rattle.elements.proofs.Extents.{gap-reach, line-reach, block-reach, string-reach, pattern-reach}
+use Rattle.elements.proofs.Extents.{gap-reach, newline-reach, block-reach, string-reach, pattern-reach}
 use Rattle.gaps.proofs.GapLaws.{line-end-cases}
 
 or-cases : (P : Type 0) (a b : Bool) → (a ≡ true → P) → (b ≡ true → P) → (a || b) ≡ true → P
@@ -54,16 +54,16 @@ module _ (x : ℕ) (separates : (blank x || lineEnd x) ≡ true) where
   unfolding nameByte letter digit
   spoils-not = separator-cases (λ k. spoilsNumber k ≡ false) refl refl refl refl refl refl x separates
 
-  slash-alone : (v : List ℕ) (i : ℕ) (line : Bool) → afterSlash i line (x ∷ v) ≡ Gap.Ends i line
+  slash-alone : (v : List ℕ) (i : ℕ) (newline : Bool) → afterSlash i newline (x ∷ v) ≡ Gap.Ends i newline
   unfolding afterSlash
-  slash-alone v i line = separator-cases (λ k. afterSlash i line (k ∷ v) ≡ Gap.Ends i line) refl refl refl refl refl refl x separates
+  slash-alone v i newline = separator-cases (λ k. afterSlash i newline (k ∷ v) ≡ Gap.Ends i newline) refl refl refl refl refl refl x separates
 
 -- a text that goes on with a blank or a line end
 module _ (x : ℕ) (v : List ℕ) (separates : (blank x || lineEnd x) ≡ true) where
   -- a gap, outside and inside its comments, where it ends before the cut
   module _ (first there : ℕ) (m : Bool) where
-    stop : (i j : ℕ) (line : Bool) → first + j ≡ there + i → Gap.Ends i line ≡ Gap.Ends first m → Gap.Ends j line ≡ Gap.Ends there m
-    stop i j line h e =
+    stop : (i j : ℕ) (newline : Bool) → first + j ≡ there + i → Gap.Ends i newline ≡ Gap.Ends first m → Gap.Ends j newline ≡ Gap.Ends there m
+    stop i j newline h e =
         let p : i ≡ first = cc in
         let q : j ≡ there = omega arith in
         cc
@@ -71,54 +71,54 @@ module _ (x : ℕ) (v : List ℕ) (separates : (blank x || lineEnd x) ≡ true) 
     mutual
       unfolding gap
 
-      pub gap-own : (s : List ℕ) (k i j : ℕ) (line : Bool) → first + j ≡ there + i → first < i + k → k ≤ length s
-          → gap i line s ≡ Gap.Ends first m → gap j line (take k s ++ x ∷ v) ≡ Gap.Ends there m
-      gap-own [] k i j line h p q e = let z : i ≡ first = cc in absurd (omega arith)
-      gap-own (b ∷ s) zero i j line h p q e = absurd (omega (arith, gap-reach (b ∷ s) i first line m e))
-      gap-own (b ∷ s) (suc k) i j line h p q e =
-          cond-follow (blank b) (λ f. gap-own s k (i + 1) (j + 1) line (omega arith) (omega arith) (omega arith) f)
+      pub gap-own : (s : List ℕ) (k i j : ℕ) (newline : Bool) → first + j ≡ there + i → first < i + k → k ≤ length s
+          → gap i newline s ≡ Gap.Ends first m → gap j newline (take k s ++ x ∷ v) ≡ Gap.Ends there m
+      gap-own [] k i j newline h p q e = let z : i ≡ first = cc in absurd (omega arith)
+      gap-own (b ∷ s) zero i j newline h p q e = absurd (omega (arith, gap-reach (b ∷ s) i first newline m e))
+      gap-own (b ∷ s) (suc k) i j newline h p q e =
+          cond-follow (blank b) (λ f. gap-own s k (i + 1) (j + 1) newline (omega arith) (omega arith) (omega arith) f)
           (cond-follow (lineEnd b) (λ f. gap-own s k (i + 1) (j + 1) true (omega arith) (omega arith) (omega arith) f)
-          (cond-follow (eqb b (byte "/")) (λ f. slash-own s k i j line h (omega arith) (omega arith) f)
-          (stop i j line h))) e
+          (cond-follow (eqb b (byte "/")) (λ f. slash-own s k i j newline h (omega arith) (omega arith) f)
+          (stop i j newline h))) e
 
-      slash-own : (s : List ℕ) (k i j : ℕ) (line : Bool) → first + j ≡ there + i → first < i + 1 + k → k ≤ length s
-          → afterSlash i line s ≡ Gap.Ends first m → afterSlash j line (take k s ++ x ∷ v) ≡ Gap.Ends there m
-      slash-own [] zero i j line h p q e = slash-alone x separates v j line ∙ stop i j line h e
-      slash-own [] (suc k) i j line h p q e = absurd (omega arith)
-      slash-own (b ∷ s) zero i j line h p q e =
-          slash-alone x separates v j line ∙ stop i j line h
-          (cond-both (λ z. z ≡ Gap.Ends first m → Gap.Ends i line ≡ Gap.Ends first m) (eqb b (byte "/"))
-          (λ f. absurd (omega (arith, line-reach s (i + 2) first line m f)))
-          (cond-both (λ z. z ≡ Gap.Ends first m → Gap.Ends i line ≡ Gap.Ends first m) (eqb b (byte "*"))
-          (λ f. absurd (omega (arith, block-reach s (i + 2) first line m i false (omega arith) f)))
+      slash-own : (s : List ℕ) (k i j : ℕ) (newline : Bool) → first + j ≡ there + i → first < i + 1 + k → k ≤ length s
+          → afterSlash i newline s ≡ Gap.Ends first m → afterSlash j newline (take k s ++ x ∷ v) ≡ Gap.Ends there m
+      slash-own [] zero i j newline h p q e = slash-alone x separates v j newline ∙ stop i j newline h e
+      slash-own [] (suc k) i j newline h p q e = absurd (omega arith)
+      slash-own (b ∷ s) zero i j newline h p q e =
+          slash-alone x separates v j newline ∙ stop i j newline h
+          (cond-both (λ z. z ≡ Gap.Ends first m → Gap.Ends i newline ≡ Gap.Ends first m) (eqb b (byte "/"))
+          (λ f. absurd (omega (arith, newline-reach s (i + 2) first newline m f)))
+          (cond-both (λ z. z ≡ Gap.Ends first m → Gap.Ends i newline ≡ Gap.Ends first m) (eqb b (byte "*"))
+          (λ f. absurd (omega (arith, block-reach s (i + 2) first newline m i false (omega arith) f)))
           (λ f. f)) e)
-      slash-own (b ∷ s) (suc k) i j line h p q e =
-          cond-follow (eqb b (byte "/")) (λ f. line-own s k (i + 2) (j + 2) line (omega arith) (omega arith) (omega arith) f)
+      slash-own (b ∷ s) (suc k) i j newline h p q e =
+          cond-follow (eqb b (byte "/")) (λ f. newline-own s k (i + 2) (j + 2) newline (omega arith) (omega arith) (omega arith) f)
           (cond-follow (eqb b (byte "*"))
-          (λ f. block-own s k i j (i + 2) (j + 2) line false (omega arith) (omega arith) (omega arith) (omega arith) f)
-          (stop i j line h)) e
+          (λ f. block-own s k i j (i + 2) (j + 2) newline false (omega arith) (omega arith) (omega arith) (omega arith) f)
+          (stop i j newline h)) e
 
-      line-own : (s : List ℕ) (k i j : ℕ) (line : Bool) → first + j ≡ there + i → first < i + k → k ≤ length s
-          → inLine i line s ≡ Gap.Ends first m → inLine j line (take k s ++ x ∷ v) ≡ Gap.Ends there m
-      line-own [] k i j line h p q e = let z : i ≡ first = cc in absurd (omega arith)
-      line-own (b ∷ s) zero i j line h p q e = absurd (omega (arith, line-reach (b ∷ s) i first line m e))
-      line-own (b ∷ s) (suc k) i j line h p q e =
+      newline-own : (s : List ℕ) (k i j : ℕ) (newline : Bool) → first + j ≡ there + i → first < i + k → k ≤ length s
+          → inLine i newline s ≡ Gap.Ends first m → inLine j newline (take k s ++ x ∷ v) ≡ Gap.Ends there m
+      newline-own [] k i j newline h p q e = let z : i ≡ first = cc in absurd (omega arith)
+      newline-own (b ∷ s) zero i j newline h p q e = absurd (omega (arith, newline-reach (b ∷ s) i first newline m e))
+      newline-own (b ∷ s) (suc k) i j newline h p q e =
           cond-follow (lineEnd b) (λ f. gap-own s k (i + 1) (j + 1) true (omega arith) (omega arith) (omega arith) f)
-          (cond-follow (illegal b) no-gap (λ f. line-own s k (i + 1) (j + 1) line (omega arith) (omega arith) (omega arith) f)) e
+          (cond-follow (illegal b) no-gap (λ f. newline-own s k (i + 1) (j + 1) newline (omega arith) (omega arith) (omega arith) f)) e
 
-      block-own : (s : List ℕ) (k slash other i j : ℕ) (line star : Bool) → slash < i → first + j ≡ there + i → first < i + k → k ≤ length s
-          → inBlock slash i line star s ≡ Gap.Ends first m → inBlock other j line star (take k s ++ x ∷ v) ≡ Gap.Ends there m
-      block-own [] k slash other i j line star o h p q e = no-gap e
-      block-own (b ∷ s) zero slash other i j line star o h p q e = absurd (omega (arith, block-reach (b ∷ s) i first line m slash star o e))
-      block-own (b ∷ s) (suc k) slash other i j line star o h p q e =
+      block-own : (s : List ℕ) (k slash other i j : ℕ) (newline star : Bool) → slash < i → first + j ≡ there + i → first < i + k → k ≤ length s
+          → inBlock slash i newline star s ≡ Gap.Ends first m → inBlock other j newline star (take k s ++ x ∷ v) ≡ Gap.Ends there m
+      block-own [] k slash other i j newline star o h p q e = no-gap e
+      block-own (b ∷ s) zero slash other i j newline star o h p q e = absurd (omega (arith, block-reach (b ∷ s) i first newline m slash star o e))
+      block-own (b ∷ s) (suc k) slash other i j newline star o h p q e =
           let o₁ : slash < i + 1 = omega arith in
           let h₁ : first + (j + 1) ≡ there + (i + 1) = omega arith in
           let p₁ : first < i + 1 + k = omega arith in
           let q₁ : k ≤ length s = omega arith in
           cond-follow (lineEnd b) (λ f. block-own s k slash other (i + 1) (j + 1) true false o₁ h₁ p₁ q₁ f)
           (cond-follow (illegal b) no-gap
-          (cond-follow (star && eqb b (byte "/")) (λ f. gap-own s k (i + 1) (j + 1) line h₁ p₁ q₁ f)
-          (λ f. block-own s k slash other (i + 1) (j + 1) line (eqb b (byte "*")) o₁ h₁ p₁ q₁ f))) e
+          (cond-follow (star && eqb b (byte "/")) (λ f. gap-own s k (i + 1) (j + 1) newline h₁ p₁ q₁ f)
+          (λ f. block-own s k slash other (i + 1) (j + 1) newline (eqb b (byte "*")) o₁ h₁ p₁ q₁ f))) e
 
   -- a literal, where it ends before the cut or there
   module _ (end there : ℕ) where

@@ -23,7 +23,7 @@ use Rattle.literals.specs.Strings.{quote, stringRest}
 use Rattle.literals.specs.Patterns.{patternRest}
 use Rattle.elements.specs.Elements.{
   element,
-  literal,
+  literalElement,
   named,
   delimiter,
   signOrStray,
@@ -59,24 +59,24 @@ unfolding delimiter longestSign longestOf same
 slash-no-delimiter = refl
 
 -- the element of a text that starts with a slash, or not, at `first`
-module _ (line : Bool) (first : ℕ) where
-  from-either : (s : List ℕ) → eqb (getD s 0 0) (byte "/") ≡ false → elementFrom true line first s ≡ elementFrom false line first s
+module _ (newline : Bool) (first : ℕ) where
+  from-either : (s : List ℕ) → eqb (getD s 0 0) (byte "/") ≡ false → elementFrom true newline first s ≡ elementFrom false newline first s
   unfolding elementFrom
   from-either [] e = refl
   from-either (b ∷ s) e = rw (e, elementFrom)
 
-  from-opened : (s : List ℕ) → elementFrom true line first (byte "/" ∷ s)
-      ≡ literal patternKind line first (patternRest first false false (first + 1) s)
+  from-opened : (s : List ℕ) → elementFrom true newline first (byte "/" ∷ s)
+      ≡ literalElement patternKind newline first (patternRest first false false (first + 1) s)
   unfolding elementFrom letter digit quote
   from-opened s = refl
 
-  from-divided : (s : List ℕ) → elementFrom false line first (byte "/" ∷ s)
-      ≡ cond (eqb (getD s 0 0) (byte "=")) (Next.Fault barredSign first) (element signKind 47 line first (first + 1))
+  from-divided : (s : List ℕ) → elementFrom false newline first (byte "/" ∷ s)
+      ≡ cond (eqb (getD s 0 0) (byte "=")) (Next.Fault barredSign first) (element signKind 47 newline first (first + 1))
   unfolding elementFrom letter digit quote
   from-divided s = rw (longest-slash s) (go (eqb (getD s 0 0) (byte "=")))
     where
-      go : (t : Bool) → signOrStray line first (cond t (Longest.Sign 48 2 false) (Longest.Sign 47 1 true))
-          ≡ cond t (Next.Fault barredSign first) (element signKind 47 line first (first + 1))
+      go : (t : Bool) → signOrStray newline first (cond t (Longest.Sign 48 2 false) (Longest.Sign 47 1 true))
+          ≡ cond t (Next.Fault barredSign first) (element signKind 47 newline first (first + 1))
       go true = refl
       go false = rw slash-no-delimiter
 
@@ -86,37 +86,37 @@ OpenedOnly opens Next.End = Unit
 OpenedOnly opens (Next.Found e) = e .kind ≡ patternKind → opens ≡ true
 OpenedOnly opens (Next.Fault number at) = Unit
 
-module _ (opens line : Bool) (first : ℕ) where
-  literal-only : (kind : ℕ) → (kind ≡ patternKind → opens ≡ true) → (l : Literal) → OpenedOnly opens (literal kind line first l)
+module _ (opens newline : Bool) (first : ℕ) where
+  literal-only : (kind : ℕ) → (kind ≡ patternKind → opens ≡ true) → (l : Literal) → OpenedOnly opens (literalElement kind newline first l)
   literal-only kind k (Literal.Ends end) = k
   literal-only kind k (Literal.Fault number at) = tt
 
-  named-only : (s : List ℕ) → OpenedOnly opens (named line first s)
+  named-only : (s : List ℕ) → OpenedOnly opens (named newline first s)
   unfolding named
   named-only s =
       let word = wordNumber (take (run nameByte s) s) in
       cond-both (OpenedOnly opens) (eqb word 0) (λ k. absurd (omega arith))
       (cond-both (OpenedOnly opens) (taken word) (λ k. absurd (omega arith)) tt)
 
-  sign-only : (l : Longest) → OpenedOnly opens (signOrStray line first l)
+  sign-only : (l : Longest) → OpenedOnly opens (signOrStray newline first l)
   sign-only Longest.None = tt
   sign-only (Longest.Sign number n legal) =
       cond-both (OpenedOnly opens) legal
       (cond-both (λ (kind : ℕ). kind ≡ patternKind → opens ≡ true) (delimiter number) (λ k. absurd (omega arith)) (λ k. absurd (omega arith)))
       tt
 
-from-only : (pattern line : Bool) (first : ℕ) (s : List ℕ) → OpenedOnly (pattern && eqb (getD s 0 0) (byte "/")) (elementFrom pattern line first s)
+from-only : (pattern newline : Bool) (first : ℕ) (s : List ℕ) → OpenedOnly (pattern && eqb (getD s 0 0) (byte "/")) (elementFrom pattern newline first s)
 unfolding elementFrom
-from-only pattern line first [] = tt
-from-only pattern line first (b ∷ s) =
+from-only pattern newline first [] = tt
+from-only pattern newline first (b ∷ s) =
     let opens = pattern && eqb b (byte "/") in
     let P = OpenedOnly opens in
-    cond-both P (letter b) (named-only opens line first (b ∷ s))
-    (cond-both P (digit b) (literal-only opens line first numberKind (λ k. absurd (omega arith)) (numberFrom first (b ∷ s)))
-    (cond-both P (quote b) (literal-only opens line first stringKind (λ k. absurd (omega arith)) (stringRest b first false (first + 1) s))
-    (cond-known P opens (λ o. literal-only opens line first patternKind (λ k. o) (patternRest first false false (first + 1) s)) (λ o.
+    cond-both P (letter b) (named-only opens newline first (b ∷ s))
+    (cond-both P (digit b) (literal-only opens newline first numberKind (λ k. absurd (omega arith)) (numberFrom first (b ∷ s)))
+    (cond-both P (quote b) (literal-only opens newline first stringKind (λ k. absurd (omega arith)) (stringRest b first false (first + 1) s))
+    (cond-known P opens (λ o. literal-only opens newline first patternKind (λ k. o) (patternRest first false false (first + 1) s)) (λ o.
     cond-both P (eqb b (byte ".") && digit (getD s 0 0)) tt
-    (sign-only opens line first (longestSign (b ∷ s)))))))
+    (sign-only opens newline first (longestSign (b ∷ s)))))))
 
 -- a text whose first byte is known; past the text's end stands a 0
 starts : (s : List ℕ) (b : ℕ) → (b ≡ 0 → ⊥) → getD s 0 0 ≡ b → s ≡ b ∷ drop 1 s
@@ -149,9 +149,9 @@ Opened Next.End = ⊥
 Opened (Next.Found e) = e .kind ≡ patternKind
 Opened (Next.Fault number at) = Unit
 
-literal-opened : (line : Bool) (first : ℕ) (l : Literal) → Opened (literal patternKind line first l)
-literal-opened line first (Literal.Ends end) = refl
-literal-opened line first (Literal.Fault number at) = tt
+literal-opened : (newline : Bool) (first : ℕ) (l : Literal) → Opened (literalElement patternKind newline first l)
+literal-opened newline first (Literal.Ends end) = refl
+literal-opened newline first (Literal.Fault number at) = tt
 
 module _ (s : List ℕ) (place : ℕ) where
   -- where no slash is met, the answer does not matter
@@ -160,7 +160,7 @@ module _ (s : List ℕ) (place : ℕ) where
   either-slash = go (gap place false (drop place s))
     where
       go : (g : Gap) → slashAfter s g ≡ false → afterGap s true g ≡ afterGap s false g
-      go (Gap.Ends first line) e = from-either line first (drop first s) (rw (byte-at s first) e)
+      go (Gap.Ends first newline) e = from-either newline first (drop first s) (rw (byte-at s first) e)
       go (Gap.Fault number at) e = refl
 
   -- where one is met, it is a sign or a regular expression
@@ -169,8 +169,8 @@ module _ (s : List ℕ) (place : ℕ) where
   slash-divides = go (gap place false (drop place s))
     where
       go : (g : Gap) → slashAfter s g ≡ true → Divided s (afterGap s false g)
-      go (Gap.Ends first line) e =
-          rw (here s first e, from-divided line first (drop (first + 1) s), byte-at s (first + 1))
+      go (Gap.Ends first newline) e =
+          rw (here s first e, from-divided newline first (drop (first + 1) s), byte-at s (first + 1))
           (cond-known (Divided s) (eqb (getD s (first + 1) 0) (byte "=")) (λ t. (refl, eqb-true _ _ t))
           (λ t. record { kind = refl; which = refl; single = refl }))
       go (Gap.Fault number at) e = absurd (false≢true e)
@@ -180,9 +180,9 @@ module _ (s : List ℕ) (place : ℕ) where
   slash-opens = go (gap place false (drop place s))
     where
       go : (g : Gap) → slashAfter s g ≡ true → Opened (afterGap s true g)
-      go (Gap.Ends first line) e =
-          rw (here s first e, from-opened line first (drop (first + 1) s))
-          (literal-opened line first (patternRest first false false (first + 1) (drop (first + 1) s)))
+      go (Gap.Ends first newline) e =
+          rw (here s first e, from-opened newline first (drop (first + 1) s))
+          (literal-opened newline first (patternRest first false false (first + 1) (drop (first + 1) s)))
       go (Gap.Fault number at) e = absurd (false≢true e)
 
   -- a regular expression is found only there
@@ -196,8 +196,8 @@ module _ (s : List ℕ) (place : ℕ) where
       both false b h = absurd (false≢true h)
 
       go : (g : Gap) → afterGap s pattern g ≡ Next.Found e → e .kind ≡ patternKind → (pattern ≡ true) × (slashAfter s g ≡ true)
-      go (Gap.Ends first line) f k =
-          both pattern (eqb (getD s first 0) (byte "/")) (rw (f, byte-at s first) at (from-only pattern line first (drop first s)) k)
+      go (Gap.Ends first newline) f k =
+          both pattern (eqb (getD s first 0) (byte "/")) (rw (f, byte-at s first) at (from-only pattern newline first (drop first s)) k)
       go (Gap.Fault number at) f k = no-element f
 
   -- the same, by what was found

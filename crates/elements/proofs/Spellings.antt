@@ -23,7 +23,7 @@ use Rattle.literals.specs.Strings.{quote, stringRest}
 use Rattle.literals.specs.Patterns.{patternRest}
 use Rattle.literals.specs.declared.Literal.{Literal}
 use Rattle.elements.specs.Elements.{
-  literal,
+  literalElement,
   named,
   delimiter,
   signOrStray,
@@ -36,13 +36,13 @@ use Rattle.elements.specs.Elements.{
   patternKind,
   signKind,
 }
-use Rattle.elements.specs.Parts.{partOf}
+use Rattle.elements.specs.Lexemes.{lexemeOf}
 use Rattle.elements.specs.declared.Element.{Element}
 use Rattle.elements.specs.declared.Next.{Next}
 use Rattle.elements.proofs.Choices.{cond-both, cond-known}
 use Rattle.elements.proofs.Bounds.{found-placed}
 use Rattle.elements.proofs.OwnBytes.{found-gap}
-use Rattle.elements.proofs.PartLaws.{found-part}
+use Rattle.elements.proofs.LexemeLaws.{found-lexeme}
 
 -- bytes that are the spelling of the row of a number, which is taken
 pub record Spelled (rows : List Row) (own : List ℕ) (number : ℕ) : Type 0 where
@@ -64,12 +64,12 @@ NextSpelled s (Next.Fault number at) = Unit {0}
 other-spelled : (s : List ℕ) (e : Element) → (e .kind ≡ wordKind → ⊥) → (e .kind ≡ signKind → ⊥) → ElementSpelled s e
 other-spelled s e w g = record { word = λ k. absurd (w k); sign = λ k. absurd (g k); apart = λ k. absurd (g k) }
 
-module _ (line : Bool) (first : ℕ) (s : List ℕ) where
-  literal-spelled : (kind : ℕ) → (kind ≡ wordKind → ⊥) → (kind ≡ signKind → ⊥) → (l : Literal) → NextSpelled s (literal kind line first l)
+module _ (newline : Bool) (first : ℕ) (s : List ℕ) where
+  literal-spelled : (kind : ℕ) → (kind ≡ wordKind → ⊥) → (kind ≡ signKind → ⊥) → (l : Literal) → NextSpelled s (literalElement kind newline first l)
   literal-spelled kind w g (Literal.Ends end) = other-spelled s _ w g
   literal-spelled kind w g (Literal.Fault number place) = tt
 
-  named-spelled : NextSpelled s (named line first s)
+  named-spelled : NextSpelled s (named newline first s)
   unfolding named taken
   named-spelled =
       let n = run nameByte s in
@@ -84,7 +84,7 @@ module _ (line : Bool) (first : ℕ) (s : List ℕ) where
       })
       (λ barred. tt)
 
-  sign-spelled : (l : Longest) → longestSign s ≡ l → NextSpelled s (signOrStray line first l)
+  sign-spelled : (l : Longest) → longestSign s ≡ l → NextSpelled s (signOrStray newline first l)
   sign-spelled Longest.None e = tt
   sign-spelled (Longest.Sign number n legal) e =
       let is = longest-spelled s number n legal e in
@@ -105,18 +105,18 @@ module _ (line : Bool) (first : ℕ) (s : List ℕ) where
       no-delimiter true k = absurd (omega arith)
       no-delimiter false k = refl
 
-from-spelled : (pattern line : Bool) (first : ℕ) (s : List ℕ) → NextSpelled s (elementFrom pattern line first s)
+from-spelled : (pattern newline : Bool) (first : ℕ) (s : List ℕ) → NextSpelled s (elementFrom pattern newline first s)
 unfolding elementFrom
-from-spelled pattern line first [] = tt
-from-spelled pattern line first (b ∷ t) =
+from-spelled pattern newline first [] = tt
+from-spelled pattern newline first (b ∷ t) =
     let s = b ∷ t in
     let P = NextSpelled s in
-    cond-both P (letter b) (named-spelled line first s)
-    (cond-both P (digit b) (literal-spelled line first s numberKind (λ k. omega arith) (λ k. omega arith) (numberFrom first s))
-    (cond-both P (quote b) (literal-spelled line first s stringKind (λ k. omega arith) (λ k. omega arith) (stringRest b first false (first + 1) t))
-    (cond-both P (pattern && eqb b (byte "/")) (literal-spelled line first s patternKind (λ k. omega arith) (λ k. omega arith) (patternRest first false false (first + 1) t))
+    cond-both P (letter b) (named-spelled newline first s)
+    (cond-both P (digit b) (literal-spelled newline first s numberKind (λ k. omega arith) (λ k. omega arith) (numberFrom first s))
+    (cond-both P (quote b) (literal-spelled newline first s stringKind (λ k. omega arith) (λ k. omega arith) (stringRest b first false (first + 1) t))
+    (cond-both P (pattern && eqb b (byte "/")) (literal-spelled newline first s patternKind (λ k. omega arith) (λ k. omega arith) (patternRest first false false (first + 1) t))
     (cond-both P (eqb b (byte ".") && digit (getD t 0 0)) tt
-    (sign-spelled line first s (longestSign s) refl)))))
+    (sign-spelled newline first s (longestSign s) refl)))))
 
 -- a test of a row's length, first byte and number
 abbrev pub byFirst : (ℕ → ℕ → ℕ → Bool) → ℕ → Row → Bool
@@ -124,24 +124,24 @@ byFirst test number row = test (length (spelling row)) (getD (spelling row) 0 0)
 
 module _ (s : List ℕ) (place : ℕ) (pattern : Bool) (e : Element) (found : elementAt s place pattern ≡ Next.Found e) where
   found-spelled : ElementSpelled (drop (e .first) s) e
-  found-spelled = rw (found-gap s place pattern e found .1) at (from-spelled pattern (e .line) (e .first) (drop (e .first) s))
+  found-spelled = rw (found-gap s place pattern e found .1) at (from-spelled pattern (e .newline) (e .first) (drop (e .first) s))
 
-  pub word-spelling : e .kind ≡ wordKind → Spelled words (partOf s e) (e .which)
+  pub word-spelling : e .kind ≡ wordKind → Spelled words (lexemeOf s e) (e .which)
   word-spelling k = found-spelled .word k
 
-  pub sign-spelling : e .kind ≡ signKind → Spelled signs (partOf s e) (e .which)
+  pub sign-spelling : e .kind ≡ signKind → Spelled signs (lexemeOf s e) (e .which)
   sign-spelling k = found-spelled .sign k
 
   pub sign-which : e .kind ≡ signKind → delimiter (e .which) ≡ false
   sign-which k = found-spelled .apart k
 
   -- what a test says of each row that is taken, it says of the bytes that such a row spells
-  row-passes : (test : ℕ → ℕ → ℕ → Bool) (rows : List Row) → T (eachTaken (byFirst test) rows) → Spelled rows (partOf s e) (e .which)
+  row-passes : (test : ℕ → ℕ → ℕ → Bool) (rows : List Row) → T (eachTaken (byFirst test) rows) → Spelled rows (lexemeOf s e) (e .which)
       → T (test (e .end - e .first) (getD s (e .first) 0) (e .which))
   row-passes test rows t is =
       let some : 0 < e .end - e .first = omega (arith, found-placed s place pattern e found) in
       let at : e .first + 0 ≡ e .first = omega arith in
-      rw (← is .spelled, found-part s place pattern e found, getD-take (e .end - e .first) (drop (e .first) s) 0 0 some, getD-drop (e .first) s 0 0, at)
+      rw (← is .spelled, found-lexeme s place pattern e found, getD-take (e .end - e .first) (drop (e .first) s) 0 0 some, getD-drop (e .first) s 0 0, at)
       at (at-taken (byFirst test) rows t (e .which) (is .taken))
 
   pub word-passes : (test : ℕ → ℕ → ℕ → Bool) → T (eachTaken (byFirst test) words) → e .kind ≡ wordKind

@@ -1,7 +1,7 @@
 -- Document 01, Elements: the element at a place of a text under a stated slash answer, or the text's end, or the first
 -- fault of a comment or of the element itself, "bytes of an element left to right".
 use Prim.Native.Nat.{ℕ, _+_}
-use Prim.Native.String.{String}
+use mathlib.Core.Path.{_≡_}
 use mathlib.Core.List.{List, [], _∷_}
 use mathlib.Core.Bool.{Bool, false, cond, _&&_, _||_}
 use lib.Dec.{eqb}
@@ -12,6 +12,7 @@ use Rattle.text.specs.Runs.{run}
 use Rattle.words.specs.Words.{wordNumber, taken}
 use Rattle.signs.specs.Signs.{longestSign}
 use Rattle.signs.specs.declared.Longest.{Longest}
+use Rattle.answers.specs.Answers.{Tells}
 use Rattle.answers.specs.Faults.{stray, badNumber, barredWord, barredSign}
 use Rattle.gaps.specs.Gaps.{gap}
 use Rattle.literals.specs.Numbers.{numberFrom}
@@ -45,59 +46,69 @@ abbrev pub signKind : ℕ
 signKind = 6
 
 -- the element of a kind from `first` to before `end`; `which` is its number among the reserved words or the signs, else
--- 0; `line` says whether a line end lies between it and the place from which it was looked for
+-- 0; `newline` says whether a line end lies between it and the place from which it was looked for
 abbrev pub element : ℕ → ℕ → Bool → ℕ → ℕ → Next
-element kind which line first end = Next.Found (record { kind = kind; which = which; first = first; end = end; line = line })
+element kind which newline first end = Next.Found (record { kind = kind; which = which; first = first; end = end; newline = newline })
 
 -- a number, string or regular expression, as it was cut
-abbrev pub literal : ℕ → Bool → ℕ → Literal → Next
-literal kind line first (Literal.Ends end) = element kind 0 line first end
-literal kind line first (Literal.Fault number place) = Next.Fault number place
+abbrev pub literalElement : ℕ → Bool → ℕ → Literal → Next
+literalElement kind newline first (Literal.Ends end) = element kind 0 newline first end
+literalElement kind newline first (Literal.Fault number place) = Next.Fault number place
 
 -- a name; a reserved word that is taken here; or one that is refused
 abbrev pub wordOrName : ℕ → Bool → ℕ → ℕ → Next
-wordOrName word line first end =
-    cond (eqb word 0) (element nameKind 0 line first end)
-    (cond (taken word) (element wordKind word line first end)
+wordOrName word newline first end =
+    cond (eqb word 0) (element nameKind 0 newline first end)
+    (cond (taken word) (element wordKind word newline first end)
     (Next.Fault barredWord first))
 
 -- "Names: letters, `$`, `_`, and digits after the first byte": the name or word at `first`, where s is the text from there on
 unfoldable pub named : Bool → ℕ → List ℕ → Next
-named line first s = wordOrName (wordNumber (take (run nameByte s) s)) line first (first + run nameByte s)
+named newline first s = wordOrName (wordNumber (take (run nameByte s) s)) newline first (first + run nameByte s)
 
 -- the number of a sign
 abbrev pub numberOfSign : Longest → ℕ
 numberOfSign Longest.None = 0
 numberOfSign (Longest.Sign number n legal) = number
 
--- "`( ) { }`"
+-- the delimiters: "`( ) { }`"
+abbrev pub parenOpener : ℕ
+parenOpener = numberOfSign (longestSign (bytes "("))
+
+abbrev pub parenCloser : ℕ
+parenCloser = numberOfSign (longestSign (bytes ")"))
+
+abbrev pub braceOpener : ℕ
+braceOpener = numberOfSign (longestSign (bytes "{"))
+
+abbrev pub braceCloser : ℕ
+braceCloser = numberOfSign (longestSign (bytes "}"))
+
 unfoldable pub delimiter : ℕ → Bool
-delimiter sign =
-    eqb sign (numberOfSign (longestSign (bytes "{"))) || eqb sign (numberOfSign (longestSign (bytes "}")))
-    || eqb sign (numberOfSign (longestSign (bytes "("))) || eqb sign (numberOfSign (longestSign (bytes ")")))
+delimiter sign = eqb sign braceOpener || eqb sign braceCloser || eqb sign parenOpener || eqb sign parenCloser
 
 -- "Signs: the longest of the 48 signs of ES5.1 section 7.7 is taken", and refused if it is not legal here
 abbrev pub signOrStray : Bool → ℕ → Longest → Next
-signOrStray line first Longest.None = Next.Fault stray first
-signOrStray line first (Longest.Sign number n legal) =
-    cond legal (element (cond (delimiter number) delimiterKind signKind) number line first (first + n)) (Next.Fault barredSign first)
+signOrStray newline first Longest.None = Next.Fault stray first
+signOrStray newline first (Longest.Sign number n legal) =
+    cond legal (element (cond (delimiter number) delimiterKind signKind) number newline first (first + n)) (Next.Fault barredSign first)
 
 -- The element at `first`, where the list is the text from there on and no blank, line end or comment starts there. "A slash
 -- that opens a regular expression is not a sign." "A `.` directly before a digit is refused too." An illegal byte starts no
 -- sign, so it is stray.
 unfoldable pub elementFrom : Bool → Bool → ℕ → List ℕ → Next
-elementFrom pattern line first [] = Next.End
-elementFrom pattern line first (b ∷ s) =
-    cond (letter b) (named line first (b ∷ s))
-    (cond (digit b) (literal numberKind line first (numberFrom first (b ∷ s)))
-    (cond (quote b) (literal stringKind line first (stringRest b first false (first + 1) s))
-    (cond (pattern && eqb b (byte "/")) (literal patternKind line first (patternRest first false false (first + 1) s))
+elementFrom pattern newline first [] = Next.End
+elementFrom pattern newline first (b ∷ s) =
+    cond (letter b) (named newline first (b ∷ s))
+    (cond (digit b) (literalElement numberKind newline first (numberFrom first (b ∷ s)))
+    (cond (quote b) (literalElement stringKind newline first (stringRest b first false (first + 1) s))
+    (cond (pattern && eqb b (byte "/")) (literalElement patternKind newline first (patternRest first false false (first + 1) s))
     (cond (eqb b (byte ".") && digit (getD s 0 0)) (Next.Fault badNumber first)
-    (signOrStray line first (longestSign (b ∷ s)))))))
+    (signOrStray newline first (longestSign (b ∷ s)))))))
 
 -- what follows a gap
 abbrev pub afterGap : List ℕ → Bool → Gap → Next
-afterGap text pattern (Gap.Ends first line) = elementFrom pattern line first (drop first text)
+afterGap text pattern (Gap.Ends first newline) = elementFrom pattern newline first (drop first text)
 afterGap text pattern (Gap.Fault number place) = Next.Fault number place
 
 -- the next element of a text from a place on, where `pattern` says whether a slash met there opens a regular expression;
@@ -107,13 +118,26 @@ elementAt text place pattern = afterGap text pattern (gap place false (drop plac
 
 -- whether the element behind a gap would start with a slash
 abbrev pub slashAfter : List ℕ → Gap → Bool
-slashAfter text (Gap.Ends first line) = eqb (getD text first 0) (byte "/")
+slashAfter text (Gap.Ends first newline) = eqb (getD text first 0) (byte "/")
 slashAfter text (Gap.Fault number place) = false
 
 -- "A slash is met where an element would start with it and no comment starts there."
 unfoldable pub slashMet : List ℕ → ℕ → Bool
 slashMet text place = slashAfter text (gap place false (drop place text))
 
--- whether a number is that of the sign that is spelled so
-abbrev pub isSign : String → ℕ → Bool
-isSign t which = eqb which (numberOfSign (longestSign (bytes t)))
+-- the number that the table of refused texts gives what is met; 0 where that is no fault
+abbrev pub numberOf : Next → ℕ
+numberOf Next.End = 0
+numberOf (Next.Found e) = 0
+numberOf (Next.Fault number place) = number
+
+-- what stands beside it: the place of a fault, or an element's first byte; nothing, which is 0, at the text's end
+abbrev pub valueOf : Next → ℕ
+valueOf Next.End = 0
+valueOf (Next.Found e) = e .first
+valueOf (Next.Fault number place) = place
+
+-- What `element_at` promises of its answer, for every text, every place and either stated slash answer.
+abbrev pub Finds : List ℕ → ℕ → Bool → Next → Type 0
+Finds text place pattern next =
+    (next ≡ elementAt text place pattern) × Tells numberOf valueOf next (elementAt text place pattern)

@@ -1,3 +1,2 @@
 pub mod Elements
-pub mod Parts
-pub mod Walks
+pub mod Lexemes

@@ -5,11 +5,8 @@ ghost use Prim.Native.Nat.{_+_, _<_};
 ghost use lib.Dec.{eqb};
 ghost use lib.ListN.{length, drop, getD};
 ghost use Rattle.text.specs.Bytes.{digit};
-ghost use Rattle.elements.specs.Elements.{literal, named, delimiter, signOrStray, elementFrom, elementAt};
+ghost use Rattle.elements.specs.Elements.{literalElement, named, delimiter, signOrStray, elementFrom, Finds};
 ghost use Rattle.signs.specs.Signs.{longestSign};
-
-pub mod walk;
-
 use answers::faults::BAD_NUMBER;
 use answers::faults::BARRED_SIGN;
 use answers::faults::BARRED_WORD;
@@ -43,7 +40,7 @@ pub struct Element {
     pub which: u32,
     pub first: usize,
     pub end: usize,
-    pub line: bool,
+    pub newline: bool,
 }
 
 // What a text has from a place on: no element any more, an element, or a fault's number and place.
@@ -54,8 +51,8 @@ pub enum Next {
 }
 
 // A literal that was cut, as an element.
-fn literal_element(kind: u32, first: usize, line: bool, cut: Literal) -> Next
-    ensures { λ r. ⌜ r ≡ literal kind line first cut ⌝ }
+fn literal_element(kind: u32, first: usize, newline: bool, cut: Literal) -> Next
+    ensures { λ r. ⌜ r ≡ literalElement kind newline first cut ⌝ }
 {
     match cut {
         Literal::Ends(end) => Next::Found(Element {
@@ -63,16 +60,16 @@ fn literal_element(kind: u32, first: usize, line: bool, cut: Literal) -> Next
             which: 0,
             first,
             end,
-            line,
+            newline,
         }),
         Literal::Fault(number, place) => Next::Fault(number, place),
     }
 }
 
 // The name or reserved word at `first`.
-fn name_element(text: &[u8], first: usize, line: bool) -> Next
+fn name_element(text: &[u8], first: usize, newline: bool) -> Next
     requires { ⌜ first < length (now text) ⌝ }
-    ensures { λ r. ⌜ r ≡ named line first (drop first (now (text .entry))) ⌝ }
+    ensures { λ r. ⌜ r ≡ named newline first (drop first (now (text .entry))) ⌝ }
 {
     let end = text::name_end(text, first);
     let which = words::word_number(&text[first..end]);
@@ -82,7 +79,7 @@ fn name_element(text: &[u8], first: usize, line: bool) -> Next
             which: 0,
             first,
             end,
-            line,
+            newline,
         });
     }
     if words::is_taken(which) {
@@ -91,7 +88,7 @@ fn name_element(text: &[u8], first: usize, line: bool) -> Next
             which,
             first,
             end,
-            line,
+            newline,
         });
     }
     Next::Fault(BARRED_WORD, first)
@@ -114,9 +111,9 @@ fn is_delimiter(sign: u32) -> bool
 }
 
 // The sign or delimiter at `first`.
-fn sign_element(text: &[u8], first: usize, line: bool) -> Next
+fn sign_element(text: &[u8], first: usize, newline: bool) -> Next
     requires { ⌜ first < length (now text) ⌝ }
-    ensures { λ r. ⌜ r ≡ signOrStray line first (longestSign (drop first (now (text .entry)))) ⌝ }
+    ensures { λ r. ⌜ r ≡ signOrStray newline first (longestSign (drop first (now (text .entry)))) ⌝ }
 {
     let longest = signs::sign_at(text, first);
     let Longest::Sign(which, len, legal) = longest else {
@@ -132,7 +129,7 @@ fn sign_element(text: &[u8], first: usize, line: bool) -> Next
             which,
             first,
             end,
-            line,
+            newline,
         });
     }
     Next::Found(Element {
@@ -140,7 +137,7 @@ fn sign_element(text: &[u8], first: usize, line: bool) -> Next
         which,
         first,
         end,
-        line,
+        newline,
     })
 }
 
@@ -174,24 +171,24 @@ fn is_pattern_slash(b: u8, pattern: bool) -> bool
 }
 
 // The element at `first`, where no blank, line end or comment starts.
-fn element_from(text: &[u8], first: usize, line: bool, pattern: bool) -> Next
-    ensures { λ r. ⌜ r ≡ elementFrom pattern line first (drop first (now (text .entry))) ⌝ }
+fn element_from(text: &[u8], first: usize, newline: bool, pattern: bool) -> Next
+    ensures { λ r. ⌜ r ≡ elementFrom pattern newline first (drop first (now (text .entry))) ⌝ }
 {
     if text.len() <= first {
         return Next::End;
     }
     let b = text[first];
     if text::is_letter(b) {
-        return name_element(text, first, line);
+        return name_element(text, first, newline);
     }
     if text::is_digit(b) {
-        return literal_element(NUMBER, first, line, numbers::number_at(text, first));
+        return literal_element(NUMBER, first, newline, numbers::number_at(text, first));
     }
     if strings::is_quote(b) {
         return literal_element(
             STRING,
             first,
-            line,
+            newline,
             strings::string_rest(text, b, first, first + 1),
         );
     }
@@ -199,23 +196,23 @@ fn element_from(text: &[u8], first: usize, line: bool, pattern: bool) -> Next
         return literal_element(
             PATTERN,
             first,
-            line,
+            newline,
             patterns::pattern_rest(text, first, first + 1),
         );
     }
     if is_dot_before_digit(text, b, first) {
         return Next::Fault(BAD_NUMBER, first);
     }
-    sign_element(text, first, line)
+    sign_element(text, first, newline)
 }
 
 // The next element of a text from a place on, where `pattern` says whether a slash met there opens a regular expression.
 // A place at or past the text's end has none.
 pub fn element_at(text: &[u8], place: usize, pattern: bool) -> Next
-    ensures { λ r. ⌜ r ≡ elementAt (now (text .entry)) place pattern ⌝ }
+    ensures { λ r. ⌜ Finds (now (text .entry)) place pattern r ⌝ }
 {
     match gaps::gap_from(text, place) {
-        Gap::Ends(first, line) => element_from(text, first, line, pattern),
+        Gap::Ends(first, newline) => element_from(text, first, newline, pattern),
         Gap::Fault(number, at) => Next::Fault(number, at),
     }
 }

@@ -1,28 +1,31 @@
-// Prints how a walk cuts the texts that standard input gives, one case to a line, for comparison with the stored answers. `cases.rt` says what a line holds, `print.rt` what is printed.
-mod cases;
+// Prints how a walk cuts the texts that standard input gives, one case to a line, for comparison with the stored answers.
+// `case.rt` says what a line holds, `print.rt` what is printed.
+mod case;
 mod print;
-mod walk;
+mod texts;
 
-use cases::Case;
+use case::Case;
+use cases::spelling::MOST;
 use libc::STDIN_FILENO;
 
 fn main() {
     let mut input = io::large_buffer();
     let n = io::read_full(STDIN_FILENO, &mut input);
-    answer_all(&input[..n]);
+    let mut text = [0u8; MOST];
+    answer_all(&input[..n], &mut text);
 }
 
-fn answer_all(input: &[u8]) {
+fn answer_all(input: &[u8], text: &mut [u8; MOST]) {
     let mut at = 0;
     while at < input.len() {
         let end = cases::line_end(input, at);
-        answer(&input[at..end]);
+        answer(&input[at..end], text);
         at = end + 1;
     }
 }
 
 // A heading is copied, an empty line skipped, and any other line is a case.
-fn answer(line: &[u8]) {
+fn answer(line: &[u8], text: &mut [u8; MOST]) {
     if line.len() == 0 {
         return;
     }
@@ -30,12 +33,11 @@ fn answer(line: &[u8]) {
         print::heading(line);
         return;
     }
-    let mut text = cases::no_text();
-    let case = cases::case_of(line, &mut text);
+    let case = case::case_of(line, text);
     match case {
-        Case::One(size, pattern) => walk::one(&text, size, pattern, false),
-        Case::Prefixes(size, pattern) => walk::prefixes(&text, size, pattern),
-        Case::Parts(size, pattern) => walk::one(&text, size, pattern, true),
+        Case::One(size, pattern) => texts::one(text, size, pattern, false),
+        Case::Prefixes(size, pattern) => texts::prefixes(text, size, pattern),
+        Case::Parts(size, pattern) => texts::one(text, size, pattern, true),
         Case::Bad => print::bad_case(),
     }
 }

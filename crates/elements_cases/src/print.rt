@@ -2,6 +2,9 @@
 // then `end` or `fault,number,place`, with a blank between.
 use elements::Element;
 use libc::STDOUT_FILENO;
+use printing::numbers::put_number;
+use printing::writing::put_byte;
+use printing::writing::put_bytes;
 
 // A line is gathered and then written at once. An element of a text of at most 256 bytes takes at most 15 bytes, or three
 // more than its own, so every line has room.
@@ -29,59 +32,31 @@ pub fn line(out: &[u8; ROOM], n: usize) {
 }
 
 pub fn end(out: &mut [u8; ROOM], at: usize) -> usize {
-    put_all(out, at, b"end\n")
+    put_bytes(out, at, b"end\n")
 }
 
 // A walk that does not come to an end differs from every stored answer.
 pub fn no_end(out: &mut [u8; ROOM], at: usize) -> usize {
-    put_all(out, at, b"no end\n")
+    put_bytes(out, at, b"no end\n")
 }
 
 pub fn fault(out: &mut [u8; ROOM], at: usize, number: u32, place: usize) -> usize {
-    let n = put_all(out, at, b"fault,");
-    let n = put_number(out, n, number as u64, b',');
-    put_number(out, n, place as u64, b'\n')
+    let n = put_bytes(out, at, b"fault,");
+    let n = put_number(out, n, number as usize, b',');
+    put_number(out, n, place, b'\n')
 }
 
 pub fn element(out: &mut [u8; ROOM], at: usize, e: Element) -> usize {
-    let n = put_number(out, at, e.kind as u64, b',');
-    let n = put_number(out, n, e.which as u64, b',');
-    let n = put_number(out, n, e.first as u64, b',');
-    let n = put_number(out, n, e.end as u64, b',');
-    put_number(out, n, e.line as u64, b' ')
+    let n = put_number(out, at, e.kind as usize, b',');
+    let n = put_number(out, n, e.which as usize, b',');
+    let n = put_number(out, n, e.first, b',');
+    let n = put_number(out, n, e.end, b',');
+    put_number(out, n, e.newline as usize, b' ')
 }
 
 // An element's bytes.
 pub fn part(out: &mut [u8; ROOM], at: usize, bytes: &[u8]) -> usize {
-    let n = put(out, at, b'`');
-    let n = put_all(out, n, bytes);
-    put_all(out, n, b"` ")
-}
-
-// A number in decimal, and a byte after it.
-fn put_number(out: &mut [u8; ROOM], at: usize, number: u64, after: u8) -> usize {
-    let mut digits = [0u8; 20];
-    let k = io::decimal(number, &mut digits);
-    let n = put_all(out, at, &digits[..k]);
-    put(out, n, after)
-}
-
-fn put_all(out: &mut [u8; ROOM], at: usize, bytes: &[u8]) -> usize {
-    let mut n = at;
-    let mut i = 0;
-    while i < bytes.len() {
-        n = put(out, n, bytes[i]);
-        i += 1;
-    }
-    n
-}
-
-// Puts a byte if there is room, and answers the place after it.
-fn put(out: &mut [u8; ROOM], at: usize, byte: u8) -> usize {
-    if at < ROOM {
-        out[at] = byte;
-        at + 1
-    } else {
-        at
-    }
+    let n = put_byte(out, at, b'`');
+    let n = put_bytes(out, n, bytes);
+    put_bytes(out, n, b"` ")
 }

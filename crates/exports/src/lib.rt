@@ -3,10 +3,10 @@ ghost use mathlib.Core.Path.{_≡_};
 ghost use Prim.Native.Nat.{_<_, _^_};
 ghost use lib.ListN.{length};
 ghost use Rattle.answers.specs.Answers.{valueOf};
-ghost use Rattle.reader.specs.Read.{readingFor, answerOf, tableAfter};
-ghost use Rattle.respacer.specs.Respace.{respacingFor, outputAfter};
-ghost use Rattle.parser.specs.Parse.{parsingFor, treesAfter, syntaxAfter};
-ghost use Rattle.exports.specs.Packed.{packed};
+ghost use Rattle.reader.specs.Read.{Reads};
+ghost use Rattle.respacer.specs.Respace.{Respaces};
+ghost use Rattle.parser.specs.Parse.{Parses};
+ghost use Rattle.exports.specs.Packed.{packed, Packs};
 use answers::Answer;
 
 // An answer as one number.
@@ -23,7 +23,7 @@ fn pack(answer: Answer) -> u64
 // reader::read.
 #[no_mangle]
 pub extern "C" fn buldrekso_read(text: &[u8], trees: &mut [u32]) -> u64
-    ensures { λ r. ⌜ (r ≡ packed (answerOf (readingFor (now (text .entry)) (length (now (trees .entry)))))) × (now (trees .exit) ≡ tableAfter (readingFor (now (text .entry)) (length (now (trees .entry)))) (now (trees .entry))) ⌝ }
+    ensures { λ r. ⌜ Packs (Reads (now (text .entry)) (now (trees .entry)) (now (trees .exit))) r ⌝ }
 {
     pack(reader::read(text, trees))
 }
@@ -31,7 +31,7 @@ pub extern "C" fn buldrekso_read(text: &[u8], trees: &mut [u32]) -> u64
 // respacer::respace.
 #[no_mangle]
 pub extern "C" fn buldrekso_respace(text: &[u8], output: &mut [u8]) -> u64
-    ensures { λ r. ⌜ (r ≡ packed (Rattle.respacer.specs.Respace.answerOf (respacingFor (now (text .entry)) (length (now (output .entry)))))) × (now (output .exit) ≡ outputAfter (respacingFor (now (text .entry)) (length (now (output .entry)))) (now (output .entry))) ⌝ }
+    ensures { λ r. ⌜ Packs (Respaces (now (text .entry)) (now (output .entry)) (now (output .exit))) r ⌝ }
 {
     pack(respacer::respace(text, output))
 }
@@ -39,7 +39,7 @@ pub extern "C" fn buldrekso_respace(text: &[u8], output: &mut [u8]) -> u64
 // parser::parse.
 #[no_mangle]
 pub extern "C" fn buldrekso_parse(text: &[u8], trees: &mut [u32], syntax: &mut [u32]) -> u64
-    ensures { λ r. ⌜ (r ≡ packed (Rattle.parser.specs.Parse.answerOf (parsingFor (now (text .entry)) (length (now (trees .entry))) (length (now (syntax .entry)))))) × (now (trees .exit) ≡ treesAfter (parsingFor (now (text .entry)) (length (now (trees .entry))) (length (now (syntax .entry)))) (now (trees .entry))) × (now (syntax .exit) ≡ syntaxAfter (parsingFor (now (text .entry)) (length (now (trees .entry))) (length (now (syntax .entry)))) (now (syntax .entry))) ⌝ }
+    ensures { λ r. ⌜ Packs (Parses (now (text .entry)) (now (trees .entry)) (now (syntax .entry)) (now (trees .exit)) (now (syntax .exit))) r ⌝ }
 {
     pack(parser::parse(text, trees, syntax))
 }

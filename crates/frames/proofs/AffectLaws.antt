@@ -11,17 +11,17 @@ use Rattle.tables.specs.Records.{mostTrees, mostSyntax}
 use Rattle.grammar.specs.Tokens.{assign}
 use Rattle.grammar.specs.Syntax.{memberSyntax, expressionSyntax, bareReturnSyntax, fullReturnSyntax, labelSyntax}
 use Rattle.grammar.specs.Grammar.{precedence}
-use Rattle.grammar.specs.Machine as machine
-use Rattle.grammar.specs.Machine.{Frame, frame, threshold, keep, endBareReturn, takeOperator, Control}
-use Rattle.controls.specs.Numbers.{effectBy}
-use Rattle.controls.specs.Steps.{Leads, to-name, to-leaf, to-function, to-declaration, to-return, to-label, to-bare-end, to-member, to-assign, to-operator, to-end, to-return-end}
-use Rattle.waiting.specs.Written.{putRecord}
-use Rattle.waiting.specs.Waiting.{width, binding, Held, Closes, Completes, stackWith, waitingOne, madeOne, withWord}
+use Rattle.grammar.specs.Machinery.Machine as machine
+use Rattle.grammar.specs.Machinery.Machine.{Frame, frame, threshold, keep, endBareReturn, takeOperator, Control}
+use Rattle.controls.specs.Machinery.Numbers.{effectBy}
+use Rattle.controls.specs.Machinery.Steps.{Leads, to-name, to-leaf, to-function, to-declaration, to-return, to-label, to-bare-end, to-member, to-assign, to-operator, to-end, to-return-end}
+use Rattle.waiting.specs.Machinery.Written.{putRecord}
+use Rattle.waiting.specs.Machinery.Waiting.{width, binding, Backed, Closes, Completes, stackWith, waitingOne, madeOne, withHeld}
 use Rattle.waiting.specs.declared.Level.{Level}
-use Rattle.waiting.proofs.HoldLaws.{held, uppermost}
+use Rattle.waiting.proofs.HoldLaws.{backed, uppermost}
 use Rattle.waiting.proofs.OperatorLaws.{operator-small}
-use Rattle.frames.specs.Stands.{Stands}
-use Rattle.frames.specs.Effects.{MayAffect, Affects}
+use Rattle.frames.specs.Machinery.Stands.{Stands}
+use Rattle.frames.specs.Machinery.Effects.{MayAffect, Affects}
 use Rattle.frames.proofs.CarryLaws.{backOne, carried, closes-lightens, carries-made, carries-back, carries-expression}
 use Rattle.frames.proofs.EffectLaws.{return-begun, keeps, takes-leaf, takes-member, holds-name, holds-word, holds-declared, starts-return, takes-label, takes-operator, ends-expression, ends-return, ends-bare}
 
@@ -71,7 +71,7 @@ module _ {l : Level} {stack cells : List ℕ} where
   member-affects class mark e from to g nests table stack₀ first floor passed s to-member more = rw (e .0, e .1) (takes-member more mark s)
 
   pub operator-affects : (class mark least : ℕ) {left r : Level} {after cells′ : List ℕ} → mark ≤ mostTrees → (l .top + 1) * width ≤ length stack → least ≡ threshold class + 2
-      → (left .floor ≡ l .floor) × (left .word ≡ l .word) × Closes least l stack cells left cells′
+      → (left .floor ≡ l .floor) × (left .held ≡ l .held) × Closes least l stack cells left cells′
       → (r ≡ waitingOne left) × (after ≡ stackWith stack (left .top) class mark (left .start)) → Affects 3 class mark l stack cells r after cells′
   unfolding effectBy binding
   operator-affects class mark least small room tight closes e from to g nests table stack₀ first floor passed s to-assign more =
@@ -80,16 +80,16 @@ module _ {l : Level} {stack cells : List ℕ} where
       rw (e .0, e .1) (takes-operator more false class mark small room (operator-binds class some) (closes .0) (closes .1) (rw tight at (closes .2)) s)
 
   pub label-affects : (class mark : ℕ) {r : Level} {after : List ℕ} → (l .top + 1) * width ≤ length stack
-      → (r ≡ waitingOne l) × (after ≡ stackWith stack (l .top) labelSyntax (l .word) (l .start)) → Affects 4 class mark l stack cells r after cells
+      → (r ≡ waitingOne l) × (after ≡ stackWith stack (l .top) labelSyntax (l .held) (l .start)) → Affects 4 class mark l stack cells r after cells
   unfolding effectBy
   label-affects class mark room e from to g nests table stack₀ first floor passed s to-label more = rw (e .0, e .1) (takes-label more mark room s)
 
-  pub word-affects : (class mark : ℕ) {r : Level} → mark ≤ mostTrees → r ≡ withWord mark l → Affects 5 class mark l stack cells r stack cells
+  pub word-affects : (class mark : ℕ) {r : Level} → mark ≤ mostTrees → r ≡ withHeld mark l → Affects 5 class mark l stack cells r stack cells
   unfolding effectBy
   word-affects class mark small e from to g nests table stack₀ first floor passed s (to-function due) more = rw e (holds-word more mark small due s)
   word-affects class mark small e from to g nests table stack₀ first floor passed s to-declaration more = rw e (holds-declared more mark small s)
 
-  pub name-affects : (class mark : ℕ) {r : Level} → mark ≤ mostTrees → r ≡ withWord mark l → Affects 6 class mark l stack cells r stack cells
+  pub name-affects : (class mark : ℕ) {r : Level} → mark ≤ mostTrees → r ≡ withHeld mark l → Affects 6 class mark l stack cells r stack cells
   unfolding effectBy
   name-affects class mark small e from to g nests table stack₀ first floor passed s to-name more = rw e (holds-name more mark small s)
 
@@ -98,7 +98,7 @@ module _ {l : Level} {stack cells : List ℕ} where
   unfolding effectBy
   return-affects class mark small room e from to g nests table stack₀ first floor passed s to-return more = rw (e .0, e .1) (starts-return more mark small room s)
 
-  pub expression-affects : (class mark : ℕ) {left one all : Level} {after cells′ cells″ : List ℕ} → (left .floor ≡ l .floor) × (left .word ≡ l .word) × Closes 2 l stack cells left after
+  pub expression-affects : (class mark : ℕ) {left one all : Level} {after cells′ cells″ : List ℕ} → (left .floor ≡ l .floor) × (left .held ≡ l .held) × Closes 2 l stack cells left after
       → (one ≡ madeOne left) × (cells′ ≡ putRecord after (left .count) expressionSyntax mark (left .count - left .start + 1)) → Completes one stack cells′ all cells″
       → Affects 8 class mark l stack cells all stack cells″
   unfolding effectBy
@@ -124,7 +124,7 @@ operator-class to-assign = omega arith
 operator-class {class = class} (to-operator tight) = operator-small class tight
 
 module _ {class mark : ℕ} {l r : Level} {stack cells after : List ℕ} where
-  pub operator-asks : {least : ℕ} → MayAffect 3 class mark l stack cells → (r .floor ≡ l .floor) × (r .word ≡ l .word) × Closes least l stack cells r after
+  pub operator-asks : {least : ℕ} → MayAffect 3 class mark l stack cells → (r .floor ≡ l .floor) × (r .held ≡ l .held) × Closes least l stack cells r after
       → ((r .top + 1) * width ≤ length stack) × (class < 65536) × (mark ≤ mostTrees) × (r .start ≤ mostTrees)
   unfolding effectBy
   operator-asks may closes =
@@ -132,7 +132,7 @@ module _ {class mark : ℕ} {l r : Level} {stack cells after : List ℕ} where
       let light = closes-lightens (s .holds) (closes .0) (closes .2) in
       (omega (arith, light, may .room), operator-class (may .leads), omega (arith, may .marked), omega (arith, light, s .holds .few))
 
-  pub expression-asks : {least : ℕ} → MayAffect 8 class mark l stack cells → (r .floor ≡ l .floor) × (r .word ≡ l .word) × Closes least l stack cells r after
+  pub expression-asks : {least : ℕ} → MayAffect 8 class mark l stack cells → (r .floor ≡ l .floor) × (r .held ≡ l .held) × Closes least l stack cells r after
       → (r .start ≤ r .count) × (r .count < mostSyntax) × (mark ≤ mostTrees)
   expression-asks may closes =
       let s = may .somewhere .stands in
@@ -140,13 +140,13 @@ module _ {class mark : ℕ} {l r : Level} {stack cells after : List ℕ} where
       (light .started, omega (arith, light, s .holds .few), omega (arith, may .marked))
 
   pub expression-held : (kind : ℕ) {one : Level} {cells′ : List ℕ} → MayAffect 8 class mark l stack cells
-      → (r .floor ≡ l .floor) × (r .word ≡ l .word) × Closes 2 l stack cells r after
-      → (one ≡ madeOne r) × (cells′ ≡ putRecord after (r .count) kind mark (r .count - r .start + 1)) → Held one stack cells′
+      → (r .floor ≡ l .floor) × (r .held ≡ l .held) × Closes 2 l stack cells r after
+      → (one ≡ madeOne r) × (cells′ ≡ putRecord after (r .count) kind mark (r .count - r .start + 1)) → Backed one stack cells′
   expression-held kind may closes e =
       let s = may .somewhere .stands in
       let light = closes-lightens (s .holds) (closes .0) (closes .2) in
       rw (e .0, e .1)
-      (held ((carries-made (carries-expression (carried s) (closes .0) (closes .1) (closes .2)) kind mark (omega (arith, light, s .passes, may .more))) .holds))
+      (backed ((carries-made (carries-expression (carried s) (closes .0) (closes .1) (closes .2)) kind mark (omega (arith, light, s .passes, may .more))) .holds))
 
 -- the return that waits uppermost
 pub record Returning (l : Level) (stack cells : List ℕ) : Type 0 where
@@ -154,10 +154,10 @@ pub record Returning (l : Level) (stack cells : List ℕ) : Type 0 where
   pub fits : l .top * width ≤ length stack
   pub marked : getD stack ((l .top - 1) * width + 1) 0 ≤ mostTrees
   pub holds : (m : ℕ) {one : Level} {cells′ : List ℕ} → (one ≡ madeOne (backOne l)) × (cells′ ≡ putRecord cells (l .count) bareReturnSyntax m (l .count - l .count + 1))
-      → Held one stack cells′
+      → Backed one stack cells′
 
 module _ {l : Level} {stack cells : List ℕ} where
-  returning : {from to : Control} {g : Frame} {nests : List machine.Held} {table stack₀ : List ℕ} {first floor passed : ℕ} → Leads endBareReturn from to
+  returning : {from to : Control} {g : Frame} {nests : List machine.Open} {table stack₀ : List ℕ} {first floor passed : ℕ} → Leads endBareReturn from to
       → Stands from g nests table stack₀ first floor passed l stack cells → first + floor + passed < mostTrees → Returning l stack cells
   returning to-bare-end s more =
       let h = return-begun s in
@@ -166,7 +166,7 @@ module _ {l : Level} {stack cells : List ℕ} where
         waits = u .some;
         fits = u .fits;
         marked = omega (arith, u .mark-is, u .marked);
-        holds = λ m e. rw (e .0, e .1) (held ((carries-made (carries-back h) bareReturnSyntax m (omega (arith, s .passes))) .holds));
+        holds = λ m e. rw (e .0, e .1) (backed ((carries-made (carries-back h) bareReturnSyntax m (omega (arith, s .passes))) .holds));
       }
 
   pub bare-asks : {class mark : ℕ} → MayAffect 10 class mark l stack cells → Returning l stack cells

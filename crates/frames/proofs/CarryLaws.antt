@@ -7,43 +7,43 @@ use lib.ListN.{length, getD}
 use Rattle.tables.specs.Records.{mostTrees}
 use Rattle.grammar.specs.Syntax.{Syntax, nil, node, snoc, size}
 use Rattle.grammar.specs.Grammar.{precedence}
-use Rattle.grammar.specs.Machine as machine
-use Rattle.grammar.specs.Machine.{Pending, pending, Frame, frame, wrap, behindStatement, toStatement, Control, nested}
-use Rattle.controls.specs.Numbers.{settingBy}
-use Rattle.waiting.specs.Written.{putRecord, putSyntax}
-use Rattle.waiting.specs.Waiting.{width, binding, nestKind, Shut, shut, close, lefts, Stacked, bare, above, Holds, HoldsShut, Held, Closes, Completes, stackWith, waitingOne, madeOne, withWord, restarted}
+use Rattle.grammar.specs.Machinery.Machine as machine
+use Rattle.grammar.specs.Machinery.Machine.{Pending, pending, Frame, frame, wrap, behindStatement, toStatement, Control, nested}
+use Rattle.controls.specs.Machinery.Numbers.{settingBy}
+use Rattle.waiting.specs.Machinery.Written.{putRecord, putSyntax}
+use Rattle.waiting.specs.Machinery.Waiting.{width, binding, nestKind, Shut, shut, close, lefts, Stacked, bare, above, Holds, HoldsShut, Closes, Completes, stackWith, waitingOne, madeOne, withHeld, restarted}
 use Rattle.waiting.specs.declared.Level.{Level}
 use Rattle.waiting.proofs.HoldLaws.{start-le, bottom-top, floor-le, word-held, alone-held, uppermost, done-held, nest-done-held, left-held, taken-back-held}
 use Rattle.waiting.proofs.PutLaws.{made-held, made-both, valued-held, waits-held, stack-long, stack-kept}
-use Rattle.frames.specs.Stands.{Operators, no-operators, more-operators, Beginnings, no-beginnings, more-beginnings, Some, some, InSetting, Below, below-none, below-nest, Shaped, written, HeldAt, owed, Kept, Stands}
-use Rattle.frames.specs.Effects.{Valued}
+use Rattle.frames.specs.Machinery.Stands.{Operators, no-operators, more-operators, Beginnings, no-beginnings, more-beginnings, Some, some, InSetting, Below, below-none, below-nest, Shaped, written, HeldAt, owed, Kept, Stands}
+use Rattle.frames.specs.Machinery.Effects.{Valued}
 use Rattle.frames.proofs.CloseLaws.{LighterBy, close-lightens, below-stops, Reduced, close-expression, close-statement}
 
 -- the level with so many records
 abbrev pub withCount : ℕ → Level → Level
-withCount n l = record { count = n; top = l .top; floor = l .floor; start = l .start; word = l .word }
+withCount n l = record { count = n; top = l .top; floor = l .floor; start = l .start; held = l .held }
 
 -- the level with the uppermost part taken back
 abbrev pub backOne : Level → Level
-backOne l = record { count = l .count; top = l .top - 1; floor = l .floor; start = l .count; word = l .word }
+backOne l = record { count = l .count; top = l .top - 1; floor = l .floor; start = l .count; held = l .held }
 
 -- and the level around a nest
 abbrev pub leftOne : Level → List ℕ → Level
-leftOne l stack = record { count = l .count; top = l .top - 1; floor = l .floor; start = getD stack ((l .top - 1) * width + 2) 0; word = l .word }
+leftOne l stack = record { count = l .count; top = l .top - 1; floor = l .floor; start = getD stack ((l .top - 1) * width + 2) 0; held = l .held }
 
 -- the level carries statements done, beginnings of statements, operators, and what is written of an operand
-pub record Carries (nests : List machine.Held) (table stack₀ : List ℕ) (first floor : ℕ) (done : Syntax) (starts waiting : List Pending) (last : Syntax) (l : Level) (stack cells : List ℕ) : Type 0 where
+pub record Carries (nests : List machine.Open) (table stack₀ : List ℕ) (first floor : ℕ) (done : Syntax) (starts waiting : List Pending) (last : Syntax) (l : Level) (stack cells : List ℕ) : Type 0 where
   pub operators : Operators waiting
   pub beginnings : Beginnings starts
   pub base : Syntax
   pub tail : List Pending
   pub below : Below done nests base tail
   pub holds : Holds table first base (waiting ++ (starts ++ tail)) last l stack cells
-  pub worded : l .word ≤ mostTrees
+  pub worded : l .held ≤ mostTrees
   pub floored : l .floor ≡ floor
   pub kept : Kept stack₀ stack floor
 
-module _ {c : Control} {nests : List machine.Held} {table stack₀ : List ℕ} {first floor passed : ℕ} {l : Level} {stack cells : List ℕ} where
+module _ {c : Control} {nests : List machine.Open} {table stack₀ : List ℕ} {first floor passed : ℕ} {l : Level} {stack cells : List ℕ} where
   pub carried : {g : Frame} (s : Stands c g nests table stack₀ first floor passed l stack cells)
       → Carries nests table stack₀ first floor (s .done) (s .starts) (s .waiting) (written c (s .operand)) l stack cells
   carried s =
@@ -61,7 +61,7 @@ module _ {c : Control} {nests : List machine.Held} {table stack₀ : List ℕ} {
 
   pub stands : {done : Syntax} {starts waiting : List Pending} (operand : Syntax)
       → Carries nests table stack₀ first floor done starts waiting (written c operand) l stack cells
-      → Shaped c done starts waiting operand nests → HeldAt c operand (l .word) → l .count + l .top + owed c ≤ first + floor + passed → first + floor + passed ≤ mostTrees
+      → Shaped c done starts waiting operand nests → HeldAt c operand (l .held) → l .count + l .top + owed c ≤ first + floor + passed → first + floor + passed ≤ mostTrees
       → Stands c (frame done starts waiting operand) nests table stack₀ first floor passed l stack cells
   stands operand h shaped word passes few =
       record {
@@ -125,12 +125,12 @@ more-stack stack top kind mark start = record { same-length = stack-long stack t
 kept-under : {before middle after : List ℕ} {floor top : ℕ} → Kept before middle floor → Kept middle after top → floor ≤ top → Kept before after floor
 kept-under h k up = record { same-length = k .same-length ∙ h .same-length; same = λ i less. k .same i (omega arith) ∙ h .same i less }
 
-module _ {nests : List machine.Held} {table stack₀ : List ℕ} {first floor : ℕ} {done : Syntax} {starts waiting : List Pending} {last : Syntax} {l : Level} {stack cells : List ℕ}
+module _ {nests : List machine.Open} {table stack₀ : List ℕ} {first floor : ℕ} {done : Syntax} {starts waiting : List Pending} {last : Syntax} {l : Level} {stack cells : List ℕ}
     (h : Carries nests table stack₀ first floor done starts waiting last l stack cells) where
   -- other parts are carried, at the same floor
-  carries-other : {others : List machine.Held} {statements base next : Syntax} {begun operators tail : List Pending} {r : Level} {after cells′ : List ℕ}
+  carries-other : {others : List machine.Open} {statements base next : Syntax} {begun operators tail : List Pending} {r : Level} {after cells′ : List ℕ}
       → Operators operators → Beginnings begun → Below statements others base tail → Holds table first base (operators ++ (begun ++ tail)) next r after cells′
-      → r .word ≤ mostTrees → r .floor ≡ l .floor → Kept stack after (l .top) → Carries others table stack₀ first floor statements begun operators next r after cells′
+      → r .held ≤ mostTrees → r .floor ≡ l .floor → Kept stack after (l .top) → Carries others table stack₀ first floor statements begun operators next r after cells′
   carries-other operators beginnings below k word f same =
       record {
         operators = operators;
@@ -146,10 +146,10 @@ module _ {nests : List machine.Held} {table stack₀ : List ℕ} {first floor : 
 
   -- what is written behind the operators changes, and the stack may above them
   carries-last : {next : Syntax} {r : Level} {after cells′ : List ℕ} → Holds table first (h .base) (waiting ++ (starts ++ h .tail)) next r after cells′
-      → r .word ≤ mostTrees → r .floor ≡ l .floor → Kept stack after (l .top) → Carries nests table stack₀ first floor done starts waiting next r after cells′
+      → r .held ≤ mostTrees → r .floor ≡ l .floor → Kept stack after (l .top) → Carries nests table stack₀ first floor done starts waiting next r after cells′
   carries-last k word f same = carries-other (h .operators) (h .beginnings) (h .below) k word f same
 
-  pub carries-word : (word : ℕ) → word ≤ mostTrees → Carries nests table stack₀ first floor done starts waiting last (withWord word l) stack cells
+  pub carries-word : (word : ℕ) → word ≤ mostTrees → Carries nests table stack₀ first floor done starts waiting last (withHeld word l) stack cells
   carries-word word few = carries-last (word-held word (h .holds)) few refl same-stack
 
   pub carries-made : (kind mark : ℕ) → l .count + l .top < mostTrees
@@ -169,7 +169,7 @@ module _ {nests : List machine.Held} {table stack₀ : List ℕ} {first floor : 
       carries-other (more-operators binds (h .operators)) (h .beginnings) (h .below) (waits-held kind mark (h .holds) room marked fits) (h .worded) refl
       (more-stack stack (l .top) kind mark (l .start))
 
-module _ {nests : List machine.Held} {table stack₀ : List ℕ} {first floor : ℕ} {done : Syntax} {starts : List Pending} {l : Level} {stack cells : List ℕ} where
+module _ {nests : List machine.Open} {table stack₀ : List ℕ} {first floor : ℕ} {done : Syntax} {starts : List Pending} {l : Level} {stack cells : List ℕ} where
   pub carries-alone : {waiting : List Pending} {value : Syntax} → Carries nests table stack₀ first floor done starts waiting (snoc nil value) l stack cells
       → Carries nests table stack₀ first floor done starts waiting value l stack cells
   carries-alone h = carries-last h (alone-held (h .holds)) (h .worded) refl same-stack
@@ -202,28 +202,28 @@ module _ {nests : List machine.Held} {table stack₀ : List ℕ} {first floor : 
   carries-back h = carries-other h no-operators (beginnings-rest (h .beginnings)) (h .below) (taken-back-held (h .holds)) (h .worded) refl same-stack
 
 -- a statement goes to those done, wherever those are
-record Followed (nests : List machine.Held) (table : List ℕ) (first : ℕ) (done : Syntax) (l : Level) (stack cells : List ℕ) : Type 0 where
+record Followed (nests : List machine.Open) (table : List ℕ) (first : ℕ) (done : Syntax) (l : Level) (stack cells : List ℕ) : Type 0 where
   base : Syntax
   tail : List Pending
   below : Below done nests base tail
   holds : Holds table first base tail nil l stack cells
 
-followed : {nests : List machine.Held} {table : List ℕ} {first : ℕ} {done base value : Syntax} {tail : List Pending} {l : Level} {stack cells : List ℕ}
+followed : {nests : List machine.Open} {table : List ℕ} {first : ℕ} {done base value : Syntax} {tail : List Pending} {l : Level} {stack cells : List ℕ}
     → Below done nests base tail → Holds table first base tail value l stack cells → Followed nests table first (snoc done value) (restarted l) stack cells
 followed below-none h = record { base = _; tail = []; below = below-none; holds = done-held h }
 followed (below-nest beginnings setting below) h = record { base = _; tail = _; below = below-nest beginnings setting below; holds = nest-done-held h }
 
-module _ {nests : List machine.Held} {table stack₀ : List ℕ} {first floor : ℕ} {done : Syntax} {starts waiting : List Pending} {last : Syntax} {l r : Level} {stack cells after : List ℕ}
+module _ {nests : List machine.Open} {table stack₀ : List ℕ} {first floor : ℕ} {done : Syntax} {starts waiting : List Pending} {last : Syntax} {l r : Level} {stack cells after : List ℕ}
     (h : Carries nests table stack₀ first floor done starts waiting last l stack cells) where
   -- operators are closed: those that bind at least so tight, or all of them
-  pub carries-closed : (least : ℕ) → r .floor ≡ l .floor → r .word ≡ l .word → Closes (least + 2) l stack cells r after
+  pub carries-closed : (least : ℕ) → r .floor ≡ l .floor → r .held ≡ l .held → Closes (least + 2) l stack cells r after
       → (k : Reduced least done starts waiting (starts ++ h .tail) last) → Carries nests table stack₀ first floor done starts (k .left) (k .last) r stack after
   carries-closed least f w closes k =
       let m : HoldsShut table first (h .base) (shut (k .left ++ (starts ++ h .tail)) (k .last)) r stack after =
       rw (k .closes) at (closes table first (h .base) (waiting ++ (starts ++ h .tail)) last (h .holds)) in
       carries-other h (k .operators) (h .beginnings) (h .below) m (omega (arith, w, h .worded)) f same-stack
 
-  pub carries-expression : r .floor ≡ l .floor → r .word ≡ l .word → Closes 2 l stack cells r after
+  pub carries-expression : r .floor ≡ l .floor → r .held ≡ l .held → Closes 2 l stack cells r after
       → Carries nests table stack₀ first floor done starts [] (wrap waiting last) r stack after
   carries-expression f w closes =
       let m : HoldsShut table first (h .base) (shut (starts ++ h .tail) (wrap waiting last)) r stack after =
@@ -239,7 +239,7 @@ module _ {nests : List machine.Held} {table stack₀ : List ℕ} {first floor : 
       rw (close-statement last (h .operators) (h .beginnings) (below-stops (h .below)))
       at (k .closes table first (h .base) (waiting ++ (starts ++ h .tail)) last (h .holds)) in
       let n = followed (h .below) m in
-      rw (k .is) (carries-other h no-operators no-beginnings (n .below) (n .holds) (omega (arith, k .same-word, h .worded)) (k .same-floor) same-stack)
+      rw (k .is) (carries-other h no-operators no-beginnings (n .below) (n .holds) (omega (arith, k .same-held, h .worded)) (k .same-floor) same-stack)
 
   pub completes-lightens : Completes l stack cells r after → Lighter l r
   completes-lightens k =
@@ -247,12 +247,12 @@ module _ {nests : List machine.Held} {table stack₀ : List ℕ} {first floor : 
       rw (k .is) (record { same = m .same; lower = m .lower; started = omega arith })
 
 -- what is carried around a nest with its statement done
-pub record Around (nests : List machine.Held) (table stack₀ : List ℕ) (first floor : ℕ) (last : Syntax) (l : Level) (stack cells : List ℕ) : Type 0 where
+pub record Around (nests : List machine.Open) (table stack₀ : List ℕ) (first floor : ℕ) (last : Syntax) (l : Level) (stack cells : List ℕ) : Type 0 where
   pub setting : ℕ
   pub mark : ℕ
   pub done : Syntax
   pub starts : List Pending
-  pub rest : List machine.Held
+  pub rest : List machine.Open
   pub is : nests ≡ nested (behindStatement (settingBy setting)) toStatement mark (frame done starts [] nil) ∷ rest
   pub within : InSetting (settingBy setting) done rest
   pub stacked : getD stack ((l .top - 1) * width + 1) 0 ≡ setting
@@ -262,11 +262,11 @@ pub record Around (nests : List machine.Held) (table stack₀ : List ℕ) (first
   pub fits : l .top * width ≤ length stack
   pub carries : Carries rest table stack₀ first floor done starts [] last (leftOne l stack) stack cells
 
-pub carries-around : {nests : List machine.Held} {table stack₀ : List ℕ} {first floor : ℕ} {last : Syntax} {l : Level} {stack cells : List ℕ}
+pub carries-around : {nests : List machine.Open} {table stack₀ : List ℕ} {first floor : ℕ} {last : Syntax} {l : Level} {stack cells : List ℕ}
     → Some nests → Carries nests table stack₀ first floor (snoc nil last) [] [] nil l stack cells → Around nests table stack₀ first floor last l stack cells
 carries-around {table = table} {stack₀ = stack₀} {first = first} {floor = floor} {last = last} {l = l} {stack = stack} {cells = cells} inside h = go inside (h .below) (h .holds)
   where
-    go : {hs : List machine.Held} {base : Syntax} {tail : List Pending} → Some hs → Below (snoc nil last) hs base tail → Holds table first base tail nil l stack cells
+    go : {hs : List machine.Open} {base : Syntax} {tail : List Pending} → Some hs → Below (snoc nil last) hs base tail → Holds table first base tail nil l stack cells
         → Around hs table stack₀ first floor last l stack cells
     go some (below-nest {around = done} {setting = setting} {mark = mark} {starts = starts} {nests = rest} beginnings within below) k =
         let u = uppermost k in

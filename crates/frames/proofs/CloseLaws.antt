@@ -9,10 +9,10 @@ use lib.Dec.{leb}
 use lib.ListN.{length}
 use Rattle.grammar.specs.Syntax.{Syntax, node, size}
 use Rattle.grammar.specs.Grammar.{precedence}
-use Rattle.grammar.specs.Machine as machine
-use Rattle.grammar.specs.Machine.{Pending, pending, frame, reduce, wrap}
-use Rattle.waiting.specs.Waiting.{nestKind, binding, Shut, shut, close, lefts}
-use Rattle.frames.specs.Stands.{Operators, no-operators, more-operators, Beginnings, no-beginnings, more-beginnings, Below, below-none, below-nest}
+use Rattle.grammar.specs.Machinery.Machine as machine
+use Rattle.grammar.specs.Machinery.Machine.{Pending, pending, frame, reduce, wrap}
+use Rattle.waiting.specs.Machinery.Waiting.{nestKind, binding, Shut, shut, close, lefts}
+use Rattle.frames.specs.Machinery.Stands.{Operators, no-operators, more-operators, Beginnings, no-beginnings, more-beginnings, Below, below-none, below-nest}
 
 -- nothing, or something that binds less, waits next: closing stops there
 pub data Stops (least : ℕ) : List Pending → Type 0 where
@@ -27,7 +27,7 @@ stops-more : {least more : ℕ} {ps : List Pending} → least ≤ more → Stops
 stops-more up stops-none = stops-none
 stops-more up (stops-at {kind = kind} less) = stops-at {kind = kind} (omega arith)
 
-pub below-stops : {done base : Syntax} {nests : List machine.Held} {tail : List Pending} → Below done nests base tail → Stops 1 tail
+pub below-stops : {done base : Syntax} {nests : List machine.Open} {tail : List Pending} → Below done nests base tail → Stops 1 tail
 unfolding binding
 below-stops below-none = stops-none
 below-stops (below-nest beginnings setting below) = stops-at {kind = nestKind} (omega arith)

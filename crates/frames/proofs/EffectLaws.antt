@@ -9,8 +9,8 @@ use Rattle.tables.specs.Records.{mostTrees}
 use Rattle.grammar.specs.Tokens.{name}
 use Rattle.grammar.specs.Syntax.{Syntax, nil, node, snoc, memberSyntax, expressionSyntax, bareReturnSyntax, fullReturnSyntax, labelSyntax}
 use Rattle.grammar.specs.Grammar.{body, precedence}
-use Rattle.grammar.specs.Machine as machine
-use Rattle.grammar.specs.Machine.{
+use Rattle.grammar.specs.Machinery.Machine as machine
+use Rattle.grammar.specs.Machinery.Machine.{
   Pending,
   pending,
   Frame,
@@ -46,12 +46,12 @@ use Rattle.grammar.specs.Machine.{
   dotLast,
   functionFirst,
 }
-use Rattle.controls.specs.Steps.{Due, due-operand, due-value, due-statement, Leads, to-dot, to-function-name, to-property, to-value, to-parameter}
-use Rattle.waiting.specs.Written.{putRecord}
-use Rattle.waiting.specs.Waiting.{width, binding, Closes, Completes, stackWith, waitingOne, madeOne, withWord}
+use Rattle.controls.specs.Machinery.Steps.{Due, due-operand, due-value, due-statement, Leads, to-dot, to-function-name, to-property, to-value, to-parameter}
+use Rattle.waiting.specs.Machinery.Written.{putRecord}
+use Rattle.waiting.specs.Machinery.Waiting.{width, binding, Closes, Completes, stackWith, waitingOne, madeOne, withHeld}
 use Rattle.waiting.specs.declared.Level.{Level}
 use Rattle.waiting.proofs.HoldLaws.{uppermost}
-use Rattle.frames.specs.Stands.{InSetting, Within, Stands}
+use Rattle.frames.specs.Machinery.Stands.{InSetting, Within, Stands}
 use Rattle.frames.proofs.CloseLaws.{below-stops, close-reduces, reduce-wraps}
 use Rattle.frames.proofs.CarryLaws.{
   backOne,
@@ -71,7 +71,7 @@ use Rattle.frames.proofs.CarryLaws.{
 }
 
 -- where an operand is due, and where a statement is
-pub record AtOperand (ending : Ending) (g : Frame) (nests : List machine.Held) (table stack₀ : List ℕ) (first floor passed : ℕ) (l : Level) (stack cells : List ℕ) : Type 0 where
+pub record AtOperand (ending : Ending) (g : Frame) (nests : List machine.Open) (table stack₀ : List ℕ) (first floor passed : ℕ) (l : Level) (stack cells : List ℕ) : Type 0 where
   pub done : Syntax
   pub starts : List Pending
   pub waiting : List Pending
@@ -80,7 +80,7 @@ pub record AtOperand (ending : Ending) (g : Frame) (nests : List machine.Held) (
   pub carries : Carries nests table stack₀ first floor done starts waiting nil l stack cells
   pub passes : l .count + l .top ≤ first + floor + passed
 
-pub record AtStatement (setting : Setting) (g : Frame) (nests : List machine.Held) (table stack₀ : List ℕ) (first floor passed : ℕ) (l : Level) (stack cells : List ℕ) : Type 0 where
+pub record AtStatement (setting : Setting) (g : Frame) (nests : List machine.Open) (table stack₀ : List ℕ) (first floor passed : ℕ) (l : Level) (stack cells : List ℕ) : Type 0 where
   pub done : Syntax
   pub starts : List Pending
   pub is : g ≡ frame done starts [] nil
@@ -88,7 +88,7 @@ pub record AtStatement (setting : Setting) (g : Frame) (nests : List machine.Hel
   pub carries : Carries nests table stack₀ first floor done starts [] nil l stack cells
   pub passes : l .count + l .top ≤ first + floor + passed
 
-module _ {g : Frame} {nests : List machine.Held} {table stack₀ : List ℕ} {first floor passed : ℕ} {l : Level} {stack cells : List ℕ} where
+module _ {g : Frame} {nests : List machine.Open} {table stack₀ : List ℕ} {first floor passed : ℕ} {l : Level} {stack cells : List ℕ} where
   pub at-statement : {must : Bool} {setting : Setting} → Stands (statementDue must setting) g nests table stack₀ first floor passed l stack cells
       → AtStatement setting g nests table stack₀ first floor passed l stack cells
   at-statement {must = true} s =
@@ -142,14 +142,14 @@ module _ {g : Frame} {nests : List machine.Held} {table stack₀ : List ℕ} {fi
   return-begun s = rw (s .shaped .0 .is, s .shaped .1, s .shaped .2) at (carried s)
 
 -- a statement is complete
-module _ {nests : List machine.Held} {table stack₀ : List ℕ} {first floor passed : ℕ} {done value : Syntax} {l : Level} {stack cells : List ℕ} where
+module _ {nests : List machine.Open} {table stack₀ : List ℕ} {first floor passed : ℕ} {done value : Syntax} {l : Level} {stack cells : List ℕ} where
   pub behind : (setting : Setting) → InSetting setting done nests → Carries nests table stack₀ first floor (snoc done value) [] [] nil l stack cells
       → l .count + l .top ≤ first + floor + passed → first + floor + passed ≤ mostTrees
       → Stands (behindStatement setting) (frame (snoc done value) [] [] nil) nests table stack₀ first floor passed l stack cells
   behind (among scope) none h passes few = stands nil h (refl, refl, refl, none) tt (omega arith) few
   behind (inNest nest) (e, inside) h passes few = stands nil h (refl, refl, refl, record { last = value; is = rw e }, inside) tt (omega arith) few
 
-module _ {g : Frame} {nests : List machine.Held} {table stack₀ : List ℕ} {first floor passed : ℕ} {l : Level} {stack cells : List ℕ} (more : first + floor + passed < mostTrees) where
+module _ {g : Frame} {nests : List machine.Open} {table stack₀ : List ℕ} {first floor passed : ℕ} {l : Level} {stack cells : List ℕ} (more : first + floor + passed < mostTrees) where
   -- nothing changes
   pub keeps : {from to : Control} (mark : ℕ) → Leads keep from to → Stands from g nests table stack₀ first floor passed l stack cells
       → Stands to (machine.affect keep mark g) nests table stack₀ first floor (passed + 1) l stack cells
@@ -179,20 +179,20 @@ module _ {g : Frame} {nests : List machine.Held} {table stack₀ : List ℕ} {fi
 
   -- a name or word is held
   pub holds-name : {must : Bool} {setting : Setting} (mark : ℕ) → mark ≤ mostTrees → Stands (statementDue must setting) g nests table stack₀ first floor passed l stack cells
-      → Stands (nameFirst setting) (machine.affect takeName mark g) nests table stack₀ first floor (passed + 1) (withWord mark l) stack cells
+      → Stands (nameFirst setting) (machine.affect takeName mark g) nests table stack₀ first floor (passed + 1) (withHeld mark l) stack cells
   holds-name mark small s =
       let h = at-statement s in
       rw (h .is) (stands (node name mark nil nil) (carries-word (h .carries) mark small) (refl, h .within) refl (omega arith) (omega arith))
 
   pub holds-word : {from : Control} {ending : Ending} {target : Bool} (mark : ℕ) → mark ≤ mostTrees → Due from ending target
       → Stands from g nests table stack₀ first floor passed l stack cells
-      → Stands (functionFirst (operandIn ending target)) (machine.affect holdWord mark g) nests table stack₀ first floor (passed + 1) (withWord mark l) stack cells
+      → Stands (functionFirst (operandIn ending target)) (machine.affect holdWord mark g) nests table stack₀ first floor (passed + 1) (withHeld mark l) stack cells
   holds-word mark small due s =
       let h = at-operand due s in
       rw (h .is) (stands (heldWord mark) (carries-word (h .carries) mark small) (h .within) refl (omega arith) (omega arith))
 
   pub holds-declared : (mark : ℕ) → mark ≤ mostTrees → Stands (statementDue false (among body)) g nests table stack₀ first floor passed l stack cells
-      → Stands (functionFirst declared) (machine.affect holdWord mark g) nests table stack₀ first floor (passed + 1) (withWord mark l) stack cells
+      → Stands (functionFirst declared) (machine.affect holdWord mark g) nests table stack₀ first floor (passed + 1) (withHeld mark l) stack cells
   holds-declared mark small s =
       rw (s .is)
       (stands (heldWord mark) (carries-word (rw (s .shaped .2) at (carried s)) mark small) (s .shaped .0, s .shaped .1, s .shaped .3) refl
@@ -212,16 +212,16 @@ module _ {g : Frame} {nests : List machine.Held} {table stack₀ : List ℕ} {fi
 
   pub takes-label : {setting : Setting} (mark : ℕ) → (l .top + 1) * width ≤ length stack → Stands (nameFirst setting) g nests table stack₀ first floor passed l stack cells
       → Stands (statementDue true setting) (machine.affect takeLabel mark g) nests table stack₀ first floor (passed + 1) (waitingOne l)
-      (stackWith stack (l .top) labelSyntax (l .word) (l .start)) cells
+      (stackWith stack (l .top) labelSyntax (l .held) (l .start)) cells
   unfolding binding
   takes-label mark fits s =
       rw (s .is, s .shaped .0, s .held)
-      (stands nil (carries-beginning labelSyntax (l .word) (rw (s .shaped .0) at (carried s)) (omega (arith, s .passes)) (s .worded) fits refl)
+      (stands nil (carries-beginning labelSyntax (l .held) (rw (s .shaped .0) at (carried s)) (omega (arith, s .passes)) (s .worded) fits refl)
       (refl, refl, s .shaped .1) tt (omega (arith, s .passes)) (omega arith))
 
   -- an operator waits, once those are closed that bind as tight
   pub takes-operator : {ending : Ending} {target : Bool} (next : Bool) (class mark : ℕ) {r : Level} {after : List ℕ} → mark ≤ mostTrees
-      → (l .top + 1) * width ≤ length stack → binding class ≡ precedence class + 2 → r .floor ≡ l .floor → r .word ≡ l .word
+      → (l .top + 1) * width ≤ length stack → binding class ≡ precedence class + 2 → r .floor ≡ l .floor → r .held ≡ l .held
       → Closes (threshold class + 2) l stack cells r after → Stands (operandDone ending target) g nests table stack₀ first floor passed l stack cells
       → Stands (operandDue ending next) (machine.affect (takeOperator class) mark g) nests table stack₀ first floor (passed + 1) (waitingOne r)
       (stackWith stack (r .top) class mark (r .start)) after
@@ -235,7 +235,7 @@ module _ {g : Frame} {nests : List machine.Held} {table stack₀ : List ℕ} {fi
       (refl, s .shaped) tt (omega (arith, light, s .passes)) (omega arith))
 
   -- a statement is complete
-  pub ends-expression : {setting : Setting} {target : Bool} (mark : ℕ) {r all : Level} {after cells′ : List ℕ} → r .floor ≡ l .floor → r .word ≡ l .word
+  pub ends-expression : {setting : Setting} {target : Bool} (mark : ℕ) {r all : Level} {after cells′ : List ℕ} → r .floor ≡ l .floor → r .held ≡ l .held
       → Closes 2 l stack cells r after → Completes (madeOne r) stack (putRecord after (r .count) expressionSyntax mark (r .count - r .start + 1)) all cells′
       → Stands (operandDone (byStatement setting) target) g nests table stack₀ first floor passed l stack cells
       → Stands (behindStatement setting) (machine.affect endExpression mark g) nests table stack₀ first floor (passed + 1) all stack cells′

@@ -9,8 +9,8 @@ use lib.ListN.{length}
 use Rattle.tables.specs.Records.{mostTrees}
 use Rattle.grammar.specs.Syntax.{Syntax, nil, node, objectSyntax, parenthesisedSyntax, functionSyntax, callSyntax, blockSyntax, ifSyntax, declarationSyntax}
 use Rattle.grammar.specs.Grammar.{body}
-use Rattle.grammar.specs.Machine as machine
-use Rattle.grammar.specs.Machine.{
+use Rattle.grammar.specs.Machinery.Machine as machine
+use Rattle.grammar.specs.Machinery.Machine.{
   Frame,
   ifNest,
   Setting,
@@ -36,18 +36,18 @@ use Rattle.grammar.specs.Machine.{
   functionNamed,
   parameterPast,
 }
-use Rattle.controls.specs.Numbers.{closingBy}
-use Rattle.controls.specs.Steps.{Due, Spans, past-parens, past-object, past-call, past-condition, past-parameter, past-block, past-declaration, past-function}
-use Rattle.waiting.specs.Written.{putRecord}
-use Rattle.waiting.specs.Waiting.{width, binding, Held, Completes, stackWith, waitingOne, madeOne}
+use Rattle.controls.specs.Machinery.Numbers.{closingBy}
+use Rattle.controls.specs.Machinery.Steps.{Due, Spans, past-parens, past-object, past-call, past-condition, past-parameter, past-block, past-declaration, past-function}
+use Rattle.waiting.specs.Machinery.Written.{putRecord}
+use Rattle.waiting.specs.Machinery.Waiting.{width, binding, Backed, Completes, stackWith, waitingOne, madeOne}
 use Rattle.waiting.specs.declared.Level.{Level}
-use Rattle.waiting.proofs.HoldLaws.{held}
-use Rattle.frames.specs.Stands.{Stands}
-use Rattle.frames.specs.Effects.{Valued, MayClose, ClosesGroup}
+use Rattle.waiting.proofs.HoldLaws.{backed}
+use Rattle.frames.specs.Machinery.Stands.{Stands}
+use Rattle.frames.specs.Machinery.Effects.{Valued, MayClose, ClosesGroup}
 use Rattle.frames.proofs.CarryLaws.{withCount, carried, stands, carries-made, carries-valued, carries-alone, carries-both, carries-beginning, carries-statement, completes-lightens}
 use Rattle.frames.proofs.EffectLaws.{at-statement, at-operand, behind}
 
-module _ {g : Frame} {nests : List machine.Held} {table stack₀ : List ℕ} {first floor passed next n : ℕ} {l : Level} {stackBefore stack cellsBefore cells : List ℕ} (value : Syntax)
+module _ {g : Frame} {nests : List machine.Open} {table stack₀ : List ℕ} {first floor passed next n : ℕ} {l : Level} {stackBefore stack cellsBefore cells : List ℕ} (value : Syntax)
     (valued : Valued l n value stackBefore stack cellsBefore cells) (fits : n + l .top < first + floor + next) (few : first + floor + next ≤ mostTrees) where
   -- the value is the operand's only part: with nothing of its kind before it
   pub closes-parens : {from : Control} {ending : Ending} {target : Bool} (mark : ℕ) → Due from ending target
@@ -72,11 +72,11 @@ module _ {g : Frame} {nests : List machine.Held} {table stack₀ : List ℕ} {fi
 
   pub closes-function : {ending : Ending} {target : Bool} (mark : ℕ) → Stands (parameterPast (operandIn ending target)) g nests table stack₀ first floor passed l stackBefore cellsBefore
       → Stands (operandDone ending target) (machine.close toFunction mark value g) nests table stack₀ first floor next (madeOne (withCount n l)) stack
-      (putRecord cells n functionSyntax (l .word) (n - l .start + 1))
+      (putRecord cells n functionSyntax (l .held) (n - l .start + 1))
   closes-function mark s =
       rw (s .is, s .held)
-      (stands (node functionSyntax (l .word) value nil)
-      (carries-made (carries-alone (carries-valued (carried s) n value valued (omega arith))) functionSyntax (l .word) (omega arith)) (s .shaped) tt (omega arith) few)
+      (stands (node functionSyntax (l .held) value nil)
+      (carries-made (carries-alone (carries-valued (carried s) n value valued (omega arith))) functionSyntax (l .held) (omega arith)) (s .shaped) tt (omega arith) few)
 
   -- the value stands behind the operand
   pub closes-call : {ending : Ending} {target : Bool} (mark : ℕ) → Stands (operandDone ending target) g nests table stack₀ first floor passed l stackBefore cellsBefore
@@ -90,12 +90,12 @@ module _ {g : Frame} {nests : List machine.Held} {table stack₀ : List ℕ} {fi
   -- the value waits as a beginning's left side
   pub closes-condition : (mark : ℕ) → (l .top + 1) * width ≤ length stack → Stands ifFirst g nests table stack₀ first floor passed l stackBefore cellsBefore
       → Stands (statementDue true (inNest ifNest)) (machine.close toCondition mark value g) nests table stack₀ first floor next (waitingOne (withCount n l))
-      (stackWith stack (l .top) ifSyntax (l .word) (l .start)) cells
+      (stackWith stack (l .top) ifSyntax (l .held) (l .start)) cells
   unfolding binding
   closes-condition mark room s =
       rw (s .is, s .held, s .shaped .2)
       (stands nil
-      (carries-beginning ifSyntax (l .word) (rw (s .shaped .2) at (carries-alone (carries-valued (carried s) n value valued (omega arith)))) (omega arith) (s .worded) room refl)
+      (carries-beginning ifSyntax (l .held) (rw (s .shaped .2) at (carries-alone (carries-valued (carried s) n value valued (omega arith)))) (omega arith) (s .worded) room refl)
       (refl, refl, (s .shaped .0, s .shaped .3)) tt (omega arith) few)
 
   -- a parameter leaves nothing
@@ -117,11 +117,11 @@ module _ {g : Frame} {nests : List machine.Held} {table stack₀ : List ℕ} {fi
       rw (h .is) (behind setting (h .within) (carries-statement one completes) (omega (arith, lighter)) few)
 
   pub closes-declaration : (mark : ℕ) {all : Level} {cells′ : List ℕ}
-      → Completes (madeOne (withCount n l)) stack (putRecord cells n declarationSyntax (l .word) (n - l .start + 1)) all cells′
+      → Completes (madeOne (withCount n l)) stack (putRecord cells n declarationSyntax (l .held) (n - l .start + 1)) all cells′
       → Stands (parameterPast declared) g nests table stack₀ first floor passed l stackBefore cellsBefore
       → Stands (statementDue false (among body)) (machine.close toDeclaration mark value g) nests table stack₀ first floor next all stack cells′
   closes-declaration mark completes s =
-      let one = carries-made (carries-alone (carries-valued (carried s) n value valued (omega arith))) declarationSyntax (l .word) (omega arith) in
+      let one = carries-made (carries-alone (carries-valued (carried s) n value valued (omega arith))) declarationSyntax (l .held) (omega arith) in
       let lighter = completes-lightens one completes in
       rw (s .is, s .held) (behind (among body) (s .shaped .2) (rw (s .shaped .1) at (carries-statement one completes)) (omega (arith, lighter)) few)
 
@@ -157,7 +157,7 @@ module _ {l : Level} {stack cells : List ℕ} (mark n : ℕ) where
       rw (e .0, e .1) (closes-object value valued fits few mark due s)
 
   pub condition-closes : {r : Level} {after : List ℕ} → (l .top + 1) * width ≤ length stack
-      → (r ≡ waitingOne (withCount n l)) × (after ≡ stackWith stack (l .top) ifSyntax (l .word) (l .start)) → ClosesGroup 3 mark n l stack cells r after cells
+      → (r ≡ waitingOne (withCount n l)) × (after ≡ stackWith stack (l .top) ifSyntax (l .held) (l .start)) → ClosesGroup 3 mark n l stack cells r after cells
   unfolding closingBy
   condition-closes room e from to g nests table stack₀ first floor passed next value stackBefore cellsBefore s past-condition valued none fits few =
       rw (e .0, e .1) (closes-condition value valued fits few mark room s)
@@ -173,27 +173,27 @@ module _ {l : Level} {stack cells : List ℕ} (mark n : ℕ) where
   block-closes e completes from to g nests table stack₀ first floor passed next value stackBefore cellsBefore s past-block valued none fits few =
       closes-block value valued fits few mark (rw (e .0, e .1) at completes) s
 
-  pub declaration-closes : {r all : Level} {cells′ cells″ : List ℕ} → (r ≡ madeOne (withCount n l)) × (cells′ ≡ putRecord cells n declarationSyntax (l .word) (n - l .start + 1)) → Completes r stack cells′ all cells″
+  pub declaration-closes : {r all : Level} {cells′ cells″ : List ℕ} → (r ≡ madeOne (withCount n l)) × (cells′ ≡ putRecord cells n declarationSyntax (l .held) (n - l .start + 1)) → Completes r stack cells′ all cells″
       → ClosesGroup 6 mark n l stack cells all stack cells″
   unfolding closingBy
   declaration-closes e completes from to g nests table stack₀ first floor passed next value stackBefore cellsBefore s past-declaration valued none fits few =
       closes-declaration value valued fits few mark (rw (e .0, e .1) at completes) s
 
-  function-closed : {from to : Control} {g : Frame} {nests : List machine.Held} {table stack₀ : List ℕ} {first floor passed next : ℕ} {stackBefore cellsBefore : List ℕ} (value : Syntax)
+  function-closed : {from to : Control} {g : Frame} {nests : List machine.Open} {table stack₀ : List ℕ} {first floor passed next : ℕ} {stackBefore cellsBefore : List ℕ} (value : Syntax)
       → Stands from g nests table stack₀ first floor passed l stackBefore cellsBefore → Spans toFunction from to → Valued l n value stackBefore stack cellsBefore cells
       → n + l .top < first + floor + next → first + floor + next ≤ mostTrees
       → Stands to (machine.close toFunction mark value g) nests table stack₀ first floor next (madeOne (withCount n l)) stack
-      (putRecord cells n functionSyntax (l .word) (n - l .start + 1))
+      (putRecord cells n functionSyntax (l .held) (n - l .start + 1))
   function-closed value s past-function valued fits few = closes-function value valued fits few mark s
 
-  pub function-closes : (closing : ℕ) {r : Level} {cells′ : List ℕ} → closingBy closing ≡ toFunction → (r ≡ madeOne (withCount n l)) × (cells′ ≡ putRecord cells n functionSyntax (l .word) (n - l .start + 1))
+  pub function-closes : (closing : ℕ) {r : Level} {cells′ : List ℕ} → closingBy closing ≡ toFunction → (r ≡ madeOne (withCount n l)) × (cells′ ≡ putRecord cells n functionSyntax (l .held) (n - l .start + 1))
       → ClosesGroup closing mark n l stack cells r stack cells′
   function-closes closing is e from to g nests table stack₀ first floor passed next value stackBefore cellsBefore s spans valued none fits few =
       rw (is, e .0, e .1) (function-closed value s (rw is at spans) valued fits few)
 
 -- what the call in between asks for
 pub group-held : {closing mark n : ℕ} {l r : Level} {stack cells cells′ : List ℕ} (kind m : ℕ) → MayClose closing mark n l stack cells
-    → (r ≡ madeOne (withCount n l)) × (cells′ ≡ putRecord cells n kind m (n - l .start + 1)) → Held r stack cells′
+    → (r ≡ madeOne (withCount n l)) × (cells′ ≡ putRecord cells n kind m (n - l .start + 1)) → Backed r stack cells′
 group-held {n = n} kind m may e =
     rw (e .0, e .1)
-    (held ((carries-made (carries-valued (carried (may .somewhere .stands)) n (may .value) (may .valued) (omega (arith, may .more))) kind m (omega (arith, may .more))) .holds))
+    (backed ((carries-made (carries-valued (carried (may .somewhere .stands)) n (may .value) (may .valued) (omega (arith, may .more))) kind m (omega (arith, may .more))) .holds))

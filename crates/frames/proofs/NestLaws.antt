@@ -10,8 +10,8 @@ use lib.ListN.{length, getD}
 use Rattle.tables.specs.Records.{mostTrees}
 use Rattle.grammar.specs.Tokens.{Token, token, Spot, name, colon}
 use Rattle.grammar.specs.Syntax.{Syntax, nil, node, snoc}
-use Rattle.grammar.specs.Machine as machine
-use Rattle.grammar.specs.Machine.{
+use Rattle.grammar.specs.Machinery.Machine as machine
+use Rattle.grammar.specs.Machinery.Machine.{
   Pending,
   Frame,
   frame,
@@ -43,28 +43,28 @@ use Rattle.grammar.specs.Machine.{
   live,
   run,
 }
-use Rattle.controls.specs.Numbers.{settingBy, endingBy, controlBy, controlOf}
-use Rattle.controls.specs.Steps.{Settled, inGroup, Ends, ends-statements, ends-text, ends-expression, ends-object, ends-parameter}
+use Rattle.controls.specs.Machinery.Numbers.{settingBy, endingBy, controlBy, controlOf}
+use Rattle.controls.specs.Machinery.Steps.{Settled, inGroup, Ends, ends-statements, ends-text, ends-expression, ends-object, ends-parameter}
 use Rattle.controls.specs.declared.Control as code
-use Rattle.waiting.specs.Written.{putRecord}
-use Rattle.waiting.specs.Waiting.{width, nestKind, Closes, Completes, stackWith, waitingOne, madeOne, withWord}
+use Rattle.waiting.specs.Machinery.Written.{putRecord}
+use Rattle.waiting.specs.Machinery.Waiting.{width, nestKind, Closes, Completes, stackWith, waitingOne, madeOne, withHeld}
 use Rattle.waiting.specs.declared.Level.{Level}
-use Rattle.frames.specs.Stands.{some, Within, OneDone, Stands}
-use Rattle.frames.specs.Effects.{ofParameter, StandsSomewhere, Enters, Moved, Moves, Leaves, Names, Readies, IsValue, is-popped, is-program, Ended}
+use Rattle.frames.specs.Machinery.Stands.{some, Within, OneDone, Stands}
+use Rattle.frames.specs.Machinery.Effects.{ofParameter, StandsSomewhere, Enters, Moved, Moves, Leaves, Names, Readies, IsValue, is-popped, is-program, Ended}
 use Rattle.frames.specs.declared.Standing.{Standing}
 use Rattle.frames.proofs.CloseLaws.{reduce-wraps}
 use Rattle.frames.proofs.CarryLaws.{leftOne, carried, stands, closes-lightens, carries-word, carries-made, carries-nest, carries-expression, carries-statement, completes-lightens, Around, carries-around, Written, statements-written, expression-written}
 use Rattle.frames.proofs.EffectLaws.{at-statement, behind}
 
 -- before a token the control behind a nest that is done takes it, and before what is no `:` a held name is an operand
-nest-takes : {c behind : Control} {g : Frame} {nests rest : List machine.Held} {all done last operand : Syntax} {begun waiting starts : List Pending} {mark : ℕ}
+nest-takes : {c behind : Control} {g : Frame} {nests rest : List machine.Open} {all done last operand : Syntax} {begun waiting starts : List Pending} {mark : ℕ}
     → g ≡ frame all begun waiting operand → all ≡ snoc nil last → nests ≡ nested behind toStatement mark (frame done starts [] nil) ∷ rest → c ≡ behind
-    → (class : ℕ) (around : List machine.Held) (spot : Spot) (u : List Token)
+    → (class : ℕ) (around : List machine.Open) (spot : Spot) (u : List Token)
     → run (live (statementDone ifNest) g (nests ++ around)) (token class spot ∷ u)
     ≡ run (live c (frame (snoc done (wrap starts last)) [] [] nil) (rest ++ around)) (token class spot ∷ u)
 nest-takes g-is one nests-are behinds class around spot u = rw (g-is, one, nests-are, behinds)
 
-pub name-takes : (setting : Setting) (g : Frame) (around : List machine.Held) (class : ℕ) (spot : Spot) (u : List Token) → (class ≡ colon → ⊥)
+pub name-takes : (setting : Setting) (g : Frame) (around : List machine.Open) (class : ℕ) (spot : Spot) (u : List Token) → (class ≡ colon → ⊥)
     → run (live (nameFirst setting) g around) (token class spot ∷ u) ≡ run (live (operandDone (byStatement setting) true) g around) (token class spot ∷ u)
 name-takes setting g around class spot u other = rw (ne-eqb class colon other)
 
@@ -72,11 +72,11 @@ behind-kind : (setting : Setting) → ofParameter (behindStatement setting) ≡ 
 behind-kind (among scope) = refl
 behind-kind (inNest nest) = refl
 
-module _ {g : Frame} {nests : List machine.Held} {table stack₀ : List ℕ} {first floor passed : ℕ} {l : Level} {stack cells : List ℕ} where
+module _ {g : Frame} {nests : List machine.Open} {table stack₀ : List ℕ} {first floor passed : ℕ} {l : Level} {stack cells : List ℕ} where
   pub enters : {must : Bool} (setting mark : ℕ) → first + floor + passed < mostTrees → setting ≤ mostTrees → mark ≤ mostTrees → (l .top + 1) * width ≤ length stack
       → Stands (statementDue must (settingBy setting)) g nests table stack₀ first floor passed l stack cells
       → Stands ifFirst (frame nil [] [] (heldWord mark)) (nested (behindStatement (settingBy setting)) toStatement mark g ∷ nests) table stack₀ first floor (passed + 1)
-      (withWord mark (waitingOne l)) (stackWith stack (l .top) nestKind setting (l .start)) cells
+      (withHeld mark (waitingOne l)) (stackWith stack (l .top) nestKind setting (l .start)) cells
   enters setting mark more few small fits s =
       let h = at-statement s in
       rw (h .is)
@@ -114,13 +114,13 @@ module _ {g : Frame} {nests : List machine.Held} {table stack₀ : List ℕ} {fi
 
   -- a held name is an operand before what is no `:`
   pub names : {setting : Setting} → Stands (nameFirst setting) g nests table stack₀ first floor passed l stack cells
-      → Stands (operandDone (byStatement setting) true) g nests table stack₀ first floor passed (madeOne l) stack (putRecord cells (l .count) name (l .word) (l .count - l .start + 1))
+      → Stands (operandDone (byStatement setting) true) g nests table stack₀ first floor passed (madeOne l) stack (putRecord cells (l .count) name (l .held) (l .count - l .start + 1))
   names s =
       rw (s .is, s .held)
-      (stands (node name (l .word) nil nil) (carries-made (carried s) name (l .word) (omega (arith, s .passes, s .few))) (s .shaped .1) tt (omega (arith, s .passes)) (s .few))
+      (stands (node name (l .held) nil nil) (carries-made (carried s) name (l .held) (omega (arith, s .passes, s .few))) (s .shaped .1) tt (omega (arith, s .passes)) (s .few))
 
 -- a level's end
-in-group : {done : Syntax} {starts : List Pending} {nests : List machine.Held} (ending : Ending) → T (inGroup ending) → Within ending done starts nests
+in-group : {done : Syntax} {starts : List Pending} {nests : List machine.Open} (ending : Ending) → T (inGroup ending) → Within ending done starts nests
     → (done ≡ nil) × (starts ≡ []) × (nests ≡ [])
 in-group (byStatement setting) t h = absurd t
 in-group (byReturn setting) t h = absurd t
@@ -134,14 +134,14 @@ expression-value {done = done} {operand = operand} {starts = starts} {waiting = 
     let q : IsValue (pop expressionValue) (frame done starts waiting operand) (wrap waiting operand) = subst (λ f. IsValue (pop expressionValue) (frame done starts waiting operand) (operandOf f)) (reduce-wraps done starts waiting operand) p in
     rw e q
 
-module _ {g : Frame} {nests : List machine.Held} {table stack₀ : List ℕ} {first floor passed : ℕ} {l r : Level} {stack cells after : List ℕ} where
+module _ {g : Frame} {nests : List machine.Open} {table stack₀ : List ℕ} {first floor passed : ℕ} {l r : Level} {stack cells after : List ℕ} where
   ended : {c : Control} {action : Action} {value : Syntax} (s : Stands c g nests table stack₀ first floor passed l stack cells) → r .floor ≡ l .floor → Closes 2 l stack cells r after
       → IsValue action g value → nests ≡ [] → Written table first floor value r after → Ended action g nests table first floor passed (r .count) after
   ended {value = value} s f closes is none w =
       let light = closes-lightens (s .holds) f closes in
       record { value = value; value-is = is; none = none; count-is = w .count-is; cells-are = w .cells-are; passes = omega (arith, light, s .passes, w .top-is) }
 
-  pub ends : {class : ℕ} {c : Control} {action : Action} → r .floor ≡ l .floor → r .word ≡ l .word → Closes 2 l stack cells r after
+  pub ends : {class : ℕ} {c : Control} {action : Action} → r .floor ≡ l .floor → r .held ≡ l .held → Closes 2 l stack cells r after
       → Stands c g nests table stack₀ first floor passed l stack cells → Ends class c true action → Ended action g nests table first floor passed (r .count) after
   ends f w closes s ends-statements =
       ended s f closes (rw (s .is) is-popped) (s .shaped .3)
@@ -181,7 +181,7 @@ module _ (at : code.Control) where
   behind-unnamed (inNest nest) e p = let q = control-named p in let z : _≡_ {A = ℕ} 0 1 = cc in absurd (omega arith)
 
 -- one move after the other
-moved-on : {from : Control} {c : code.Control} {middle : Level} {stack between cells′ : List ℕ} {r : Standing} {g : Frame} {nests : List machine.Held} {table stack₀ : List ℕ} {first floor passed : ℕ}
+moved-on : {from : Control} {c : code.Control} {middle : Level} {stack between cells′ : List ℕ} {r : Standing} {g : Frame} {nests : List machine.Open} {table stack₀ : List ℕ} {first floor passed : ℕ}
     → c .place ≡ 4 → (m : Moved from g nests table stack₀ first floor passed (record { control = c; level = middle }) stack between)
     → Moved (statementDone ifNest) (m .frame-then) (m .nests-then) table stack₀ first floor passed r stack cells′ → Moved from g nests table stack₀ first floor passed r stack cells′
 moved-on {c = c} e m n =
@@ -195,7 +195,7 @@ moved-on {c = c} e m n =
 
 module _ {l : Level} {stack cells : List ℕ} where
   pub nest-enters : (number mark : ℕ) {inside r : Level} {after : List ℕ} → number ≤ mostTrees → (l .top + 1) * width ≤ length stack
-      → (inside ≡ waitingOne l) × (after ≡ stackWith stack (l .top) nestKind number (l .start)) → r ≡ withWord mark inside → Enters number mark l stack cells r after
+      → (inside ≡ waitingOne l) × (after ≡ stackWith stack (l .top) nestKind number (l .start)) → r ≡ withHeld mark inside → Enters number mark l stack cells r after
   nest-enters number mark few fits e f must g nests table stack₀ first floor passed s more small = rw (f, e .0, e .1) (enters number mark more few (omega arith) fits s)
 
   pub nest-leaves : {c : code.Control} {all : Level} {cells′ : List ℕ} (setting : ℕ) → StandsSomewhere (statementDone ifNest) l stack cells
@@ -230,7 +230,7 @@ module _ {l : Level} {stack cells : List ℕ} where
       record { frame-then = m .frame-then; nests-then = m .nests-then; stands = m .stands; settled = settled; kind = m .kind; takes = λ around spot u. m .takes class around spot u }
 
 pub name-readies : {at c : code.Control} {l r : Level} {cells cells′ : List ℕ} → at .place ≡ 5 → controlOf c ≡ controlBy 3 0 (at .setting) true
-    → (r ≡ madeOne l) × (cells′ ≡ putRecord cells (l .count) name (l .word) (l .count - l .start + 1)) → Names at l cells (record { control = c; level = r }) cells′
+    → (r ≡ madeOne l) × (cells′ ≡ putRecord cells (l .count) name (l .held) (l .count - l .start + 1)) → Names at l cells (record { control = c; level = r }) cells′
 unfolding controlBy endingBy
 name-readies {at = at} {c = c} e f made class stack other g nests table stack₀ first floor passed s =
     record {

@@ -6,9 +6,9 @@ use native.Mathlib.Omega.{arith}
 use borrow.Author.Tests.{eqb-true}
 use lib.Dec.{eqb}
 use Rattle.grammar.specs.Syntax.{Syntax, nil}
-use Rattle.grammar.specs.Machine.{Frame, Setting, among, inNest, behindStatement, Effect, Closing, toParens, toCall, toObject, toBlock, toCondition, toParameter, toDeclaration, toFunction, Ending, Control, Action}
-use Rattle.controls.specs.Numbers.{closingBy, insideBy}
-use Rattle.controls.specs.Steps.{
+use Rattle.grammar.specs.Machinery.Machine.{Frame, Setting, among, inNest, behindStatement, Effect, Closing, toParens, toCall, toObject, toBlock, toCondition, toParameter, toDeclaration, toFunction, Ending, Control, Action}
+use Rattle.controls.specs.Machinery.Numbers.{closingBy, insideBy}
+use Rattle.controls.specs.Machinery.Steps.{
   Due,
   due-operand,
   due-value,
@@ -47,7 +47,7 @@ use Rattle.controls.specs.Steps.{
   ends-object,
   ends-parameter,
 }
-use Rattle.frames.specs.Effects.{ofParameter, IsValue, is-popped}
+use Rattle.frames.specs.Machinery.Effects.{ofParameter, IsValue, is-popped}
 
 due-kind : {from : Control} {ending : Ending} {target : Bool} → Due from ending target → false ≡ ofParameter from
 due-kind due-operand = refl

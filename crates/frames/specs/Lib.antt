@@ -1,2 +1,1 @@
-pub mod Stands
-pub mod Effects
+pub mod Machinery

@@ -1,10 +1,10 @@
 // What a level has so far: the token machine's frames, as syntax records in order and a lent stack of what waits.
 ghost use mathlib.Core.Path.{_≡_};
 ghost use Prim.Native.Nat.{_+_};
-ghost use Rattle.grammar.specs.Machine.{threshold, statementDone, ifNest};
-ghost use Rattle.controls.specs.Numbers.{controlOf};
-ghost use Rattle.waiting.specs.Waiting.{Held, withWord};
-ghost use Rattle.frames.specs.Effects.{StandsSomewhere, MayAffect, Affects, MayEnter, Enters, MayClose, ClosesGroup, Leaves, MayLeave, LeavesAll, MayName, Names, Readies, EndsLevel};
+ghost use Rattle.grammar.specs.Machinery.Machine.{threshold, statementDone, ifNest};
+ghost use Rattle.controls.specs.Machinery.Numbers.{controlOf};
+ghost use Rattle.waiting.specs.Machinery.Waiting.{Backed, withHeld};
+ghost use Rattle.frames.specs.Machinery.Effects.{StandsSomewhere, MayAffect, Affects, MayEnter, Enters, MayClose, ClosesGroup, Leaves, MayLeave, LeavesAll, MayName, Names, Readies, EndsLevel};
 use controls::Control;
 use controls::classes;
 use waiting::Level;
@@ -18,27 +18,27 @@ pub struct Standing {
 
 // A level where nothing stands yet.
 pub fn empty(count: usize, top: usize) -> Level
-    ensures { λ r. ⌜ (r .count ≡ count) × (r .top ≡ top) × (r .floor ≡ top) × (r .start ≡ count) × (r .word ≡ 0) ⌝ }
+    ensures { λ r. ⌜ (r .count ≡ count) × (r .top ≡ top) × (r .floor ≡ top) × (r .start ≡ count) × (r .held ≡ 0) ⌝ }
 {
     Level {
         count: count,
         top: top,
         floor: top,
         start: count,
-        word: 0,
+        held: 0,
     }
 }
 
 // The level with a word or name held.
 fn holding(l: Level, word: usize) -> Level
-    ensures { λ r. ⌜ r ≡ withWord word l ⌝ }
+    ensures { λ r. ⌜ r ≡ withHeld word l ⌝ }
 {
     Level {
         count: l.count,
         top: l.top,
         floor: l.floor,
         start: l.start,
-        word: word,
+        held: word,
     }
 }
 
@@ -83,7 +83,7 @@ fn bare_return(l: Level, waiting: &[u16], syntax: &mut [u32]) -> Level
         top: top,
         floor: l.floor,
         start: l.count,
-        word: l.word,
+        held: l.held,
     };
     let one = waiting::made(before, records::BARE_RETURN, mark, syntax);
     waiting::completed(one, waiting, syntax)
@@ -105,7 +105,7 @@ pub fn affect(
         controls::TAKE_LEAF => waiting::made(l, class, mark, syntax),
         controls::TAKE_MEMBER => waiting::made(l, records::MEMBER, mark, syntax),
         controls::TAKE_OPERATOR => operated(l, class, mark, waiting, syntax),
-        controls::TAKE_LABEL => waiting::wait(l, records::LABEL, l.word, waiting),
+        controls::TAKE_LABEL => waiting::wait(l, records::LABEL, l.held, waiting),
         controls::HOLD_WORD => holding(l, mark),
         controls::HOLD_NAME => holding(l, mark),
         controls::START_RETURN => waiting::wait(l, records::FULL_RETURN, mark, waiting),
@@ -137,7 +137,7 @@ fn left(l: Level, waiting: &[u16], syntax: &mut [u32]) -> Standing
         top: top,
         floor: l.floor,
         start: waiting[top * waiting::WIDTH + 2] as usize,
-        word: l.word,
+        held: l.held,
     };
     let all = waiting::completed(around, waiting, syntax);
     Standing {
@@ -151,17 +151,14 @@ fn left_all(at: Control, l: Level, waiting: &[u16], syntax: &mut [u32]) -> Stand
     requires { ⌜ MayLeave at l (now waiting) (now syntax) ⌝ }
     ensures { λ r. ⌜ LeavesAll at l (now (waiting .entry)) (now (syntax .entry)) r (now (syntax .exit)) ⌝ }
 {
-    let mut control = at;
-    let mut level = l;
-    while control.place == controls::STATEMENT_DONE {
-        let s = left(level, waiting, syntax);
-        control = s.control;
-        level = s.level;
+    let mut s = Standing {
+        control: at,
+        level: l,
+    };
+    while s.control.place == controls::STATEMENT_DONE {
+        s = left(s.level, waiting, syntax);
     }
-    Standing {
-        control: control,
-        level: level,
-    }
+    s
 }
 
 // The name that is held is an operand.
@@ -175,7 +172,7 @@ fn named(at: Control, l: Level, syntax: &mut [u32]) -> Standing
         at.setting,
         true,
     );
-    let level = waiting::made(l, classes::NAME, l.word, syntax);
+    let level = waiting::made(l, classes::NAME, l.held, syntax);
     Standing {
         control: control,
         level: level,
@@ -196,18 +193,12 @@ pub fn ready(at: Control, class: u32, l: Level, waiting: &[u16], syntax: &mut [u
         }
         return named(at, l, syntax);
     }
-    if at.place == controls::STATEMENT_DONE {
-        return left_all(at, l, waiting, syntax);
-    }
-    Standing {
-        control: at,
-        level: l,
-    }
+    left_all(at, l, waiting, syntax)
 }
 
 // A level's end: nothing waits any more.
 pub fn ended(l: Level, waiting: &[u16], syntax: &mut [u32]) -> usize
-    requires { ⌜ Held l (now waiting) (now syntax) ⌝ }
+    requires { ⌜ Backed l (now waiting) (now syntax) ⌝ }
     ensures { λ r. ⌜ EndsLevel l (now (waiting .entry)) (now (syntax .entry)) r (now (syntax .exit)) ⌝ }
 {
     let all = waiting::closed(l, 2, waiting, syntax);
@@ -231,22 +222,22 @@ pub fn close(
         top: l.top,
         floor: l.floor,
         start: l.start,
-        word: l.word,
+        held: l.held,
     };
     match closing {
         controls::TO_PARENS => waiting::made(g, records::PARENTHESISED, mark, syntax),
         controls::TO_CALL => waiting::made(g, records::CALL, mark, syntax),
         controls::TO_OBJECT => waiting::made(g, records::OBJECT, mark, syntax),
-        controls::TO_CONDITION => waiting::wait(g, records::IF, l.word, waiting),
+        controls::TO_CONDITION => waiting::wait(g, records::IF, l.held, waiting),
         controls::TO_PARAMETER => g,
         controls::TO_BLOCK => {
             let one = waiting::made(g, records::BLOCK, mark, syntax);
             waiting::completed(one, waiting, syntax)
         }
         controls::TO_DECLARATION => {
-            let one = waiting::made(g, records::DECLARATION, l.word, syntax);
+            let one = waiting::made(g, records::DECLARATION, l.held, syntax);
             waiting::completed(one, waiting, syntax)
         }
-        _ => waiting::made(g, records::FUNCTION, l.word, syntax),
+        _ => waiting::made(g, records::FUNCTION, l.held, syntax),
     }
 }

@@ -9,12 +9,12 @@ use lib.Dec.{eqb, ltb}
 use lib.ListN.{length, getD, drop, drop-of-length-le, List·getD-eq-default}
 use Rattle.text.specs.Quoted.{byte}
 use Rattle.text.specs.Bytes.{blank, lineEnd, illegal}
-use Rattle.text.specs.Inside.{insideOf}
+use Rattle.text.specs.Machinery.Inside.{insideOf}
 use Rattle.text.proofs.Lists.{drop-at}
-use Rattle.text.proofs.Laws.{inside-passed, inside-line, inside-illegal}
+use Rattle.text.proofs.Laws.{inside-passed, inside-newline, inside-illegal}
 use Rattle.answers.specs.Faults.{stray, openComment}
 use Rattle.gaps.specs.Gaps.{gap, afterSlash, inLine, inBlock}
-use Rattle.gaps.specs.Comments.{resumed, NotBefore}
+use Rattle.gaps.specs.Machinery.Comments.{resumed, NotBefore}
 use Rattle.gaps.specs.declared.Gap.{Gap}
 use Rattle.gaps.specs.declared.Comment.{Comment}
 
@@ -35,36 +35,36 @@ not-blank b e = line-end-cases (λ k. blank k ≡ false) b refl refl e
 not-star : (b : ℕ) → lineEnd b ≡ true → eqb b (byte "*") ≡ false
 not-star b e = line-end-cases (λ k. eqb k (byte "*") ≡ false) b refl refl e
 
-module _ (s : List ℕ) (i : ℕ) (line : Bool) where
-  pub gap-past : length s ≤ i → gap i line (drop i s) ≡ Gap.Ends i line
+module _ (s : List ℕ) (i : ℕ) (newline : Bool) where
+  pub gap-past : length s ≤ i → gap i newline (drop i s) ≡ Gap.Ends i newline
   unfolding gap
   gap-past h = rw (drop-of-length-le s h)
 
-  pub line-past : length s ≤ i → inLine i line (drop i s) ≡ Gap.Ends i line
+  pub newline-past : length s ≤ i → inLine i newline (drop i s) ≡ Gap.Ends i newline
   unfolding inLine
-  line-past h = rw (drop-of-length-le s h)
+  newline-past h = rw (drop-of-length-le s h)
 
   module _ (h : i < length s) where
-    pub gap-blank : blank (getD s i 0) ≡ true → gap i line (drop i s) ≡ gap (i + 1) line (drop (i + 1) s)
+    pub gap-blank : blank (getD s i 0) ≡ true → gap i newline (drop i s) ≡ gap (i + 1) newline (drop (i + 1) s)
     unfolding gap
     gap-blank e = rw (drop-at s i h) (rw (e, gap))
 
-    pub gap-line-end : lineEnd (getD s i 0) ≡ true → gap i line (drop i s) ≡ gap (i + 1) true (drop (i + 1) s)
+    pub gap-line-end : lineEnd (getD s i 0) ≡ true → gap i newline (drop i s) ≡ gap (i + 1) true (drop (i + 1) s)
     unfolding gap
     gap-line-end e = rw (drop-at s i h) (rw (not-blank (getD s i 0) e, e, gap))
 
     module _ (f : blank (getD s i 0) ≡ false) (g : lineEnd (getD s i 0) ≡ false) where
-      pub gap-other : (getD s i 0 ≡ byte "/" → ⊥) → gap i line (drop i s) ≡ Gap.Ends i line
+      pub gap-other : (getD s i 0 ≡ byte "/" → ⊥) → gap i newline (drop i s) ≡ Gap.Ends i newline
       unfolding gap
       gap-other e = rw (drop-at s i h) (rw (f, g, ne-eqb _ _ e, gap))
 
     -- at a slash
     module _ (e : getD s i 0 ≡ byte "/") where
-      gap-slash : gap i line (drop i s) ≡ afterSlash i line (drop (i + 1) s)
+      gap-slash : gap i newline (drop i s) ≡ afterSlash i newline (drop (i + 1) s)
       unfolding gap blank lineEnd
       gap-slash = rw (drop-at s i h) (rw e)
 
-      pub slash-last : i + 1 ≡ length s → gap i line (drop i s) ≡ Gap.Ends i line
+      pub slash-last : i + 1 ≡ length s → gap i newline (drop i s) ≡ Gap.Ends i newline
       unfolding gap
       slash-last n = gap-slash ∙ rw (drop-of-length-le s {i = i + 1} (omega arith))
 
@@ -74,93 +74,93 @@ module _ (s : List ℕ) (i : ℕ) (line : Bool) where
             let e : i + 1 + 1 ≡ i + 2 = omega arith in
             rw e at (drop-at s (i + 1) n)
 
-        pub slash-line : getD s (i + 1) 0 ≡ byte "/" → gap i line (drop i s) ≡ inLine (i + 2) line (drop (i + 2) s)
+        pub slash-newline : getD s (i + 1) 0 ≡ byte "/" → gap i newline (drop i s) ≡ inLine (i + 2) newline (drop (i + 2) s)
         unfolding gap
-        slash-line d = gap-slash ∙ rw (next, eq-eqb _ _ d)
+        slash-newline d = gap-slash ∙ rw (next, eq-eqb _ _ d)
 
-        pub slash-block : getD s (i + 1) 0 ≡ byte "*" → gap i line (drop i s) ≡ inBlock i (i + 2) line false (drop (i + 2) s)
+        pub slash-block : getD s (i + 1) 0 ≡ byte "*" → gap i newline (drop i s) ≡ inBlock i (i + 2) newline false (drop (i + 2) s)
         unfolding gap
         slash-block d = gap-slash ∙ rw next (rw d)
 
-        pub slash-alone : (getD s (i + 1) 0 ≡ byte "/" → ⊥) → (getD s (i + 1) 0 ≡ byte "*" → ⊥) → gap i line (drop i s) ≡ Gap.Ends i line
+        pub slash-alone : (getD s (i + 1) 0 ≡ byte "/" → ⊥) → (getD s (i + 1) 0 ≡ byte "*" → ⊥) → gap i newline (drop i s) ≡ Gap.Ends i newline
         unfolding gap
         slash-alone d n = gap-slash ∙ rw (next, ne-eqb _ _ d, ne-eqb _ _ n)
 
     -- in a `//`
-    pub line-ends : insideOf (getD s i 0) ≡ 1 → inLine i line (drop i s) ≡ gap i line (drop i s)
+    pub line-ends : insideOf (getD s i 0) ≡ 1 → inLine i newline (drop i s) ≡ gap i newline (drop i s)
     unfolding inLine
-    line-ends k = rw (drop-at s i h) (rw (not-blank (getD s i 0) (inside-line (getD s i 0) k), inside-line (getD s i 0) k, gap))
+    line-ends k = rw (drop-at s i h) (rw (not-blank (getD s i 0) (inside-newline (getD s i 0) k), inside-newline (getD s i 0) k, gap))
 
-    pub line-stray : insideOf (getD s i 0) ≡ 2 → inLine i line (drop i s) ≡ Gap.Fault stray i
+    pub newline-stray : insideOf (getD s i 0) ≡ 2 → inLine i newline (drop i s) ≡ Gap.Fault stray i
     unfolding inLine
-    line-stray k =
+    newline-stray k =
         let f = inside-illegal (getD s i 0) k in
         rw (drop-at s i h) (rw (f .0, f .1, inLine))
 
-    pub line-more : (insideOf (getD s i 0) ≡ 1 → ⊥) → (insideOf (getD s i 0) ≡ 2 → ⊥) → inLine i line (drop i s) ≡ inLine (i + 1) line (drop (i + 1) s)
+    pub newline-more : (insideOf (getD s i 0) ≡ 1 → ⊥) → (insideOf (getD s i 0) ≡ 2 → ⊥) → inLine i newline (drop i s) ≡ inLine (i + 1) newline (drop (i + 1) s)
     unfolding inLine
-    line-more l g =
+    newline-more l g =
         let f = inside-passed (getD s i 0) l g in
         rw (drop-at s i h) (rw (f .0, f .1, inLine))
 
 -- In a `/*`. A `*` before the place matters only where a slash stands there, so that the loop needs no memory of it: it looks
 -- ahead at each `*`.
-module _ (slash : ℕ) (s : List ℕ) (i : ℕ) (line : Bool) where
-  pub block-past : length s ≤ i → inBlock slash i line false (drop i s) ≡ Gap.Fault openComment slash
+module _ (slash : ℕ) (s : List ℕ) (i : ℕ) (newline : Bool) where
+  pub block-past : length s ≤ i → inBlock slash i newline false (drop i s) ≡ Gap.Fault openComment slash
   unfolding inBlock
   block-past h = rw (drop-of-length-le s h)
 
   -- a star before the place is forgotten where no slash stands there
-  star-forgotten : (getD s i 0 ≡ byte "/" → ⊥) → inBlock slash i line true (drop i s) ≡ inBlock slash i line false (drop i s)
+  star-forgotten : (getD s i 0 ≡ byte "/" → ⊥) → inBlock slash i newline true (drop i s) ≡ inBlock slash i newline false (drop i s)
   unfolding inBlock
   star-forgotten n = go (ltb i (length s)) refl
     where
-      go : (b : Bool) → ltb i (length s) ≡ b → inBlock slash i line true (drop i s) ≡ inBlock slash i line false (drop i s)
+      go : (b : Bool) → ltb i (length s) ≡ b → inBlock slash i newline true (drop i s) ≡ inBlock slash i newline false (drop i s)
       go true e = rw (drop-at s i (ltb-true i (length s) e), ne-eqb (getD s i 0) (byte "/") n)
       go false e = rw (drop-of-length-le s (ltb-false i (length s) e))
 
   module _ (h : i < length s) where
-    pub block-stray : insideOf (getD s i 0) ≡ 2 → inBlock slash i line false (drop i s) ≡ Gap.Fault stray i
+    pub block-stray : insideOf (getD s i 0) ≡ 2 → inBlock slash i newline false (drop i s) ≡ Gap.Fault stray i
     unfolding inBlock
     block-stray k =
         let f = inside-illegal (getD s i 0) k in
         rw (drop-at s i h) (rw (f .0, f .1, inBlock))
 
-    pub block-line-end : insideOf (getD s i 0) ≡ 1 → inBlock slash i line false (drop i s) ≡ inBlock slash (i + 1) true false (drop (i + 1) s)
+    pub block-line-end : insideOf (getD s i 0) ≡ 1 → inBlock slash i newline false (drop i s) ≡ inBlock slash (i + 1) true false (drop (i + 1) s)
     unfolding inBlock
-    block-line-end k = rw (drop-at s i h) (rw (inside-line (getD s i 0) k, inBlock))
+    block-line-end k = rw (drop-at s i h) (rw (inside-newline (getD s i 0) k, inBlock))
 
     module _ (l : insideOf (getD s i 0) ≡ 1 → ⊥) (g : insideOf (getD s i 0) ≡ 2 → ⊥) where
-      passed : inBlock slash i line false (drop i s) ≡ inBlock slash (i + 1) line (eqb (getD s i 0) (byte "*")) (drop (i + 1) s)
+      passed : inBlock slash i newline false (drop i s) ≡ inBlock slash (i + 1) newline (eqb (getD s i 0) (byte "*")) (drop (i + 1) s)
       unfolding inBlock
       passed =
           let f = inside-passed (getD s i 0) l g in
           rw (drop-at s i h) (rw (f .0, f .1, inBlock))
 
-      pub block-more : (getD s i 0 ≡ byte "*" → ⊥) → inBlock slash i line false (drop i s) ≡ inBlock slash (i + 1) line false (drop (i + 1) s)
+      pub block-more : (getD s i 0 ≡ byte "*" → ⊥) → inBlock slash i newline false (drop i s) ≡ inBlock slash (i + 1) newline false (drop (i + 1) s)
       block-more n = rw (ne-eqb _ _ n) at passed
 
       module _ (e : getD s i 0 ≡ byte "*") where
-        starred : inBlock slash i line false (drop i s) ≡ inBlock slash (i + 1) line true (drop (i + 1) s)
+        starred : inBlock slash i newline false (drop i s) ≡ inBlock slash (i + 1) newline true (drop (i + 1) s)
         starred = rw (eq-eqb _ _ e) at passed
 
 -- a `*` at a place, and what follows it
-module _ (slash : ℕ) (s : List ℕ) (i : ℕ) (line : Bool) (h : i < length s) (l : insideOf (getD s i 0) ≡ 1 → ⊥) (g : insideOf (getD s i 0) ≡ 2 → ⊥) (e : getD s i 0 ≡ byte "*") where
-  pub block-star : (getD s (i + 1) 0 ≡ byte "/" → ⊥) → inBlock slash i line false (drop i s) ≡ inBlock slash (i + 1) line false (drop (i + 1) s)
-  block-star n = starred slash s i line h l g e ∙ star-forgotten slash s (i + 1) line n
+module _ (slash : ℕ) (s : List ℕ) (i : ℕ) (newline : Bool) (h : i < length s) (l : insideOf (getD s i 0) ≡ 1 → ⊥) (g : insideOf (getD s i 0) ≡ 2 → ⊥) (e : getD s i 0 ≡ byte "*") where
+  pub block-star : (getD s (i + 1) 0 ≡ byte "/" → ⊥) → inBlock slash i newline false (drop i s) ≡ inBlock slash (i + 1) newline false (drop (i + 1) s)
+  block-star n = starred slash s i newline h l g e ∙ star-forgotten slash s (i + 1) newline n
 
-  pub block-star-last : i + 1 ≡ length s → inBlock slash i line false (drop i s) ≡ inBlock slash (i + 1) line false (drop (i + 1) s)
+  pub block-star-last : i + 1 ≡ length s → inBlock slash i newline false (drop i s) ≡ inBlock slash (i + 1) newline false (drop (i + 1) s)
   block-star-last last =
       let z : getD s (i + 1) 0 ≡ 0 = List·getD-eq-default s 0 (omega arith) in
       block-star (λ x. let clash : _≡_ {A = ℕ} 0 47 = sym z ∙ x in omega arith)
 
-  pub block-close : i + 1 < length s → getD s (i + 1) 0 ≡ byte "/" → inBlock slash i line false (drop i s) ≡ gap (i + 2) line (drop (i + 2) s)
+  pub block-close : i + 1 < length s → getD s (i + 1) 0 ≡ byte "/" → inBlock slash i newline false (drop i s) ≡ gap (i + 2) newline (drop (i + 2) s)
   unfolding inBlock lineEnd illegal blank
   block-close n d =
       let next : i + 1 + 1 ≡ i + 2 = omega arith in
-      rw next at (starred slash s i line h l g e ∙ closed (i + 1) n d)
+      rw next at (starred slash s i newline h l g e ∙ closed (i + 1) n d)
     where
-      closed : (j : ℕ) → j < length s → getD s j 0 ≡ byte "/" → inBlock slash j line true (drop j s) ≡ gap (j + 1) line (drop (j + 1) s)
+      closed : (j : ℕ) → j < length s → getD s j 0 ≡ byte "/" → inBlock slash j newline true (drop j s) ≡ gap (j + 1) newline (drop (j + 1) s)
       closed j m q = rw (drop-at s j m) (rw q)
 
 -- a comment that does not end before a place does not end before an earlier one
@@ -170,12 +170,12 @@ not-before-less m n h (Comment.Ends end lined) p = omega arith
 not-before-less m n h (Comment.Fault number place) p = tt
 
 -- what the answer about a comment says of the gap
-module _ (s : List ℕ) (i : ℕ) (line : Bool) (r : Comment) (known : gap i line (drop i s) ≡ resumed s i line r) where
-  pub gap-no-comment : r ≡ Comment.Absent → gap i line (drop i s) ≡ Gap.Ends i line
-  gap-no-comment e = known ∙ ap (resumed s i line) e
+module _ (s : List ℕ) (i : ℕ) (newline : Bool) (r : Comment) (known : gap i newline (drop i s) ≡ resumed s i newline r) where
+  pub gap-no-comment : r ≡ Comment.Absent → gap i newline (drop i s) ≡ Gap.Ends i newline
+  gap-no-comment e = known ∙ ap (resumed s i newline) e
 
-  pub gap-comment : (end : ℕ) (lined : Bool) → r ≡ Comment.Ends end lined → gap i line (drop i s) ≡ gap end (line || lined) (drop end s)
-  gap-comment end lined e = known ∙ ap (resumed s i line) e
+  pub gap-comment : (end : ℕ) (lined : Bool) → r ≡ Comment.Ends end lined → gap i newline (drop i s) ≡ gap end (newline || lined) (drop end s)
+  gap-comment end lined e = known ∙ ap (resumed s i newline) e
 
-  pub gap-fault : (number place : ℕ) → r ≡ Comment.Fault number place → gap i line (drop i s) ≡ Gap.Fault number place
-  gap-fault number place e = known ∙ ap (resumed s i line) e
+  pub gap-fault : (number place : ℕ) → r ≡ Comment.Fault number place → gap i newline (drop i s) ≡ Gap.Fault number place
+  gap-fault number place e = known ∙ ap (resumed s i newline) e

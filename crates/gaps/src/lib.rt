@@ -4,7 +4,7 @@ ghost use mathlib.Core.Bool.{Bool, true, false};
 ghost use Prim.Native.Nat.{_+_, _<_};
 ghost use lib.ListN.{length, drop, getD};
 ghost use Rattle.gaps.specs.Gaps.{gap, inLine, inBlock};
-ghost use Rattle.gaps.specs.Comments.{resumed, NotBefore};
+ghost use Rattle.gaps.specs.Machinery.Comments.{resumed, NotBefore};
 use answers::faults::OPEN_COMMENT;
 use answers::faults::STRAY;
 
@@ -24,7 +24,7 @@ pub enum Comment {
 // The `//` that starts at `slash`: it ends before its line end.
 fn line_comment(text: &[u8], slash: usize) -> Comment
     requires { ⌜ slash + 1 < length (now text) ⌝ }
-    ensures { λ r. ⌜ ((line : Bool) → inLine (slash + 2) line (drop (slash + 2) (now (text .entry))) ≡ resumed (now (text .entry)) slash line r) × NotBefore (slash + 2) r ⌝ }
+    ensures { λ r. ⌜ ((newline : Bool) → inLine (slash + 2) newline (drop (slash + 2) (now (text .entry))) ≡ resumed (now (text .entry)) slash newline r) × NotBefore (slash + 2) r ⌝ }
 {
     let mut i = slash + 2;
     while i < text.len() {
@@ -44,7 +44,7 @@ fn line_comment(text: &[u8], slash: usize) -> Comment
 // The `/*` that starts at `slash`.
 fn block_comment(text: &[u8], slash: usize) -> Comment
     requires { ⌜ slash + 1 < length (now text) ⌝ }
-    ensures { λ r. ⌜ ((line : Bool) → inBlock slash (slash + 2) line false (drop (slash + 2) (now (text .entry))) ≡ resumed (now (text .entry)) slash line r) × NotBefore (slash + 2) r ⌝ }
+    ensures { λ r. ⌜ ((newline : Bool) → inBlock slash (slash + 2) newline false (drop (slash + 2) (now (text .entry))) ≡ resumed (now (text .entry)) slash newline r) × NotBefore (slash + 2) r ⌝ }
 {
     let mut lined = false;
     let mut i = slash + 2;
@@ -79,7 +79,7 @@ fn block_comment(text: &[u8], slash: usize) -> Comment
 // The comment at a slash, if one starts there.
 fn comment_at(text: &[u8], slash: usize) -> Comment
     requires { ⌜ (slash < length (now text)) × (getD (now text) slash 0 ≡ 47) ⌝ }
-    ensures { λ r. ⌜ ((line : Bool) → gap slash line (drop slash (now (text .entry))) ≡ resumed (now (text .entry)) slash line r) × NotBefore (slash + 1) r ⌝ }
+    ensures { λ r. ⌜ ((newline : Bool) → gap slash newline (drop slash (now (text .entry))) ≡ resumed (now (text .entry)) slash newline r) × NotBefore (slash + 1) r ⌝ }
 {
     if slash + 1 == text.len() {
         return Comment::Absent;
@@ -98,7 +98,7 @@ fn comment_at(text: &[u8], slash: usize) -> Comment
 pub fn gap_from(text: &[u8], from: usize) -> Gap
     ensures { λ r. ⌜ r ≡ gap from false (drop from (now (text .entry))) ⌝ }
 {
-    let mut line = false;
+    let mut newline = false;
     let mut i = from;
     while i < text.len() {
         let b = text[i];
@@ -107,20 +107,20 @@ pub fn gap_from(text: &[u8], from: usize) -> Gap
             continue;
         }
         if text::is_line_end(b) {
-            line = true;
+            newline = true;
             i += 1;
             continue;
         }
         if b != b'/' {
-            return Gap::Ends(i, line);
+            return Gap::Ends(i, newline);
         }
         let comment = comment_at(text, i);
         match comment {
             Comment::Absent => {
-                return Gap::Ends(i, line);
+                return Gap::Ends(i, newline);
             }
             Comment::Ends(end, lined) => {
-                line = line || lined;
+                newline = newline || lined;
                 i = end;
             }
             Comment::Fault(number, place) => {
@@ -128,5 +128,5 @@ pub fn gap_from(text: &[u8], from: usize) -> Gap
             }
         }
     }
-    Gap::Ends(i, line)
+    Gap::Ends(i, newline)
 }

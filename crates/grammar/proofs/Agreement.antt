@@ -4,13 +4,13 @@ use mathlib.Core.List.{List, [], _∷_}
 use Prim.Native.Nat.{ℕ}
 use lib.Dec.{T, eqb, eqb→eq}
 use Rattle.text.proofs.Range.{and-left, and-right}
-use Rattle.prefix.specs.Rule.{groupClass}
-use Rattle.prefix.specs.Levels.{isExpression}
-use Rattle.prefix.specs.Summary.{Summary, nothing, braceBy, slashBy, add, code}
-use Rattle.prefix.proofs.Finite.{bothBools, at-bool, allSummaries, at-summary}
+use Rattle.rule.specs.Rule.{groupClass}
+use Rattle.rule.specs.Levels.{isExpression}
+use Rattle.rule.specs.Machinery.Summary.{Summary, nothing, braceBy, slashBy, add}
+use Rattle.rule.proofs.Finite.{bothBools, at-bool, allSummaries, at-summary}
 use Rattle.grammar.specs.Tokens.{pattern, divide}
 use Rattle.grammar.specs.Grammar.{body, block}
-use Rattle.grammar.specs.Machine.{
+use Rattle.grammar.specs.Machinery.Machine.{
   ifNest,
   Setting,
   among,
@@ -57,9 +57,9 @@ use Rattle.grammar.specs.Machine.{
   row,
   endOfText,
 }
-use Rattle.text.proofs.Members.{Has, here, there, allIn, at, isIn, found}
+use Rattle.text.proofs.Members.{Has, here, there, allIn, at, found}
 use Rattle.grammar.proofs.Classes.{isLeaf, treeClass}
-use Rattle.grammar.proofs.Related.{kinds, summaries, codes, related, settled, implies, implied, takesOver}
+use Rattle.grammar.proofs.Related.{kinds, related, on-kind, settled, implies, implied, takesOver}
 use Rattle.grammar.proofs.ClassSteps.{opensGroup, openedKind, closesGroup, closesKind}
 
 -- a slash is taken as the summary answers
@@ -68,20 +68,20 @@ slashRight s class = cond (eqb class pattern) (slashBy s) (cond (eqb class divid
 
 -- a group of a kind is opened behind trees with a summary: the control inside it, and the one behind it
 unfoldable pub opensRight : ℕ → Summary → Bool → ℕ → Control → Control → Bool
-opensRight kind s line group within behind = related within group nothing && related behind kind (add (isExpression kind) s (groupClass group) line)
+opensRight kind s newline group within behind = related within group nothing && related behind kind (add (isExpression kind) s (groupClass group) newline)
 
 -- What is asked of an action for a class of tokens: a tree more, a group more or a group ended leaves the machine where it may
 -- stand, and a nest is left only where a statement is complete. The whole text, of kind 0, is no group: there the machine stops.
 unfoldable pub allows : ℕ → Summary → Bool → ℕ → Action → Bool
-allows kind s line class fail = true
-allows kind s line class (goto next effect) = slashRight s class && (isLeaf class && related next kind (add (isExpression kind) s (treeClass class) line))
-allows kind s line class (push within behind closing) =
-    slashRight s class && (opensGroup class && opensRight kind s line (openedKind (braceBy (isExpression kind) s line) class) within behind)
-allows kind s line class (enter within behind closing) =
-    slashRight s class && (isLeaf class && (related within kind (add (isExpression kind) s (treeClass class) line) && takesOver behind))
-allows kind s line class (pop value) = slashRight s class && (closesGroup class && (eqb kind 0 || closesKind class kind))
-allows kind s line class (leave value) = settled kind s
-allows kind s line class finish = eqb class endOfText
+allows kind s newline class fail = true
+allows kind s newline class (goto next effect) = slashRight s class && (isLeaf class && related next kind (add (isExpression kind) s (treeClass class) newline))
+allows kind s newline class (push within behind closing) =
+    slashRight s class && (opensGroup class && opensRight kind s newline (openedKind (braceBy (isExpression kind) s newline) class) within behind)
+allows kind s newline class (enter within behind closing) =
+    slashRight s class && (isLeaf class && (related within kind (add (isExpression kind) s (treeClass class) newline) && takesOver behind))
+allows kind s newline class (pop value) = slashRight s class && (closesGroup class && (eqb kind 0 || closesKind class kind))
+allows kind s newline class (leave value) = settled kind s
+allows kind s newline class finish = eqb class endOfText
 
 -- the same part by part
 pub both : (a b : Bool) → T (a && b) → T a × T b
@@ -90,41 +90,41 @@ both a b t = (and-left a b t, and-right a b t)
 three : (a b c : Bool) → T (a && (b && c)) → T a × T b × T c
 three a b c t = (and-left a (b && c) t, and-left b c (and-right a (b && c) t), and-right b c (and-right a (b && c) t))
 
-module _ (kind : ℕ) (s : Summary) (line : Bool) where
-  pub opens-right : (group : ℕ) (within behind : Control) → T (opensRight kind s line group within behind)
-      → T (related within group nothing) × T (related behind kind (add (isExpression kind) s (groupClass group) line))
+module _ (kind : ℕ) (s : Summary) (newline : Bool) where
+  pub opens-right : (group : ℕ) (within behind : Control) → T (opensRight kind s newline group within behind)
+      → T (related within group nothing) × T (related behind kind (add (isExpression kind) s (groupClass group) newline))
   unfolding opensRight
-  opens-right group within behind = both (related within group nothing) (related behind kind (add (isExpression kind) s (groupClass group) line))
+  opens-right group within behind = both (related within group nothing) (related behind kind (add (isExpression kind) s (groupClass group) newline))
 
   module _ (class : ℕ) where
-    pub goto-allowed : (next : Control) (effect : Effect) → T (allows kind s line class (goto next effect))
-        → T (slashRight s class) × T (isLeaf class) × T (related next kind (add (isExpression kind) s (treeClass class) line))
+    pub goto-allowed : (next : Control) (effect : Effect) → T (allows kind s newline class (goto next effect))
+        → T (slashRight s class) × T (isLeaf class) × T (related next kind (add (isExpression kind) s (treeClass class) newline))
     unfolding allows
-    goto-allowed next effect = three (slashRight s class) (isLeaf class) (related next kind (add (isExpression kind) s (treeClass class) line))
+    goto-allowed next effect = three (slashRight s class) (isLeaf class) (related next kind (add (isExpression kind) s (treeClass class) newline))
 
-    pub push-allowed : (within behind : Control) (closing : Closing) → T (allows kind s line class (push within behind closing))
-        → T (slashRight s class) × T (opensGroup class) × T (opensRight kind s line (openedKind (braceBy (isExpression kind) s line) class) within behind)
+    pub push-allowed : (within behind : Control) (closing : Closing) → T (allows kind s newline class (push within behind closing))
+        → T (slashRight s class) × T (opensGroup class) × T (opensRight kind s newline (openedKind (braceBy (isExpression kind) s newline) class) within behind)
     unfolding allows
     push-allowed within behind closing =
-        three (slashRight s class) (opensGroup class) (opensRight kind s line (openedKind (braceBy (isExpression kind) s line) class) within behind)
+        three (slashRight s class) (opensGroup class) (opensRight kind s newline (openedKind (braceBy (isExpression kind) s newline) class) within behind)
 
-    pub enter-allowed : (within behind : Control) (closing : Closing) → T (allows kind s line class (enter within behind closing))
+    pub enter-allowed : (within behind : Control) (closing : Closing) → T (allows kind s newline class (enter within behind closing))
         → T (slashRight s class) × T (isLeaf class)
-        × T (related within kind (add (isExpression kind) s (treeClass class) line) && takesOver behind)
+        × T (related within kind (add (isExpression kind) s (treeClass class) newline) && takesOver behind)
     unfolding allows
     enter-allowed within behind closing =
-        three (slashRight s class) (isLeaf class) (related within kind (add (isExpression kind) s (treeClass class) line) && takesOver behind)
+        three (slashRight s class) (isLeaf class) (related within kind (add (isExpression kind) s (treeClass class) newline) && takesOver behind)
 
-    pub leave-allowed : (value : Value) → T (allows kind s line class (leave value)) → T (settled kind s)
+    pub leave-allowed : (value : Value) → T (allows kind s newline class (leave value)) → T (settled kind s)
     unfolding allows
     leave-allowed value t = t
 
-    pub pop-allowed : (value : Value) → T (allows kind s line class (pop value))
+    pub pop-allowed : (value : Value) → T (allows kind s newline class (pop value))
         → T (slashRight s class) × T (closesGroup class) × T (eqb kind 0 || closesKind class kind)
     unfolding allows
     pop-allowed value = three (slashRight s class) (closesGroup class) (eqb kind 0 || closesKind class kind)
 
-    pub finish-allowed : T (allows kind s line class finish) → T (eqb class endOfText)
+    pub finish-allowed : T (allows kind s newline class finish) → T (eqb class endOfText)
     unfolding allows
     finish-allowed t = t
 
@@ -140,21 +140,21 @@ allowsOther kind s finish = false
 
 -- the test of a control: all entries of its rows, wherever it may stand
 abbrev allowsEntry : ℕ → Summary → Bool → Entry → Bool
-allowsEntry kind s line (on class action) = allows kind s line class action
-allowsEntry kind s line (otherwise action) = allowsOther kind s action
+allowsEntry kind s newline (on class action) = allows kind s newline class action
+allowsEntry kind s newline (otherwise action) = allowsOther kind s action
 
-other-allowed : (kind : ℕ) (s : Summary) (line : Bool) (class : ℕ) (action : Action) → T (allowsOther kind s action) → T (allows kind s line class action)
+other-allowed : (kind : ℕ) (s : Summary) (newline : Bool) (class : ℕ) (action : Action) → T (allowsOther kind s action) → T (allows kind s newline class action)
 unfolding allows
-other-allowed kind s line class fail t = tt
-other-allowed kind s line class (goto next effect) t = absurd t
-other-allowed kind s line class (push within behind closing) t = absurd t
-other-allowed kind s line class (enter within behind closing) t = absurd t
-other-allowed kind s line class (pop value) t = absurd t
-other-allowed kind s line class (leave value) t = t
-other-allowed kind s line class finish t = absurd t
+other-allowed kind s newline class fail t = tt
+other-allowed kind s newline class (goto next effect) t = absurd t
+other-allowed kind s newline class (push within behind closing) t = absurd t
+other-allowed kind s newline class (enter within behind closing) t = absurd t
+other-allowed kind s newline class (pop value) t = absurd t
+other-allowed kind s newline class (leave value) t = t
+other-allowed kind s newline class finish t = absurd t
 
 unfoldable passes : Control → ℕ → Summary → Bool
-passes control kind s = implies (related control kind s) (bothBools λ line. allIn (allowsEntry kind s line) (row control line))
+passes control kind s = implies (related control kind s) (bothBools λ newline. allIn (allowsEntry kind s newline) (row control newline))
 
 unfoldable test : Control → Bool
 test control = allIn (λ kind. allSummaries λ s. passes control kind s) (kinds control)
@@ -222,30 +222,30 @@ passed parameterNamed = tt
 passed finished = tt
 
 -- the entry of a class, if each entry of the row is as asked
-looked : (kind : ℕ) (s : Summary) (line : Bool) (entries : List Entry) (class : ℕ) → T (allIn (allowsEntry kind s line) entries)
-    → T (allows kind s line class (look class entries))
+looked : (kind : ℕ) (s : Summary) (newline : Bool) (entries : List Entry) (class : ℕ) → T (allIn (allowsEntry kind s newline) entries)
+    → T (allows kind s newline class (look class entries))
 unfolding allows
-looked kind s line [] class t = tt
-looked kind s line (on x action ∷ rest) class t =
-    go (eqb class x) (λ h. h) (looked kind s line rest class (and-right (allows kind s line x action) (allIn (allowsEntry kind s line) rest) t))
+looked kind s newline [] class t = tt
+looked kind s newline (on x action ∷ rest) class t =
+    go (eqb class x) (λ h. h) (looked kind s newline rest class (and-right (allows kind s newline x action) (allIn (allowsEntry kind s newline) rest) t))
   where
-    go : (b : Bool) → (T b → T (eqb class x)) → T (allows kind s line class (look class rest)) → T (allows kind s line class (cond b action (look class rest)))
-    go true h r = rw (eqb→eq class x (h tt)) (and-left (allows kind s line x action) (allIn (allowsEntry kind s line) rest) t)
+    go : (b : Bool) → (T b → T (eqb class x)) → T (allows kind s newline class (look class rest)) → T (allows kind s newline class (cond b action (look class rest)))
+    go true h r = rw (eqb→eq class x (h tt)) (and-left (allows kind s newline x action) (allIn (allowsEntry kind s newline) rest) t)
     go false h r = r
-looked kind s line (otherwise action ∷ rest) class t =
-    other-allowed kind s line class action (and-left (allowsOther kind s action) (allIn (allowsEntry kind s line) rest) t)
+looked kind s newline (otherwise action ∷ rest) class t =
+    other-allowed kind s newline class action (and-left (allowsOther kind s action) (allIn (allowsEntry kind s newline) rest) t)
 
 -- where a control may stand, each of its actions is as asked
-pub rule : (control : Control) (kind : ℕ) (s : Summary) → T (related control kind s) → (line : Bool) (class : ℕ)
-    → T (allows kind s line class (look class (row control line)))
+pub rule : (control : Control) (kind : ℕ) (s : Summary) → T (related control kind s) → (newline : Bool) (class : ℕ)
+    → T (allows kind s newline class (look class (row control newline)))
 unfolding test passes related
-rule control kind s r line class =
-    looked kind s line (row control line) class
-    (at-bool (λ line. allIn (allowsEntry kind s line) (row control line))
-    (implied (related control kind s) (bothBools λ line. allIn (allowsEntry kind s line) (row control line))
+rule control kind s r newline class =
+    looked kind s newline (row control newline) class
+    (at-bool (λ newline. allIn (allowsEntry kind s newline) (row control newline))
+    (implied (related control kind s) (bothBools λ newline. allIn (allowsEntry kind s newline) (row control newline))
     (at-summary (λ s. passes control kind s)
     (at (λ kind. allSummaries λ s. passes control kind s)
-    (found (kinds control) kind (and-left (isIn (kinds control) kind) (isIn (codes (summaries control)) (code s)) r)) (passed control))
+    (found (kinds control) kind (on-kind control kind s r)) (passed control))
     s)
     r)
-    line)
+    newline)

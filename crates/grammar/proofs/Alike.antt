@@ -6,7 +6,7 @@ use Prim.Native.Nat.{ℕ}
 use native.Mathlib.Omega.{arith}
 use Rattle.grammar.specs.Tokens.{token, Spot}
 use Rattle.grammar.specs.Syntax.{Syntax}
-use Rattle.grammar.specs.Machine.{
+use Rattle.grammar.specs.Machinery.Machine.{
   Frame,
   close,
   Control,
@@ -20,8 +20,8 @@ use Rattle.grammar.specs.Machine.{
   finish,
   look,
   row,
-  Held,
-  held,
+  Open,
+  grouped,
   nested,
   State,
   dead,
@@ -30,7 +30,7 @@ use Rattle.grammar.specs.Machine.{
   finishIn,
   actBy,
   leaveTo,
-  take,
+  consume,
 }
 
 -- the same state, or both dead
@@ -38,7 +38,7 @@ pub data Alike : State → State → Type 0 where
   alike : {state : State} → Alike state state
   both-dead : {place other : ℕ} → Alike (dead place) (dead other)
 
-pub alike-live : {state other : State} → Alike state other → {control : Control} {f : Frame} {around : List Held} → state ≡ live control f around
+pub alike-live : {state other : State} → Alike state other → {control : Control} {f : Frame} {around : List Open} → state ≡ live control f around
     → other ≡ live control f around
 alike-live alike e = e
 alike-live both-dead e = absurd (let z : _≡_ {A = ℕ} 0 1 = cc in omega arith)
@@ -48,23 +48,23 @@ alike-dead alike {place} e = (place, e)
 alike-dead (both-dead {other = other}) e = (other, refl)
 
 -- two tokens that differ in their first byte alone
-module _ (line : Bool) (mark here there : ℕ) where
+module _ (newline : Bool) (mark here there : ℕ) where
   abbrev one : Spot
-  one = record { line = line; mark = mark; first = here }
+  one = record { newline = newline; mark = mark; first = here }
 
   abbrev other : Spot
-  other = record { line = line; mark = mark; first = there }
+  other = record { newline = newline; mark = mark; first = there }
 
-  pops-alike : (value : Syntax) (around : List Held) → Alike (popTo here value around) (popTo there value around)
+  pops-alike : (value : Syntax) (around : List Open) → Alike (popTo here value around) (popTo there value around)
   pops-alike value [] = both-dead
-  pops-alike value (held behind closing mark f ∷ around) = alike
+  pops-alike value (grouped behind closing mark f ∷ around) = alike
   pops-alike value (nested behind closing mark f ∷ around) = both-dead
 
-  finishes-alike : (f : Frame) (around : List Held) → Alike (finishIn here f around) (finishIn there f around)
+  finishes-alike : (f : Frame) (around : List Open) → Alike (finishIn here f around) (finishIn there f around)
   finishes-alike f [] = alike
   finishes-alike f (h ∷ around) = both-dead
 
-  acts-alike : (out away : Syntax → State) → ((value : Syntax) → Alike (out value) (away value)) → (action : Action) (f : Frame) (around : List Held)
+  acts-alike : (out away : Syntax → State) → ((value : Syntax) → Alike (out value) (away value)) → (action : Action) (f : Frame) (around : List Open)
       → Alike (actBy out action one f around) (actBy away action other f around)
   acts-alike out away left fail f around = both-dead
   acts-alike out away left (goto control effect) f around = alike
@@ -74,15 +74,15 @@ module _ (line : Bool) (mark here there : ℕ) where
   acts-alike out away left (leave value) f around = left _
   acts-alike out away left finish f around = finishes-alike f around
 
-  leaves-alike : (class : ℕ) (around : List Held) (value : Syntax) → Alike (leaveTo class one around value) (leaveTo class other around value)
+  leaves-alike : (class : ℕ) (around : List Open) (value : Syntax) → Alike (leaveTo class one around value) (leaveTo class other around value)
   leaves-alike class [] value = both-dead
-  leaves-alike class (held behind closing opened f ∷ around) value = both-dead
+  leaves-alike class (grouped behind closing opened f ∷ around) value = both-dead
   leaves-alike class (nested behind closing opened f ∷ around) value =
-      acts-alike (leaveTo class one around) (leaveTo class other around) (leaves-alike class around) (look class (row behind line))
+      acts-alike (leaveTo class one around) (leaveTo class other around) (leaves-alike class around) (look class (row behind newline))
       (close closing opened value f) around
 
-  pub take-alike : (class : ℕ) {state away : State} → Alike state away → Alike (take state (token class one)) (take away (token class other))
+  pub take-alike : (class : ℕ) {state away : State} → Alike state away → Alike (consume state (token class one)) (consume away (token class other))
   take-alike class (alike {state = dead place}) = alike
   take-alike class (alike {state = live control f around}) =
-      acts-alike (leaveTo class one around) (leaveTo class other around) (leaves-alike class around) (look class (row control line)) f around
+      acts-alike (leaveTo class one around) (leaveTo class other around) (leaves-alike class around) (look class (row control newline)) f around
   take-alike class both-dead = both-dead

@@ -1,5 +1,5 @@
 -- What an expression begins with; where a statement or a returned value may begin, the machine takes it as an expression.
-use mathlib.Core.Path.{_≡_, refl, _∙_, ap}
+use mathlib.Core.Path.{_≡_, refl, sym, _∙_, ap}
 use mathlib.Core.Bool.{Bool, true, false, not}
 use mathlib.Core.List.{List, [], _∷_}
 use Prim.Native.Nat.{ℕ}
@@ -31,8 +31,7 @@ use Rattle.grammar.specs.Grammar.{
   assign-binary,
   assign-to,
 }
-use Rattle.grammar.specs.Machine.{
-  Pending,
+use Rattle.grammar.specs.Machinery.Machine.{
   Frame,
   frame,
   Setting,
@@ -53,12 +52,13 @@ use Rattle.grammar.specs.Machine.{
   operand,
   afterOperand,
   unlessLine,
-  Held,
+  Open,
+  State,
   live,
   act,
+  consume,
 }
-use Rattle.grammar.proofs.Ran.{ran}
-use Rattle.grammar.proofs.TableLaws.{at-operator, look-past, no-line}
+use Rattle.grammar.proofs.TableLaws.{at-operator, look-past, no-newline}
 
 -- a token comes, and it is no `:`
 abbrev pub noColon : List Token → Bool
@@ -101,27 +101,36 @@ pub assign-begins : {before after : List Token} {value : Syntax} → Assign befo
 assign-begins (assign-binary binary) next = binary-begins binary next
 assign-begins (assign-to target value) next = chain-begins target tt
 
--- a name before no `:` is an operand
-name-is-operand : (stop : Spot) (setting : Setting) (f : Frame) (around : List Held) (rest : List Token) → T (noColon rest)
-    → ran stop (live (nameFirst setting) f around) rest ≡ ran stop (live (operandDone (byStatement setting) true) f around) rest
-name-is-operand stop setting f around [] next = absurd next
-name-is-operand stop setting f around (token class spot ∷ rest) next =
-    ap (λ (z : Action). ran stop (act z class spot f around) rest)
-    (look-past class colon (goto (statementDue true setting) takeLabel) (afterOperand (byStatement setting) true) next)
+-- what is seen of a run: of a state only what it makes of the next token, and nothing at a name
+pub record Sees {A : Type 0} (seen : State → List Token → A) : Type 0 where
+  pub by-take : (state other : State) (t : Token) (ts : List Token) → consume state t ≡ consume other t → seen state (t ∷ ts) ≡ seen other (t ∷ ts)
+  pub past-name : (state : State) (spot : Spot) (ts : List Token) → seen state (token name spot ∷ ts) ≡ seen (consume state (token name spot)) ts
 
--- "not starting with `{` or `function`": a statement that begins as an expression is taken as one
-pub expression-is-taken : (stop : Spot) (must : Bool) (setting : Setting) (done : Syntax) (starts : List Pending) (around : List Held) {before : List Token}
-    → Begins before → T (startsExpression before)
-    → ran stop (live (statementDue must setting) (frame done starts [] nil) around) before
-    ≡ ran stop (live (operandDue (byStatement setting) true) (frame done starts [] nil) around) before
-expression-is-taken stop must setting done starts around (by-name {spot = spot} {rest = rest} next) allowed =
-    name-is-operand stop setting (frame done starts [] (node name (spot .mark) nil nil)) around rest next
-expression-is-taken stop must setting done starts around by-number allowed = refl
-expression-is-taken stop must setting done starts around by-string allowed = refl
-expression-is-taken stop must setting done starts around by-pattern allowed = refl
-expression-is-taken stop must setting done starts around by-parens allowed = refl
-expression-is-taken stop must setting done starts around by-object allowed = absurd allowed
-expression-is-taken stop must setting done starts around by-function allowed = absurd allowed
+module _ {A : Type 0} {seen : State → List Token → A} (sees : Sees seen) where
+  -- a name before no `:` is an operand
+  name-is-operand : (setting : Setting) (f : Frame) (around : List Open) (rest : List Token) → T (noColon rest)
+      → seen (live (nameFirst setting) f around) rest ≡ seen (live (operandDone (byStatement setting) true) f around) rest
+  name-is-operand setting f around [] next = absurd next
+  name-is-operand setting f around (token class spot ∷ rest) next =
+      sees .by-take (live (nameFirst setting) f around) (live (operandDone (byStatement setting) true) f around) (token class spot) rest
+      (ap (λ (z : Action). act z class spot f around)
+      (look-past class colon (goto (statementDue true setting) takeLabel) (afterOperand (byStatement setting) true) next))
+
+  -- "not starting with `{` or `function`": a statement that begins as an expression is taken as one
+  pub expression-is-taken : (must : Bool) (setting : Setting) (f : Frame) (around : List Open) {before : List Token}
+      → Begins before → T (startsExpression before)
+      → seen (live (statementDue must setting) f around) before ≡ seen (live (operandDue (byStatement setting) true) f around) before
+  expression-is-taken must setting (frame done starts waiting operand) around (by-name {spot = spot} {rest = rest} next) allowed =
+      let f = frame done starts waiting operand in
+      sees .past-name (live (statementDue must setting) f around) spot rest
+      ∙ name-is-operand setting (frame done starts waiting (node name (spot .mark) nil nil)) around rest next
+      ∙ sym (sees .past-name (live (operandDue (byStatement setting) true) f around) spot rest)
+  expression-is-taken must setting f around by-number allowed = sees .by-take _ _ _ _ refl
+  expression-is-taken must setting f around by-string allowed = sees .by-take _ _ _ _ refl
+  expression-is-taken must setting f around by-pattern allowed = sees .by-take _ _ _ _ refl
+  expression-is-taken must setting f around by-parens allowed = sees .by-take _ _ _ _ refl
+  expression-is-taken must setting f around by-object allowed = absurd allowed
+  expression-is-taken must setting f around by-function allowed = absurd allowed
 
 pub begins-no-semicolon : {class : ℕ} {spot : Spot} {rest : List Token} → Begins (token class spot ∷ rest) → T (not (eqb class semicolon))
 begins-no-semicolon (by-name next) = tt
@@ -133,10 +142,12 @@ begins-no-semicolon by-object = tt
 begins-no-semicolon by-function = tt
 
 -- "with no line end after `return`": a value is taken
-pub value-is-returned : (stop : Spot) (setting : Setting) (f : Frame) (around : List Held) (before : List Token) → Begins before → T (onSameLine before)
-    → ran stop (live (returnFirst setting) f around) before ≡ ran stop (live (operandDue (byReturn setting) true) f around) before
-value-is-returned stop setting f around (token class spot ∷ rest) begins same =
-    ap (λ (z : Action). ran stop (act z class spot f around) rest)
-    (look-past class semicolon (goto (behindStatement setting) endBareReturn) (unlessLine (spot .line) (operand (byReturn setting) true))
+pub value-is-returned : {A : Type 0} {seen : State → List Token → A} → Sees seen → (setting : Setting) (f : Frame) (around : List Open) (before : List Token)
+    → Begins before → T (onSameLine before)
+    → seen (live (returnFirst setting) f around) before ≡ seen (live (operandDue (byReturn setting) true) f around) before
+value-is-returned sees setting f around (token class spot ∷ rest) begins same =
+    sees .by-take (live (returnFirst setting) f around) (live (operandDue (byReturn setting) true) f around) (token class spot) rest
+    (ap (λ (z : Action). act z class spot f around)
+    (look-past class semicolon (goto (behindStatement setting) endBareReturn) (unlessLine (spot .newline) (operand (byReturn setting) true))
     (begins-no-semicolon begins)
-    ∙ ap (λ (z : List Entry). look class z) (no-line (spot .line) (operand (byReturn setting) true) same))
+    ∙ ap (λ (z : List Entry). look class z) (no-newline (spot .newline) (operand (byReturn setting) true) same)))

@@ -7,13 +7,12 @@ use native.Mathlib.Omega.{arith}
 use Rattle.elements.specs.Elements.{elementAt}
 use Rattle.elements.specs.declared.Element.{Element}
 use Rattle.elements.specs.declared.Next.{Next}
-use Rattle.grammar.specs.Cuts.{isCloser, marked, Cuts, cut-end, cut-element, cut-slash}
+use Rattle.grammar.specs.Cuts.{isCloser, recorded, Cuts, cut-end, cut-element, cut-slash, CutsInto}
 use Rattle.grammar.specs.Tokens.{Token, classOf, tokenOf, tokensFrom, tokens}
 use Rattle.grammar.specs.Grammar.{Program}
 use Rattle.grammar.specs.Derivations.{SameElements, no-elements, same-element, BeginsProgram}
-use Rattle.grammar.specs.Machine.{State, dead, live, Control, Frame, Held, finished, take, run, start}
+use Rattle.grammar.specs.Machinery.Machine.{State, dead, live, Control, Frame, Open, finished, consume, run, start}
 use Rattle.grammar.proofs.Alike.{Alike, alike, alike-live, alike-dead, take-alike}
-use Rattle.grammar.proofs.ReadCuts.{CutsInto}
 use Rattle.grammar.proofs.Spelling.{spelled, placedFrom, spelled-cuts, behindAll, placed-append}
 use Rattle.grammar.proofs.Respelled.{Pieces, piece-more}
 use Rattle.grammar.proofs.CompletedTexts.{completed}
@@ -29,19 +28,19 @@ closer-same : (e f : Element) → e .kind ≡ f .kind → e .which ≡ f .which 
 closer-same e f k w = rw (k, w)
 
 -- the machine takes elements alike that differ in their places alone
-element-alike : (mark : ℕ) (e f : Element) → classOf e ≡ classOf f → e .line ≡ f .line → {state other : State} → Alike state other
-    → Alike (take state (tokenOf mark e)) (take other (tokenOf mark f))
-element-alike mark e f c l a = rw (c, l) (take-alike (f .line) mark (e .first) (f .first) (classOf f) a)
+element-alike : (mark : ℕ) (e f : Element) → classOf e ≡ classOf f → e .newline ≡ f .newline → {state other : State} → Alike state other
+    → Alike (consume state (tokenOf mark e)) (consume other (tokenOf mark f))
+element-alike mark e f c l a = rw (c, l) (take-alike (f .newline) mark (e .first) (f .first) (classOf f) a)
 
 pub run-alike : {s t : List ℕ} {es fs : List Element} → SameElements s t es fs → (mark : ℕ) {state other : State} → Alike state other
     → Alike (run state (tokensFrom mark es)) (run other (tokensFrom mark fs))
 unfolding tokensFrom
 run-alike no-elements mark a = a
 run-alike (same-element {e} {f} {es} {fs} same rest) mark {state} {other} a =
-    subst (λ (b : Bool). Alike (run (take state (tokenOf mark e)) (tokensFrom (cond b mark (mark + 1)) es)) (run (take other (tokenOf mark f)) (tokensFrom (cond (isCloser f) mark (mark + 1)) fs)))
+    subst (λ (b : Bool). Alike (run (consume state (tokenOf mark e)) (tokensFrom (cond b mark (mark + 1)) es)) (run (consume other (tokenOf mark f)) (tokensFrom (cond (isCloser f) mark (mark + 1)) fs)))
     (sym (closer-same e f (same .kind) (same .which)))
     (run-alike rest (cond (isCloser f) mark (mark + 1))
-    (element-alike mark e f (class-same e f (same .kind) (same .which)) (same .line) a))
+    (element-alike mark e f (class-same e f (same .kind) (same .which)) (same .newline) a))
 
 -- tokens of elements one after the other
 abbrev marksAfter : ℕ → List Element → ℕ
@@ -55,7 +54,7 @@ tokens-append mark (e ∷ es) fs = ap (_∷_ (tokenOf mark e)) (tokens-append (c
 
 -- the first elements of a text, as pieces
 module _ (s : List ℕ) where
-  one-more : (place : ℕ) (e g : Element) (es : List Element) (answer : Bool) → elementAt s place answer ≡ Next.Found e → Pieces s es → marked e ≡ g → Pieces s (g ∷ es)
+  one-more : (place : ℕ) (e g : Element) (es : List Element) (answer : Bool) → elementAt s place answer ≡ Next.Found e → Pieces s es → recorded e ≡ g → Pieces s (g ∷ es)
   one-more place e g es answer f rest q = subst (λ (x : Element). Pieces s (x ∷ es)) q (piece-more s place e es answer f rest)
 
   first-pieces : {place : ℕ} {choice : List Bool} {all : List Element} → Cuts s place choice all → (es rest : List Element) → all ≡ es ++ rest → Pieces s es
@@ -66,7 +65,7 @@ module _ (s : List ℕ) where
 
 module _ (s : List ℕ) (all es rest : List Element) (cuts : CutsInto s 0 all) (split : all ≡ es ++ rest) where
   -- as long as it follows them, some text begins so and is a program
-  pub begins : (control : Control) (f : Frame) (around : List Held) → run start (tokens es) ≡ live control f around → (control ≡ finished → ⊥) → BeginsProgram s es
+  pub begins : (control : Control) (f : Frame) (around : List Open) → run start (tokens es) ≡ live control f around → (control ≡ finished → ⊥) → BeginsProgram s es
   begins control f around r going =
       let p = first-pieces s (cuts .cut) es rest split in
       let firsts = placedFrom 0 (p .pieces) in
@@ -98,7 +97,7 @@ begins-not s es r b =
     (subst (λ (ts : List Token). Program ts (b .derivation .parts)) (ap tokens (b .starts) ∙ tokens-append 0 (b .firsts) (b .more)) (b .derivation .steps))
 
 -- no element is the end of the text
-pub still-going : (es : List Element) (control : Control) (f : Frame) (around : List Held) → run start (tokens es) ≡ live control f around → control ≡ finished → ⊥
+pub still-going : (es : List Element) (control : Control) (f : Frame) (around : List Open) → run start (tokens es) ≡ live control f around → control ≡ finished → ⊥
 still-going es control f around r = unfinished (tokens-before-end 0 es) control f around r
 
 -- the first of two lists of elements, by the same in another text

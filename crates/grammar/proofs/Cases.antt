@@ -30,7 +30,7 @@ use Rattle.grammar.specs.Tokens.{
   ifWord,
 }
 use Rattle.grammar.specs.Syntax.{Syntax, nil, syntaxRecords, programTree}
-use Rattle.grammar.specs.Machine.{State, dead, live, take, run, start, doneOf, endOfText}
+use Rattle.grammar.specs.Machinery.Machine.{State, dead, live, consume, run, start, doneOf, endOfText}
 use Rattle.grammar.proofs.ClassSteps.{closesGroup}
 use Rattle.grammar.proofs.InStep.{isLive}
 
@@ -68,15 +68,15 @@ spelled b = spelledIn spellings b
 
 -- the tokens with the text's end behind them; a line end is marked, and a blank passed over
 abbrev tokensFrom : Bool → ℕ → List ℕ → List Token
-tokensFrom line mark [] = token endOfText (record { line = line; mark = mark; first = 0 }) ∷ []
-tokensFrom line mark (b ∷ rest) =
+tokensFrom newline mark [] = token endOfText (record { newline = newline; mark = mark; first = 0 }) ∷ []
+tokensFrom newline mark (b ∷ rest) =
     elim (eqb b (byte "\n")) [
       | true ↦ tokensFrom true mark rest
       | false ↦
           elim (eqb b (byte " ")) [
-            | true ↦ tokensFrom line mark rest
+            | true ↦ tokensFrom newline mark rest
             | false ↦
-                token (spelled b) (record { line = line; mark = mark; first = 0 }) ∷ tokensFrom false (cond (closesGroup (spelled b)) mark (mark + 1)) rest
+                token (spelled b) (record { newline = newline; mark = mark; first = 0 }) ∷ tokensFrom false (cond (closesGroup (spelled b)) mark (mark + 1)) rest
           ]
     ]
 
@@ -86,7 +86,7 @@ tokens t = tokensFrom false 0 (bytes t)
 -- how many of them the machine follows
 abbrev followed : State → List Token → ℕ
 followed state [] = 0
-followed state (t ∷ ts) = elim (isLive (take state t)) [ true ↦ followed (take state t) ts + 1 | false ↦ 0 ]
+followed state (t ∷ ts) = elim (isLive (consume state t)) [ true ↦ followed (consume state t) ts + 1 | false ↦ 0 ]
 
 abbrev isProgram : String → Bool
 isProgram t = isLive (run start (tokens t))

@@ -1,18 +1,18 @@
 -- The step of a reading, by the class of its element.
 use mathlib.Core.Path.{_≡_, refl}
-use mathlib.Core.Bool.{Bool, true, false, cond, _||_}
+use mathlib.Core.Bool.{Bool, true, false, not, cond, _||_}
 use Prim.Native.Nat.{ℕ}
 use borrow.Author.Tests.{eqb-true, ne-eqb}
 use lib.Dec.{T, eqb}
 use Rattle.text.specs.Runs.{same}
 use Rattle.signs.specs.Signs.{longestSign, longestOf}
 use Rattle.elements.specs.declared.Element.{Element}
-use Rattle.prefix.specs.Trees.{Trees, group, parenKind, objectKind, blockKind}
-use Rattle.prefix.specs.Levels.{Levels, inside, braceOpens, onTop}
+use Rattle.rule.specs.Trees.{Trees, group, parenKind, objectKind, blockKind}
+use Rattle.rule.specs.Levels.{Levels, inside, braceOpens, onTop}
 use Rattle.prefix.specs.Reading.{Limits, more, openGroup, step}
-use Rattle.grammar.specs.Cuts.{isCloser, marked}
+use Rattle.grammar.specs.Cuts.{isCloser, recorded}
 use Rattle.grammar.specs.Tokens.{openParen, closeParen, openBrace, closeBrace}
-use Rattle.grammar.specs.Machine.{endOfText}
+use Rattle.grammar.specs.Machinery.Machine.{endOfText}
 use Rattle.grammar.proofs.Classes.{Told, told-leaf, told-open-paren, told-close-paren, told-open-brace, told-close-brace, told-nothing, no-leaf}
 
 abbrev pub opensGroup : ℕ → Bool
@@ -34,9 +34,14 @@ pub holds : (b : Bool) → T b → b ≡ true
 holds true t = refl
 holds false t = absurd t
 
+-- a test that fails
+pub fails : (b : Bool) → T (not b) → b ≡ false
+fails true t = absurd t
+fails false t = refl
+
 module _ (limits : Limits) (e : Element) where
   pub opener-step : (levels : Levels) {class : ℕ} → Told e class → T (opensGroup class)
-      → step limits levels e ≡ openGroup limits levels (openedKind (braceOpens levels (e .line)) class) e
+      → step limits levels e ≡ openGroup limits levels (openedKind (braceOpens levels (e .newline)) class) e
   unfolding step longestSign longestOf same
   opener-step levels (told-leaf {class = class} n l c) t = absurd (no-leaf opensGroup tt class l t)
   opener-step levels (told-open-paren k w) t = rw (step, k, w)
@@ -45,17 +50,17 @@ module _ (limits : Limits) (e : Element) where
   opener-step levels (told-close-brace k w) t = absurd t
   opener-step levels told-nothing t = absurd t
 
-  pub closer-step : (around : Levels) (kind first : ℕ) (line : Bool) (trees : Trees) {class : ℕ} → Told e class → T (closesGroup class) → T (closesKind class kind)
-      → step limits (inside around kind first line trees) e ≡ more (onTop (λ before. group before kind first (e .end) line trees) around)
+  pub closer-step : (around : Levels) (kind first : ℕ) (newline : Bool) (trees : Trees) {class : ℕ} → Told e class → T (closesGroup class) → T (closesKind class kind)
+      → step limits (inside around kind first newline trees) e ≡ more (onTop (λ before. group before kind first (e .end) newline trees) around)
   unfolding step longestSign longestOf same
-  closer-step around kind first line trees (told-leaf {class = class} n l c) t u = absurd (no-leaf closesGroup tt class l t)
-  closer-step around kind first line trees (told-open-paren k w) t u = absurd t
-  closer-step around kind first line trees (told-close-paren k w) t u = rw (step, k, eqb-true (e .which) 4 w, holds (eqb kind parenKind) u)
-  closer-step around kind first line trees (told-open-brace k w) t u = absurd t
-  closer-step around kind first line trees (told-close-brace k w) t u = rw (step, k, eqb-true (e .which) 2 w, holds (eqb kind objectKind || eqb kind blockKind) u)
-  closer-step around kind first line trees told-nothing t u = absurd t
+  closer-step around kind first newline trees (told-leaf {class = class} n l c) t u = absurd (no-leaf closesGroup tt class l t)
+  closer-step around kind first newline trees (told-open-paren k w) t u = absurd t
+  closer-step around kind first newline trees (told-close-paren k w) t u = rw (step, k, eqb-true (e .which) 4 w, holds (eqb kind parenKind) u)
+  closer-step around kind first newline trees (told-open-brace k w) t u = absurd t
+  closer-step around kind first newline trees (told-close-brace k w) t u = rw (step, k, eqb-true (e .which) 2 w, holds (eqb kind objectKind || eqb kind blockKind) u)
+  closer-step around kind first newline trees told-nothing t u = absurd t
 
--- closers, and only they, have no line mark of their own
+-- closers, and only they, have no newline flag of their own
 pub leaf-no-closer : (e : Element) → (e .kind ≡ 0 → ⊥) → isCloser e ≡ false
 leaf-no-closer e n = rw (ne-eqb (e .kind) 0 n)
 
@@ -77,8 +82,8 @@ closer-closer e (told-open-brace k w) t = absurd t
 closer-closer e (told-close-brace k w) t = rw (k, eqb-true (e .which) 2 w)
 closer-closer e told-nothing t = absurd t
 
-pub line-kept : (e : Element) → isCloser e ≡ false → (marked e) .line ≡ e .line
-line-kept e q = rw q
+pub newline-kept : (e : Element) → isCloser e ≡ false → (recorded e) .newline ≡ e .newline
+newline-kept e q = rw q
 
 -- no element stands for the text's end
 pub no-end : {e : Element} {class : ℕ} → Told e class → T (eqb class endOfText) → ⊥

@@ -13,10 +13,10 @@ use Rattle.vocabulary.specs.Vocabulary.{Row, words, signs, ruleClass, tokenClas
 use Rattle.vocabulary.proofs.RowLaws.{at-row, at-other}
 use Rattle.vocabulary.proofs.ClassLaws.{isClass, is-class}
 use Rattle.signs.specs.Signs.{longestSign, longestOf}
-use Rattle.elements.specs.Elements.{nameKind, wordKind, numberKind, stringKind, patternKind, signKind, delimiterKind, delimiter, isSign}
+use Rattle.elements.specs.Elements.{nameKind, wordKind, numberKind, stringKind, patternKind, signKind, delimiterKind, delimiter, parenOpener, parenCloser, braceOpener, braceCloser}
 use Rattle.elements.specs.declared.Element.{Element}
 use Rattle.elements.proofs.Choices.{cond-known}
-use Rattle.prefix.specs.Rule.{Class, elementClass}
+use Rattle.rule.specs.Rule.{Class, elementClass}
 use Rattle.grammar.specs.Tokens.{
   name,
   number,
@@ -79,10 +79,10 @@ treeClass class = treeIn leaves class
 -- an element that is no delimiter, with the class of its tree; a delimiter, by its sign; or what is no element that is found
 pub data Told (e : Element) : ℕ → Type 0 where
   told-leaf : {class : ℕ} → (e .kind ≡ 0 → ⊥) → T (isLeaf class) → elementClass e ≡ treeClass class → Told e class
-  told-open-paren : e .kind ≡ 0 → isSign "(" (e .which) ≡ true → Told e openParen
-  told-close-paren : e .kind ≡ 0 → isSign ")" (e .which) ≡ true → Told e closeParen
-  told-open-brace : e .kind ≡ 0 → isSign "{" (e .which) ≡ true → Told e openBrace
-  told-close-brace : e .kind ≡ 0 → isSign "}" (e .which) ≡ true → Told e closeBrace
+  told-open-paren : e .kind ≡ 0 → eqb (e .which) parenOpener ≡ true → Told e openParen
+  told-close-paren : e .kind ≡ 0 → eqb (e .which) parenCloser ≡ true → Told e closeParen
+  told-open-brace : e .kind ≡ 0 → eqb (e .which) braceOpener ≡ true → Told e openBrace
+  told-close-brace : e .kind ≡ 0 → eqb (e .which) braceCloser ≡ true → Told e closeBrace
   told-nothing : Told e 0
 
 -- a word or sign that has a class of its own is a tree by itself, of the class that its row has for the prefix rule
@@ -121,12 +121,12 @@ module _ (e : Element) where
   delimiter-told : e .kind ≡ delimiterKind → Told e (delimiterClass (e .which))
   unfolding delimiter rowAt longestSign longestOf same
   delimiter-told k =
-      go (isSign "{" (e .which)) (isSign "}" (e .which)) (isSign "(" (e .which)) (isSign ")" (e .which)) refl refl refl refl
+      go (eqb (e .which) braceOpener) (eqb (e .which) braceCloser) (eqb (e .which) parenOpener) (eqb (e .which) parenCloser) refl refl refl refl
     where
       at-sign : (number : ℕ) → eqb (e .which) number ≡ true → Told e (tokenClass (rowAt signs number)) → Told e (tokenClass (rowAt signs (e .which)))
       at-sign number q t = subst (λ (n : ℕ). Told e (tokenClass (rowAt signs n))) (sym (eqb-true (e .which) number q)) t
 
-      go : (a b c d : Bool) → isSign "{" (e .which) ≡ a → isSign "}" (e .which) ≡ b → isSign "(" (e .which) ≡ c → isSign ")" (e .which) ≡ d
+      go : (a b c d : Bool) → eqb (e .which) braceOpener ≡ a → eqb (e .which) braceCloser ≡ b → eqb (e .which) parenOpener ≡ c → eqb (e .which) parenCloser ≡ d
           → Told e (cond (a || b || c || d) (tokenClass (rowAt signs (e .which))) 0)
       go true b c d p q r s = at-sign 1 p (told-open-brace k p)
       go false true c d p q r s = at-sign 2 q (told-close-brace k q)

@@ -45,49 +45,10 @@ use Rattle.grammar.specs.Grammar.{
   add-declaration,
   Program,
 }
-use Rattle.grammar.specs.Machine.{
-  endOfText,
-  Pending,
-  pending,
-  Frame,
-  frame,
-  empty,
-  completeStatement,
-  markOf,
-  heldWord,
-  toStatement,
-  Ending,
-  byStatement,
-  byReturn,
-  byParen,
-  byBrace,
-  Role,
-  declared,
-  operandIn,
-  Nest,
-  ifNest,
-  Setting,
-  among,
-  inNest,
-  Control,
-  statementDue,
-  statementDone,
-  behindStatement,
-  operandDue,
-  operandDone,
-  functionFirst,
-  finished,
-  Held,
-  nested,
-  State,
-  dead,
-  live,
-  run,
-  start,
-}
+use Rattle.grammar.specs.Machinery.Machine.{endOfText, Pending, pending, Frame, frame, empty, completeStatement, markOf, heldWord, toStatement, Ending, byStatement, byReturn, byParen, byBrace, Role, declared, operandIn, ifNest, Setting, among, inNest, Control, statementDue, statementDone, behindStatement, operandDue, operandDone, functionFirst, finished, Open, nested, State, dead, live, run, start}
 use Rattle.grammar.proofs.Ran.{ran, ran-is-run, anywhere}
 use Rattle.grammar.proofs.ReduceLaws.{Looser, looser-up}
-use Rattle.grammar.proofs.Beginnings.{assign-begins, expression-is-taken, value-is-returned}
+use Rattle.grammar.proofs.Beginnings.{Sees, assign-begins, expression-is-taken, value-is-returned}
 use Rattle.grammar.proofs.Passing.{
   Passed,
   parens-passed,
@@ -109,7 +70,7 @@ withFunction declared inside done starts waiting word = completeStatement done s
 withFunction (operandIn ending target) inside done starts waiting word = frame done starts waiting (node functionSyntax (markOf word) inside nil)
 
 leaf-taken : {class : ℕ} (stop spot : Spot) (after : List Token) (ending : Ending) (target : Bool) (done : Syntax) (starts waiting : List Pending)
-    (operand : Syntax) (around : List Held) → Leaf class
+    (operand : Syntax) (around : List Open) → Leaf class
     → ran stop (live (operandDue ending target) (frame done starts waiting operand) around) (token class spot ∷ after)
     ≡ ran stop (live (operandDone ending target) (frame done starts waiting (node class (spot .mark) nil nil)) around) after
 leaf-taken stop spot after ending target done starts waiting operand around leaf-name = refl
@@ -117,8 +78,11 @@ leaf-taken stop spot after ending target done starts waiting operand around leaf
 leaf-taken stop spot after ending target done starts waiting operand around leaf-string = refl
 leaf-taken stop spot after ending target done starts waiting operand around leaf-pattern = refl
 
+ran-sees : (stop : Spot) → Sees (ran stop)
+ran-sees stop = record { by-take = λ state other t ts same. ap (λ (s : State). ran stop s ts) same; past-name = λ state spot ts. refl }
+
 -- a nest that is complete is left, whatever comes
-nest-left : (stop : Spot) (setting : Setting) (value : Syntax) (mark : ℕ) (done : Syntax) (starts : List Pending) (around : List Held) (after : List Token)
+nest-left : (stop : Spot) (setting : Setting) (value : Syntax) (mark : ℕ) (done : Syntax) (starts : List Pending) (around : List Open) (after : List Token)
     → ran stop (live (statementDone ifNest) (frame (snoc nil value) [] [] nil)
     (nested (behindStatement setting) toStatement mark (frame done starts [] nil) ∷ around)) after
     ≡ ran stop (live (behindStatement setting) (completeStatement done starts value) around) after
@@ -131,26 +95,26 @@ next n = omega arith
 -- what the machine does with the tokens of a form, wherever it stands
 abbrev Taken : Spot → Form → List Token → List Token → Syntax → Type 0
 Taken stop chainForm before after value =
-    (ending : Ending) (target : Bool) (done : Syntax) (starts waiting : List Pending) (operand : Syntax) (around : List Held)
+    (ending : Ending) (target : Bool) (done : Syntax) (starts waiting : List Pending) (operand : Syntax) (around : List Open)
     → ran stop (live (operandDue ending target) (frame done starts waiting operand) around) before
     ≡ ran stop (live (operandDone ending target) (frame done starts waiting value) around) after
 Taken stop (binaryForm least) before after value =
-    (ending : Ending) (target : Bool) (done : Syntax) (starts waiting : List Pending) (operand : Syntax) (around : List Held)
+    (ending : Ending) (target : Bool) (done : Syntax) (starts waiting : List Pending) (operand : Syntax) (around : List Open)
     → Looser least waiting
     → Passed stop ending done starts around least waiting (live (operandDue ending target) (frame done starts waiting operand) around) before after value
 Taken stop assignForm before after value =
-    (ending : Ending) (done : Syntax) (starts waiting : List Pending) (operand : Syntax) (around : List Held) → Looser 1 waiting
+    (ending : Ending) (done : Syntax) (starts waiting : List Pending) (operand : Syntax) (around : List Open) → Looser 1 waiting
     → Passed stop ending done starts around 0 waiting (live (operandDue ending true) (frame done starts waiting operand) around) before after value
 Taken stop functionForm before after value =
-    (role : Role) (done : Syntax) (starts waiting : List Pending) (word : Syntax) (around : List Held)
+    (role : Role) (done : Syntax) (starts waiting : List Pending) (word : Syntax) (around : List Open)
     → ran stop (live (functionFirst role) (frame done starts waiting word) around) before
     ≡ ran stop (live (behindFunction role) (withFunction role value done starts waiting word) around) after
 Taken stop statementForm before after value =
-    (must : Bool) (setting : Setting) (done : Syntax) (starts : List Pending) (around : List Held)
+    (must : Bool) (setting : Setting) (done : Syntax) (starts : List Pending) (around : List Open)
     → ran stop (live (statementDue must setting) (frame done starts [] nil) around) before
     ≡ ran stop (live (behindStatement setting) (completeStatement done starts value) around) after
 Taken stop (statementsForm scope) before after value =
-    (around : List Held) → ran stop (live (statementDue false (among scope)) empty around) before
+    (around : List Open) → ran stop (live (statementDue false (among scope)) empty around) before
     ≡ ran stop (live (statementDue false (among scope)) (frame value [] [] nil) around) after
 
 taken : (stop : Spot) {form : Form} {before after : List Token} {value : Syntax} → Derives form before after value → Taken stop form before after value
@@ -189,7 +153,7 @@ taken stop (function-all statements) =
 taken stop (statement-block statements) = λ must setting done starts around. taken stop statements _
 taken stop (statement-expression allowed value) =
     λ must setting done starts around.
-    expression-is-taken stop must setting done starts around (assign-begins value tt) allowed
+    expression-is-taken (ran-sees stop) must setting (frame done starts [] nil) around (assign-begins value tt) allowed
     ∙ expression-passed (taken stop value (byStatement setting) done starts [] nil around tt)
 taken stop (statement-if {word = word} {after = after} {condition = first} {inner = value} condition inner) =
     λ must setting done starts around.
@@ -200,7 +164,7 @@ taken stop (statement-if {word = word} {after = after} {condition = first} {inne
 taken stop statement-bare-return = λ must setting done starts around. refl
 taken stop (statement-full-return {word = word} {before = before} same value) =
     λ must setting done starts around.
-    value-is-returned stop setting (frame done (pending fullReturnSyntax (word .mark) nil ∷ starts) [] nil) around before (assign-begins value tt) same
+    value-is-returned (ran-sees stop) setting (frame done (pending fullReturnSyntax (word .mark) nil ∷ starts) [] nil) around before (assign-begins value tt) same
     ∙ return-passed (taken stop value (byReturn setting) done (pending fullReturnSyntax (word .mark) nil ∷ starts) [] nil around tt)
 taken stop (statement-label {label = label} inner) =
     λ must setting done starts around. taken stop inner true setting done (pending labelSyntax (label .mark) nil ∷ starts) around

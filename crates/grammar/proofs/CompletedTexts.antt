@@ -13,7 +13,7 @@ use Rattle.literals.specs.Strings.{quote}
 use Rattle.elements.specs.Elements.{elementAt, elementFrom, named, delimiter}
 use Rattle.elements.specs.declared.Element.{Element}
 use Rattle.elements.specs.declared.Next.{Next}
-use Rattle.grammar.specs.Cuts.{isCloser, marked}
+use Rattle.grammar.specs.Cuts.{isCloser, recorded}
 use Rattle.grammar.specs.Tokens.{classOf, tokensFrom}
 use Rattle.grammar.proofs.Completion.{
   Spelled,
@@ -37,12 +37,12 @@ use Rattle.grammar.proofs.Spelling.{Piece, moved, placedFrom}
 -- an element of a class, as a piece
 record Spelling (class : ℕ) : Type 0 where
   piece : Piece
-  is : (n : ℕ) → classOf (marked (moved n piece)) ≡ class
+  is : (n : ℕ) → classOf (recorded (moved n piece)) ≡ class
 
 -- a spelling by a text of its own
 made : (class : ℕ) (s : List ℕ) (e : Element) → elementAt s 0 false ≡ Next.Found e → classOf e ≡ class → Spelling class
 unfolding classOf
-made class s e found c = record { piece = record { source = s; place = 0; answer = false; element = e; found = found; line = false }; is = λ n. c }
+made class s e found c = record { piece = record { source = s; place = 0; answer = false; element = e; found = found; newline = false }; is = λ n. c }
 
 spelling : {class : ℕ} → Spelled class → Spelling class
 unfolding elementAt gap elementFrom named letter digit nameByte blank lineEnd illegal quote placeIn wordNumber taken delimiter longestSign longestOf Runs.same Runs.run classOf
@@ -70,7 +70,7 @@ completed (more-spelled {classes = classes} one all) =
     record {
       pieces = s .piece ∷ rest .pieces;
       are = λ mark place.
-          let e = marked (moved place (s .piece)) in
+          let e = recorded (moved place (s .piece)) in
           subst (λ (class : ℕ). OfClasses (class ∷ classes) (tokensFrom mark (placedFrom place (s .piece ∷ rest .pieces)))) (s .is place)
           (more-tokens (rest .are (cond (isCloser e) mark (mark + 1)) (place + 1 + size)));
     }

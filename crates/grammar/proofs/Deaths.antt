@@ -7,7 +7,7 @@ use native.Mathlib.Omega.{arith}
 use Rattle.grammar.specs.Tokens.{Token, token, Spot}
 use Rattle.grammar.specs.Syntax.{Syntax}
 use Rattle.grammar.specs.Grammar.{body}
-use Rattle.grammar.specs.Machine.{
+use Rattle.grammar.specs.Machinery.Machine.{
   Frame,
   empty,
   close,
@@ -24,8 +24,8 @@ use Rattle.grammar.specs.Machine.{
   finish,
   look,
   row,
-  Held,
-  held,
+  Open,
+  grouped,
   nested,
   State,
   dead,
@@ -34,7 +34,7 @@ use Rattle.grammar.specs.Machine.{
   finishIn,
   actBy,
   leaveTo,
-  take,
+  consume,
   run,
   start,
 }
@@ -45,17 +45,17 @@ abbrev DeadAt : ℕ → State → Type 0
 DeadAt place (dead there) = there ≡ place
 DeadAt place (live control f around) = Unit {0}
 
-pop-dies : (place : ℕ) (value : Syntax) (around : List Held) → DeadAt place (popTo place value around)
+pop-dies : (place : ℕ) (value : Syntax) (around : List Open) → DeadAt place (popTo place value around)
 pop-dies place value [] = refl
-pop-dies place value (held behind closing mark f ∷ around) = tt
+pop-dies place value (grouped behind closing mark f ∷ around) = tt
 pop-dies place value (nested behind closing mark f ∷ around) = refl
 
-finish-dies : (place : ℕ) (f : Frame) (around : List Held) → DeadAt place (finishIn place f around)
+finish-dies : (place : ℕ) (f : Frame) (around : List Open) → DeadAt place (finishIn place f around)
 finish-dies place f [] = tt
 finish-dies place f (h ∷ around) = refl
 
 module _ (class : ℕ) (spot : Spot) where
-  act-dies : (out : Syntax → State) → ((value : Syntax) → DeadAt (spot .first) (out value)) → (action : Action) (f : Frame) (around : List Held)
+  act-dies : (out : Syntax → State) → ((value : Syntax) → DeadAt (spot .first) (out value)) → (action : Action) (f : Frame) (around : List Open)
       → DeadAt (spot .first) (actBy out action spot f around)
   act-dies out left fail f around = refl
   act-dies out left (goto control effect) f around = tt
@@ -65,15 +65,15 @@ module _ (class : ℕ) (spot : Spot) where
   act-dies out left (leave value) f around = left _
   act-dies out left finish f around = finish-dies (spot .first) f around
 
-  leave-dies : (around : List Held) (value : Syntax) → DeadAt (spot .first) (leaveTo class spot around value)
+  leave-dies : (around : List Open) (value : Syntax) → DeadAt (spot .first) (leaveTo class spot around value)
   leave-dies [] value = refl
-  leave-dies (held behind closing opened f ∷ around) value = refl
+  leave-dies (grouped behind closing opened f ∷ around) value = refl
   leave-dies (nested behind closing opened f ∷ around) value =
-      act-dies (leaveTo class spot around) (leave-dies around) (look class (row behind (spot .line))) (close closing opened value f) around
+      act-dies (leaveTo class spot around) (leave-dies around) (look class (row behind (spot .newline))) (close closing opened value f) around
 
-  take-dies : (control : Control) (f : Frame) (around : List Held) → DeadAt (spot .first) (take (live control f around) (token class spot))
+  take-dies : (control : Control) (f : Frame) (around : List Open) → DeadAt (spot .first) (consume (live control f around) (token class spot))
   take-dies control f around =
-      act-dies (leaveTo class spot around) (leave-dies around) (look class (row control (spot .line))) f around
+      act-dies (leaveTo class spot around) (leave-dies around) (look class (row control (spot .newline))) f around
 
 -- a run from a state dies at a place: by a token there, and the tokens before it are followed
 pub record Death (state : State) (ts : List Token) (place : ℕ) : Type 0 where
@@ -84,19 +84,19 @@ pub record Death (state : State) (ts : List Token) (place : ℕ) : Type 0 where
   pub split : ts ≡ before ++ (token class spot ∷ after)
   pub control : Control
   pub f : Frame
-  pub around : List Held
+  pub around : List Open
   pub alive : run state before ≡ live control f around
   pub dies : run state (before ++ (token class spot ∷ [])) ≡ dead place
   pub here : spot .first ≡ place
 
-pub death-from : (control : Control) (f : Frame) (around : List Held) (ts : List Token) (place : ℕ) → run (live control f around) ts ≡ dead place
+pub death-from : (control : Control) (f : Frame) (around : List Open) (ts : List Token) (place : ℕ) → run (live control f around) ts ≡ dead place
     → Death (live control f around) ts place
 death-from control f around [] place e = absurd (let z : _≡_ {A = ℕ} 0 1 = cc in omega arith)
 death-from control f around (token class spot ∷ ts) place e =
-    go (take (live control f around) (token class spot)) refl (take-dies class spot control f around) e (λ next g outside. death-from next g outside ts place)
+    go (consume (live control f around) (token class spot)) refl (take-dies class spot control f around) e (λ next g outside. death-from next g outside ts place)
   where
-    go : (state : State) → take (live control f around) (token class spot) ≡ state → DeadAt (spot .first) state → run state ts ≡ dead place
-        → ((next : Control) (g : Frame) (outside : List Held) → run (live next g outside) ts ≡ dead place → Death (live next g outside) ts place)
+    go : (state : State) → consume (live control f around) (token class spot) ≡ state → DeadAt (spot .first) state → run state ts ≡ dead place
+        → ((next : Control) (g : Frame) (outside : List Open) → run (live next g outside) ts ≡ dead place → Death (live next g outside) ts place)
         → Death (live control f around) (token class spot ∷ ts) place
     go (dead there) q at e later =
         let same : there ≡ place = cc (stays-dead there ts) in

@@ -4,6 +4,7 @@ pub mod Ran
 pub mod Beginnings
 pub mod Passing
 pub mod Complete
+pub mod TakenBraces
 pub mod Waiting
 pub mod Places
 pub mod Partial
@@ -12,6 +13,7 @@ pub mod Steps
 pub mod Sound
 pub mod SoFar
 pub mod InStep
+pub mod ReadBraces
 pub mod Programs
 pub mod ReadCuts
 pub mod SameChoice
@@ -39,5 +41,8 @@ pub mod OwnMarks
 pub mod TokenLaws
 pub mod CountTrees
 pub mod TreeSizes
+pub mod AllBraces
 pub mod Answers
+pub mod ShownRecords
+pub mod FirstRefused
 pub mod Theorems

@@ -8,7 +8,7 @@ use lib.Dec.{T}
 use Rattle.grammar.specs.Tokens.{Token, token, Spot, assign, semicolon, closeParen, closeBrace}
 use Rattle.grammar.specs.Syntax.{Syntax, nil, node, expressionSyntax}
 use Rattle.grammar.specs.Grammar.{operators, isOperator, precedence}
-use Rattle.grammar.specs.Machine.{
+use Rattle.grammar.specs.Machinery.Machine.{
   Pending,
   pending,
   Frame,
@@ -34,8 +34,8 @@ use Rattle.grammar.specs.Machine.{
   operandDone,
   Action,
   besidesOperators,
-  Held,
-  held,
+  Open,
+  grouped,
   State,
   live,
   act,
@@ -46,7 +46,7 @@ use Rattle.grammar.proofs.ReduceLaws.{Looser, reduce-stops, reduce-clos
 
 -- From a state the run comes from the tokens before an expression to those after it. The operators that were waiting still are,
 -- and those that have come close to the value, if closed by one that binds no tighter than the expression's operators.
-pub record Passed (stop : Spot) (ending : Ending) (done : Syntax) (starts : List Pending) (around : List Held) (least : ℕ) (waiting : List Pending)
+pub record Passed (stop : Spot) (ending : Ending) (done : Syntax) (starts : List Pending) (around : List Open) (least : ℕ) (waiting : List Pending)
     (from : State) (before after : List Token) (value : Syntax) : Type 0 where
   pub target : Bool
   pub unclosed : List Pending
@@ -55,23 +55,23 @@ pub record Passed (stop : Spot) (ending : Ending) (done : Syntax) (starts : List
   pub closes : (n : ℕ) → n ≤ least → reduce n done starts unclosed last ≡ reduce n done starts waiting value
 
 -- the ends of an expression: a group's closer, and `;`
-module _ {stop : Spot} {behind : Control} {closing : Closing} {mark : ℕ} {f : Frame} {around : List Held} {closer : Spot} {inside after : List Token}
+module _ {stop : Spot} {behind : Control} {closing : Closing} {mark : ℕ} {f : Frame} {around : List Open} {closer : Spot} {inside after : List Token}
     {value : Syntax} where
-  pub parens-passed : Passed stop byParen nil [] (held behind closing mark f ∷ around) 0 []
-      (live (operandDue byParen true) empty (held behind closing mark f ∷ around)) inside (token closeParen closer ∷ after) value
-      → ran stop (live (operandDue byParen true) empty (held behind closing mark f ∷ around)) inside
+  pub parens-passed : Passed stop byParen nil [] (grouped behind closing mark f ∷ around) 0 []
+      (live (operandDue byParen true) empty (grouped behind closing mark f ∷ around)) inside (token closeParen closer ∷ after) value
+      → ran stop (live (operandDue byParen true) empty (grouped behind closing mark f ∷ around)) inside
       ≡ ran stop (live behind (close closing mark value f) around) after
   parens-passed p =
       p .runs ∙ ap (λ (z : Frame). ran stop (live behind (close closing mark (operandOf z) f) around) after) (p .closes 0 (omega arith))
 
-  pub object-passed : Passed stop byBrace nil [] (held behind closing mark f ∷ around) 0 []
-      (live (operandDue byBrace true) empty (held behind closing mark f ∷ around)) inside (token closeBrace closer ∷ after) value
-      → ran stop (live (operandDue byBrace true) empty (held behind closing mark f ∷ around)) inside
+  pub object-passed : Passed stop byBrace nil [] (grouped behind closing mark f ∷ around) 0 []
+      (live (operandDue byBrace true) empty (grouped behind closing mark f ∷ around)) inside (token closeBrace closer ∷ after) value
+      → ran stop (live (operandDue byBrace true) empty (grouped behind closing mark f ∷ around)) inside
       ≡ ran stop (live behind (close closing mark value f) around) after
   object-passed p =
       p .runs ∙ ap (λ (z : Frame). ran stop (live behind (close closing mark (operandOf z) f) around) after) (p .closes 0 (omega arith))
 
-module _ {stop : Spot} {setting : Setting} {done : Syntax} {starts : List Pending} {around : List Held} {from : State} {end : Spot} {before after : List Token}
+module _ {stop : Spot} {setting : Setting} {done : Syntax} {starts : List Pending} {around : List Open} {from : State} {end : Spot} {before after : List Token}
     {value : Syntax} where
   pub expression-passed : Passed stop (byStatement setting) done starts around 0 [] from before (token semicolon end ∷ after) value
       → ran stop from before
@@ -85,7 +85,7 @@ module _ {stop : Spot} {setting : Setting} {done : Syntax} {starts : List Pendin
       p .runs ∙ ap (λ (z : Frame). ran stop (live (behindStatement setting) (completeReturn z) around) after) (p .closes 0 (omega arith))
 
 -- expressions of two parts
-module _ {stop : Spot} {ending : Ending} {done : Syntax} {starts : List Pending} {around : List Held} {waiting : List Pending} {from : State}
+module _ {stop : Spot} {ending : Ending} {done : Syntax} {starts : List Pending} {around : List Open} {waiting : List Pending} {from : State}
     {before middle after : List Token} {left right : Syntax} where
   pub operator-passed : {least class : ℕ} {sign : Spot} → T (isOperator class) → least ≤ precedence class → Looser (precedence class) waiting
       → Passed stop ending done starts around (precedence class) waiting from before (token class sign ∷ middle) left
@@ -133,7 +133,7 @@ module _ {stop : Spot} {ending : Ending} {done : Syntax} {starts : List Pending}
     closes = λ n h. q .closes n h ∙ reduce-closes n done starts assign (sign .mark) left waiting right h;
   }
 
-pub passed-down : {stop : Spot} {ending : Ending} {done : Syntax} {starts waiting : List Pending} {around : List Held} {from : State}
+pub passed-down : {stop : Spot} {ending : Ending} {done : Syntax} {starts waiting : List Pending} {around : List Open} {from : State}
     {before after : List Token} {value : Syntax} → Passed stop ending done starts around 1 waiting from before after value
     → Passed stop ending done starts around 0 waiting from before after value
 passed-down p =

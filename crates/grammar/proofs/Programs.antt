@@ -1,5 +1,5 @@
 -- The prefix rule reads a program as its derivation cuts it.
-use mathlib.Core.Path.{_≡_, refl, sym, subst, _∙_}
+use mathlib.Core.Path.{_≡_, refl, sym, _∙_}
 use mathlib.Core.List.{List, [], _∷_, _++_, append-assoc, append-nil}
 use mathlib.Core.Bool.{Bool, true, false, cond}
 use Prim.Native.Nat.{ℕ, zero, suc, _+_, _≤_, _<_}
@@ -13,19 +13,22 @@ use Rattle.elements.specs.declared.Next.{Next}
 use Rattle.elements.proofs.Bounds.{Placed, found-placed}
 use Rattle.elements.proofs.Delimiters.{delimiter-byte, delimiter-which}
 use Rattle.elements.proofs.Slashes.{Divide, slash-divides, either-slash, divide-found, pattern-found}
-use Rattle.prefix.specs.Trees.{Trees, none, count}
-use Rattle.prefix.specs.Levels.{Levels, text, treesOf, slashOpens, depth, number}
-use Rattle.prefix.specs.Reading.{Limits, accepted, ending, readOn, reading, unlimited, unlimitedReading}
+use Rattle.rule.specs.Trees.{Trees, none, count}
+use Rattle.rule.specs.Levels.{Levels, wholeText, treesOf, slashOpens, depth, countSoFar}
+use Rattle.grammar.specs.Demand3.{RuleTakes, takes-end, takes-element, takes-slash}
+use Rattle.prefix.specs.Reading.{step, more, Limits, accepted, ending, readOn, reading, unlimited, unlimitedReading}
 use Rattle.prefix.proofs.ReadingLaws.{read-end, read-more}
 use Rattle.prefix.proofs.StepCases.{step-taken}
 use Rattle.prefix.proofs.Sizes.{Grown, taken-grown}
-use Rattle.grammar.specs.Cuts.{marked, isCloser, Cuts, cut-end, cut-element, cut-slash}
-use Rattle.grammar.specs.Tokens.{classOf, tokenOf, tokensFrom, pattern, divide}
+use Rattle.grammar.specs.Cuts.{recorded, isCloser, Cuts, cut-end, cut-element, cut-slash}
+use Rattle.grammar.specs.Tokens.{classOf, tokenOf, tokens, tokensFrom, pattern, divide}
 use Rattle.grammar.specs.TreeElements.{elementsOf}
-use Rattle.grammar.specs.Machine.{State, live, take, start, Frame, finished}
+use Rattle.grammar.specs.Machinery.Machine.{State, live, consume, start, Frame, finished}
+use Rattle.grammar.proofs.TakenBraces.{braceAt, bracesFrom}
+use Rattle.grammar.proofs.ReadBraces.{treeBraces, bracesSoFar}
 use Rattle.grammar.proofs.SoFar.{elementsSoFar, step-elements}
 use Rattle.grammar.proofs.InStep.{InStep, start-in-step, ran-live}
-use Rattle.grammar.proofs.Kept.{Kept, kept, stepped, Outermost, outermost, outermost-at-end}
+use Rattle.grammar.proofs.Kept.{Kept, kept, Stepped, stepped, Outermost, outermost, outermost-at-end}
 use Rattle.grammar.proofs.Ran.{ran, anywhere}
 
 -- where nothing is left, nothing is left under either slash answer
@@ -67,46 +70,70 @@ whole outermost = refl
 at-end : {levels : Levels} → Outermost levels → ending levels ≡ accepted (treesOf levels)
 at-end outermost = refl
 
--- the trees of a reading from levels on, with the elements that follow
-record Reads (bytes : List ℕ) (fuel : ℕ) (levels : Levels) (place : ℕ) (es : List Element) : Type 0 where
+whole-braces : {levels : Levels} → Outermost levels → treeBraces (treesOf levels) ≡ bracesSoFar levels
+unfolding bracesSoFar
+whole-braces outermost = refl
+
+-- the trees of a reading from levels on, with the elements that follow, and the braces that the machine takes among their tokens
+record Reads (bytes : List ℕ) (fuel : ℕ) (levels : Levels) (place : ℕ) (state : State) (n : ℕ) (es : List Element) : Type 0 where
   trees : Trees
   reads : readOn bytes (unlimited bytes) fuel levels place ≡ accepted trees
   same : elementsOf trees ≡ elementsSoFar levels ++ es
+  braces : treeBraces trees ≡ bracesSoFar levels ++ bracesFrom state (tokensFrom n es)
 
 module _ (bytes : List ℕ) where
   -- one element, which the derivation found
   module _ (fuel place n : ℕ) (state : State) (levels : Levels) (e : Element) (es : List Element)
       (found : elementAt bytes place (slashOpens levels) ≡ Next.Found e)
-      (k : Kept (unlimited bytes) levels e (take state (tokenOf n (marked e))))
-      (few : number levels ≤ place) (shallow : depth levels ≤ place) where
+      (k : Kept (unlimited bytes) levels e (consume state (tokenOf n (recorded e))))
+      (few : countSoFar levels ≤ place) (shallow : depth levels ≤ place) where
+    -- the machine behind it, and what is read behind it
+    abbrev next : State
+    next = consume state (tokenOf n (recorded e))
+
+    abbrev Rest : ℕ → Levels → Type 0
+    Rest less after = Reads bytes less after (e .end) next (cond (isCloser (recorded e)) n (n + 1)) es
+
+    -- with the element before that
+    with-element : (less : ℕ) (g : Stepped (unlimited bytes) levels e next) → Rest less (g .next) → Reads bytes (suc less) levels place state n (recorded e ∷ es)
+    unfolding tokensFrom classOf
+    with-element less g r = record {
+      trees = r .trees;
+      reads = read-more bytes (unlimited bytes) less levels place e found (g .next) (g .steps) ∙ r .reads;
+      same = r .same
+          ∙ rw (step-elements (unlimited bytes) levels e (delimiter-byte bytes place (slashOpens levels) e found) (delimiter-which bytes place (slashOpens levels) e found) (g .next) (g .steps))
+          (append-assoc (elementsSoFar levels) (recorded e ∷ []) es);
+      braces = r .braces
+          ∙ rw (g .braces)
+          (append-assoc (bracesSoFar levels) (braceAt next (classOf e) (e .first)) (bracesFrom next (tokensFrom (cond (isCloser (recorded e)) n (n + 1)) es)));
+    }
+
     -- what follows it goes on from the levels that it makes
     some : length bytes < place + fuel → place ≤ length bytes
-        → ((after : Levels) → InStep (take state (tokenOf n (marked e))) after → number after ≤ e .end → depth after ≤ e .end
-        → (less : ℕ) → length bytes < e .end + less → e .end ≤ length bytes → Reads bytes less after (e .end) es)
-        → Reads bytes fuel levels place (marked e ∷ es)
+        → ((after : Levels) → InStep next after → countSoFar after ≤ e .end → depth after ≤ e .end
+        → (less : ℕ) → length bytes < e .end + less → e .end ≤ length bytes → Rest less after)
+        → Reads bytes fuel levels place state n (recorded e ∷ es)
     some enough h rest = go fuel enough
       where
-        go : (fuel : ℕ) → length bytes < place + fuel → Reads bytes fuel levels place (marked e ∷ es)
+        go : (fuel : ℕ) → length bytes < place + fuel → Reads bytes fuel levels place state n (recorded e ∷ es)
         go zero enough = absurd (omega arith)
         go (suc fuel) enough =
             let p : Placed bytes place e = found-placed bytes place (slashOpens levels) e found in
             let g = stepped k (omega arith) (omega arith) in
-            let after = g .next in
-            let grown : Grown (unlimited bytes) levels after = taken-grown e (step-taken (unlimited bytes) e levels after (g .steps)) in
-            let r = rest after (g .follows) (omega arith) (omega arith) fuel (omega arith) (p .within) in
-            record {
-              trees = r .trees;
-              reads = read-more bytes (unlimited bytes) fuel levels place e found after (g .steps) ∙ r .reads;
-              same = r .same
-                  ∙ rw (step-elements (unlimited bytes) levels e (delimiter-byte bytes place (slashOpens levels) e found) (delimiter-which bytes place (slashOpens levels) e found) after (g .steps))
-                  (append-assoc (elementsSoFar levels) (marked e ∷ []) es);
-            }
+            let grown : Grown (unlimited bytes) levels (g .next) = taken-grown e (step-taken (unlimited bytes) e levels (g .next) (g .steps)) in
+            with-element fuel g (rest (g .next) (g .follows) (omega arith) (omega arith) fuel (omega arith) (p .within))
 
   -- nothing is left
-  last : (fuel place : ℕ) (levels : Levels) → Outermost levels → elementAt bytes place false ≡ Next.End → Reads bytes fuel levels place []
-  unfolding readOn
-  last fuel place levels i none-left =
-      record { trees = treesOf levels; reads = go fuel; same = whole i ∙ sym (append-nil (elementsSoFar levels)) }
+  last : (fuel place n : ℕ) (state : State) (levels : Levels) → Outermost levels → elementAt bytes place false ≡ Next.End
+      → Reads bytes fuel levels place state n []
+  unfolding readOn tokensFrom
+  last fuel place n state levels i none-left =
+      record {
+        trees = treesOf levels;
+        reads = go fuel;
+        same = whole i ∙ sym (append-nil (elementsSoFar levels));
+        braces = whole-braces i ∙ sym (append-nil (bracesSoFar levels));
+      }
     where
       go : (fuel : ℕ) → readOn bytes (unlimited bytes) fuel levels place ≡ accepted (treesOf levels)
       go zero = at-end i
@@ -117,24 +144,60 @@ module _ (bytes : List ℕ) where
   Followed state n es = (f : Frame) × (ran anywhere state (tokensFrom n es) ≡ live finished f [])
 
   reads-on : {place : ℕ} {choice : List Bool} {es : List Element} → Cuts bytes place choice es → (n : ℕ) (state : State) (levels : Levels)
-      → InStep state levels → Followed state n es → number levels ≤ place → depth levels ≤ place
-      → (fuel : ℕ) → length bytes < place + fuel → place ≤ length bytes → Reads bytes fuel levels place es
+      → InStep state levels → Followed state n es → countSoFar levels ≤ place → depth levels ≤ place
+      → (fuel : ℕ) → length bytes < place + fuel → place ≤ length bytes → Reads bytes fuel levels place state n es
   unfolding tokensFrom
   reads-on (cut-end {place} end) n state levels i r few shallow fuel enough h =
-      last fuel place levels (outermost-at-end levels anywhere i (rw (r .1) tt)) end
+      last fuel place n state levels (outermost-at-end levels anywhere i (rw (r .1) tt)) end
   reads-on (cut-element {place} {e} {es = es} met found rest) n state levels i r few shallow fuel enough h =
-      let k = kept (unlimited bytes) levels e n i (ran-live (take state (tokenOf n (marked e))) (tokensFrom (cond (isCloser (marked e)) n (n + 1)) es) (rw (r .1) tt)) in
+      let k = kept (unlimited bytes) levels e n i (ran-live (consume state (tokenOf n (recorded e))) (tokensFrom (cond (isCloser (recorded e)) n (n + 1)) es) (rw (r .1) tt)) in
       some fuel place n state levels e es (found-either bytes place e met found (slashOpens levels)) k few shallow enough h
-      (λ after j few shallow less enough h. reads-on rest (cond (isCloser (marked e)) n (n + 1)) (take state (tokenOf n (marked e))) after j r few shallow less enough h)
+      (λ after j few shallow less enough h. reads-on rest (cond (isCloser (recorded e)) n (n + 1)) (consume state (tokenOf n (recorded e))) after j r few shallow less enough h)
   reads-on (cut-slash {place} {e} {answer} {es = es} met found rest) n state levels i r few shallow fuel enough h =
-      let k = kept (unlimited bytes) levels e n i (ran-live (take state (tokenOf n (marked e))) (tokensFrom (cond (isCloser (marked e)) n (n + 1)) es) (rw (r .1) tt)) in
+      let k = kept (unlimited bytes) levels e n i (ran-live (consume state (tokenOf n (recorded e))) (tokensFrom (cond (isCloser (recorded e)) n (n + 1)) es) (rw (r .1) tt)) in
       some fuel place n state levels e es (rw (answered bytes place e met answer found k) found) k few shallow enough h
-      (λ after j few shallow less enough h. reads-on rest (cond (isCloser (marked e)) n (n + 1)) (take state (tokenOf n (marked e))) after j r few shallow less enough h)
+      (λ after j few shallow less enough h. reads-on rest (cond (isCloser (recorded e)) n (n + 1)) (consume state (tokenOf n (recorded e))) after j r few shallow less enough h)
+
+  -- the levels behind an element that the machine follows, and that few records and groups stand before what is behind it
+  record Behind (place : ℕ) (levels : Levels) (e : Element) (after : State) : Type 0 where
+    next : Levels
+    steps : step (unlimited bytes) levels e ≡ more next
+    follows : InStep after next
+    few : countSoFar next ≤ e .end
+    shallow : depth next ≤ e .end
+    within : e .end ≤ length bytes
+
+  behind : {place : ℕ} {levels : Levels} {e : Element} {after : State} → elementAt bytes place (slashOpens levels) ≡ Next.Found e → Kept (unlimited bytes) levels e after
+      → countSoFar levels ≤ place → depth levels ≤ place → Behind place levels e after
+  behind {place} {levels} {e} found k few shallow =
+      let p : Placed bytes place e = found-placed bytes place (slashOpens levels) e found in
+      let g = stepped k (omega arith) (omega arith) in
+      let grown : Grown (unlimited bytes) levels (g .next) = taken-grown e (step-taken (unlimited bytes) e levels (g .next) (g .steps)) in
+      record { next = g .next; steps = g .steps; follows = g .follows; few = omega arith; shallow = omega arith; within = p .within }
+
+  -- along it the rule answers as the choice does
+  takes-on : {place : ℕ} {choice : List Bool} {es : List Element} (cut : Cuts bytes place choice es) (n : ℕ) (state : State) (levels : Levels)
+      → InStep state levels → Followed state n es → countSoFar levels ≤ place → depth levels ≤ place → RuleTakes bytes levels place choice es
+  unfolding tokensFrom
+  takes-on (cut-end end) n state levels i r few shallow = takes-end end
+  takes-on (cut-element {place} {e} {es = es} met found rest) n state levels i r few shallow =
+      let k = kept (unlimited bytes) levels e n i (ran-live (consume state (tokenOf n (recorded e))) (tokensFrom (cond (isCloser (recorded e)) n (n + 1)) es) (rw (r .1) tt)) in
+      let b = behind (found-either bytes place e met found (slashOpens levels)) k few shallow in
+      takes-element met found (b .steps) (takes-on rest (cond (isCloser (recorded e)) n (n + 1)) (consume state (tokenOf n (recorded e))) (b .next) (b .follows) r (b .few) (b .shallow))
+  takes-on (cut-slash {place} {e} {answer} {es = es} met found rest) n state levels i r few shallow =
+      let k = kept (unlimited bytes) levels e n i (ran-live (consume state (tokenOf n (recorded e))) (tokensFrom (cond (isCloser (recorded e)) n (n + 1)) es) (rw (r .1) tt)) in
+      let same = answered bytes place e met answer found k in
+      let b = behind (rw same found) k few shallow in
+      takes-slash met same found (b .steps) (takes-on rest (cond (isCloser (recorded e)) n (n + 1)) (consume state (tokenOf n (recorded e))) (b .next) (b .follows) r (b .few) (b .shallow))
+
+  pub program-takes : {choice : List Bool} {es : List Element} (cut : Cuts bytes 0 choice es) → Followed start 0 es → RuleTakes bytes (wholeText none) 0 choice es
+  unfolding count
+  program-takes cut r = takes-on cut 0 start (wholeText none) start-in-step r (omega arith) (omega arith)
 
   -- a text that is cut into the elements of a program is read into trees with these elements
   pub program-read : {choice : List Bool} {es : List Element} → Cuts bytes 0 choice es → Followed start 0 es
-      → (trees : Trees) × (unlimitedReading bytes ≡ accepted trees) × (elementsOf trees ≡ es)
-  unfolding reading elementsOf count
+      → (trees : Trees) × (unlimitedReading bytes ≡ accepted trees) × (elementsOf trees ≡ es) × (treeBraces trees ≡ bracesFrom start (tokens es))
+  unfolding reading elementsOf count bracesSoFar treeBraces
   program-read cut r =
-      let a = reads-on cut 0 start (text none) start-in-step r (omega arith) (omega arith) (suc (length bytes)) (omega arith) (omega arith) in
-      (a .trees, a .reads, a .same)
+      let a = reads-on cut 0 start (wholeText none) start-in-step r (omega arith) (omega arith) (suc (length bytes)) (omega arith) (omega arith) in
+      (a .trees, a .reads, a .same, a .braces)

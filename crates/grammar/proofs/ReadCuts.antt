@@ -11,25 +11,20 @@ use Rattle.elements.specs.declared.Next.{Next}
 use Rattle.elements.proofs.Bounds.{Placed, found-placed}
 use Rattle.elements.proofs.Delimiters.{delimiter-byte, delimiter-which}
 use Rattle.elements.proofs.Slashes.{slash-opens, either-slash}
-use Rattle.prefix.specs.Trees.{Trees, none}
-use Rattle.prefix.specs.Levels.{Levels, text, inside, slashOpens}
+use Rattle.rule.specs.Trees.{Trees, none}
+use Rattle.rule.specs.Levels.{Levels, wholeText, inside, slashOpens}
 use Rattle.prefix.specs.Reading.{Limits, Step, stop, more, step, accepted, ending, readOn, reading}
 use Rattle.prefix.proofs.ReadingLaws.{read-end, read-fault, read-stop, read-more}
-use Rattle.grammar.specs.Cuts.{marked, Cuts, cut-end, cut-element, cut-slash}
+use Rattle.grammar.specs.Cuts.{CutsInto, recorded, cut-end, cut-element, cut-slash}
 use Rattle.grammar.specs.TreeElements.{elementsOf}
 use Rattle.grammar.proofs.SoFar.{elementsSoFar, step-elements}
 
--- the elements of a text from a place on, by some choice
-pub record CutsInto (bytes : List ℕ) (place : ℕ) (es : List Element) : Type 0 where
-  pub choice : List Bool
-  pub cut : Cuts bytes place choice es
-
 -- one element more in front, whatever the answer to a slash was
 pub cut-more : (bytes : List ℕ) (place : ℕ) (e : Element) (es : List Element) (answer : Bool) → elementAt bytes place answer ≡ Next.Found e
-    → CutsInto bytes (e .end) es → CutsInto bytes place (marked e ∷ es)
+    → CutsInto bytes (e .end) es → CutsInto bytes place (recorded e ∷ es)
 cut-more bytes place e es answer found rest = go (slashMet bytes place) refl answer found
   where
-    go : (met : Bool) → slashMet bytes place ≡ met → (answer : Bool) → elementAt bytes place answer ≡ Next.Found e → CutsInto bytes place (marked e ∷ es)
+    go : (met : Bool) → slashMet bytes place ≡ met → (answer : Bool) → elementAt bytes place answer ≡ Next.Found e → CutsInto bytes place (recorded e ∷ es)
     go true m answer f = record { choice = answer ∷ rest .choice; cut = cut-slash m f (rest .cut) }
     go false m true f = record { choice = rest .choice; cut = cut-element m (sym (either-slash bytes place m) ∙ f) (rest .cut) }
     go false m false f = record { choice = rest .choice; cut = cut-element m f (rest .cut) }
@@ -51,13 +46,13 @@ record Follows (bytes : List ℕ) (levels : Levels) (place : ℕ) (trees : Trees
 
 module _ (bytes : List ℕ) (limits : Limits) (trees : Trees) where
   ends : (levels : Levels) (place : ℕ) → elementAt bytes place (slashOpens levels) ≡ Next.End → ending levels ≡ accepted trees → Follows bytes levels place trees
-  ends (text trees) place e a =
+  ends (wholeText trees) place e a =
       record {
         es = [];
-        cuts = record { choice = []; cut = cut-end (end-false bytes place (slashOpens (text trees)) e) };
+        cuts = record { choice = []; cut = cut-end (end-false bytes place (slashOpens (wholeText trees)) e) };
         same = cc (append-nil (elementsOf trees));
       }
-  ends (inside around kind first line trees) place e a = absurd (let z : _≡_ {A = ℕ} 0 1 = cc in omega arith)
+  ends (inside around kind first newline trees) place e a = absurd (let z : _≡_ {A = ℕ} 0 1 = cc in omega arith)
 
   cuts-on : (fuel : ℕ) (levels : Levels) (place : ℕ) → length bytes < place + fuel → place ≤ length bytes
       → readOn bytes limits fuel levels place ≡ accepted trees → Follows bytes levels place trees
@@ -73,11 +68,11 @@ module _ (bytes : List ℕ) (limits : Limits) (trees : Trees) where
           let p : Placed bytes place e = found-placed bytes place (slashOpens levels) e f in
           let r = rest after (e .end) (omega arith) (p .within) (sym (read-more bytes limits fuel levels place e f after s) ∙ a) in
           record {
-            es = marked e ∷ r .es;
+            es = recorded e ∷ r .es;
             cuts = cut-more bytes place e (r .es) (slashOpens levels) f (r .cuts);
             same = r .same
                 ∙ rw (step-elements limits levels e (delimiter-byte bytes place (slashOpens levels) e f) (delimiter-which bytes place (slashOpens levels) e f) after s)
-                (append-assoc (elementsSoFar levels) (marked e ∷ []) (r .es));
+                (append-assoc (elementsSoFar levels) (recorded e ∷ []) (r .es));
           }
 
       found : (next : Next) → elementAt bytes place (slashOpens levels) ≡ next → Rest → Follows bytes levels place trees
@@ -88,5 +83,5 @@ module _ (bytes : List ℕ) (limits : Limits) (trees : Trees) where
   pub reading-cuts : reading bytes limits ≡ accepted trees → CutsInto bytes 0 (elementsOf trees)
   unfolding reading elementsOf
   reading-cuts a =
-      let r = cuts-on (suc (length bytes)) (text none) 0 (omega arith) (omega arith) a in
+      let r = cuts-on (suc (length bytes)) (wholeText none) 0 (omega arith) (omega arith) a in
       subst (λ (es : List Element). CutsInto bytes 0 es) (sym (r .same)) (r .cuts)

@@ -7,7 +7,7 @@ use native.Mathlib.Omega.{arith}
 use lib.Dec.{T, leb, leb→le, nleb→lt}
 use Rattle.grammar.specs.Syntax.{Syntax, node}
 use Rattle.grammar.specs.Grammar.{precedence}
-use Rattle.grammar.specs.Machine.{Pending, pending, frame, reduce}
+use Rattle.grammar.specs.Machinery.Machine.{Pending, pending, frame, reduce}
 
 -- the pending operator next to the operand, if there is one, binds less tight than a precedence
 abbrev pub Looser : ℕ → List Pending → Type 0

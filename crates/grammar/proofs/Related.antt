@@ -1,9 +1,10 @@
 -- Where the token machine stands, and what the prefix rule has seen of the level there.
+use mathlib.Core.Path.{_≡_, refl}
 use mathlib.Core.Bool.{Bool, true, false, _&&_}
 use mathlib.Core.List.{List, [], _∷_}
 use Prim.Native.Nat.{ℕ}
-use Rattle.prefix.specs.Trees.{parenKind, objectKind, blockKind}
-use Rattle.prefix.specs.Summary.{
+use Rattle.rule.specs.Trees.{parenKind, objectKind, blockKind}
+use Rattle.rule.specs.Machinery.Summary.{
   Summary,
   nothing,
   operand,
@@ -19,7 +20,7 @@ use Rattle.prefix.specs.Summary.{
   afterFunctionParens,
   code,
 }
-use Rattle.grammar.specs.Machine.{
+use Rattle.grammar.specs.Machinery.Machine.{
   Ending,
   byStatement,
   byReturn,
@@ -49,7 +50,7 @@ use Rattle.grammar.specs.Machine.{
 }
 use Rattle.text.proofs.Members.{allIn, at, isIn, found}
 use Rattle.text.proofs.Range.{and-left}
-use Rattle.prefix.proofs.Finite.{allSummaries, at-summary}
+use Rattle.rule.proofs.Finite.{allSummaries, at-summary}
 use lib.Dec.{T}
 
 -- statement levels: the whole text, of kind 0, and blocks
@@ -85,6 +86,35 @@ kinds parameterDue = parenKind ∷ []
 kinds parameterNamed = parenKind ∷ []
 kinds finished = []
 
+-- where a control may stand in a block, it may not stand in an object
+ending-no-object : (ending : Ending) → T (isIn (endingKinds ending) blockKind) → isIn (endingKinds ending) objectKind ≡ false
+ending-no-object (byStatement setting) t = refl
+ending-no-object (byReturn setting) t = refl
+ending-no-object byParen t = absurd t
+ending-no-object byBrace t = absurd t
+
+role-no-object : (role : Role) → T (isIn (roleKinds role) blockKind) → isIn (roleKinds role) objectKind ≡ false
+role-no-object declared t = refl
+role-no-object (operandIn ending target) t = ending-no-object ending t
+
+pub no-object : (control : Control) → T (isIn (kinds control) blockKind) → isIn (kinds control) objectKind ≡ false
+no-object (statementDue must setting) t = refl
+no-object (statementDone nest) t = refl
+no-object (nameFirst setting) t = refl
+no-object (returnFirst setting) t = refl
+no-object ifFirst t = refl
+no-object (operandDue ending target) t = ending-no-object ending t
+no-object (operandDone ending target) t = ending-no-object ending t
+no-object (dotLast ending target) t = ending-no-object ending t
+no-object (functionFirst role) t = role-no-object role t
+no-object (functionNamed role) t = role-no-object role t
+no-object (parameterPast role) t = role-no-object role t
+no-object objectOpened t = absurd t
+no-object propertyNamed t = absurd t
+no-object parameterDue t = absurd t
+no-object parameterNamed t = absurd t
+no-object finished t = absurd t
+
 -- what may stand last there
 abbrev dueBehind : Ending → List Summary
 dueBehind (byStatement setting) = afterOperator ∷ []
@@ -97,7 +127,7 @@ abbrev isOperand : Role → Bool
 isOperand declared = false
 isOperand (operandIn ending target) = true
 
-abbrev pub summaries : Control → List Summary
+abbrev summaries : Control → List Summary
 summaries (statementDue true setting) = afterColon ∷ afterIfParens ∷ []
 summaries (statementDue false setting) = nothing ∷ afterOther ∷ afterBlock ∷ []
 summaries (statementDone nest) = afterOther ∷ afterBlock ∷ []
@@ -116,13 +146,17 @@ summaries parameterDue = nothing ∷ []
 summaries parameterNamed = operand ∷ []
 summaries finished = []
 
-abbrev pub codes : List Summary → List ℕ
+abbrev codes : List Summary → List ℕ
 codes [] = []
 codes (s ∷ rest) = code s ∷ codes rest
 
 -- whether a control may stand on a level of a kind, behind trees with a summary
 unfoldable pub related : Control → ℕ → Summary → Bool
 related control kind s = isIn (kinds control) kind && isIn (codes (summaries control)) (code s)
+
+pub on-kind : (control : Control) (kind : ℕ) (s : Summary) → T (related control kind s) → T (isIn (kinds control) kind)
+unfolding related
+on-kind control kind s r = and-left (isIn (kinds control) kind) (isIn (codes (summaries control)) (code s)) r
 
 -- whether a statement may be complete there
 abbrev pub settled : ℕ → Summary → Bool
@@ -141,11 +175,11 @@ unfoldable pub takesOver : Control → Bool
 takesOver behind = allIn (λ kind. allSummaries λ s. implies (settled kind s) (related behind kind s)) statementKinds
 
 pub takes-over : (behind : Control) (kind : ℕ) (s : Summary) → T (takesOver behind) → T (settled kind s) → T (related behind kind s)
-unfolding takesOver related
+unfolding takesOver
 takes-over behind kind s t r =
     implied (settled kind s) (related behind kind s)
     (at-summary (λ s. implies (settled kind s) (related behind kind s))
     (at (λ kind. allSummaries λ s. implies (settled kind s) (related behind kind s))
-    (found statementKinds kind (and-left (isIn statementKinds kind) (isIn (codes (summaries (statementDone ifNest))) (code s)) r)) t)
+    (found statementKinds kind (on-kind (statementDone ifNest) kind s r)) t)
     s)
     r

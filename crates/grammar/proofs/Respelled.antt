@@ -1,4 +1,4 @@
--- The elements of a text, spelled anew: the same kinds, line marks and bytes.
+-- The elements of a text, spelled anew: the same kinds, newline flags and bytes.
 use mathlib.Core.Path.{_≡_, refl, sym, ap, subst, _∙_}
 use mathlib.Core.List.{List, [], _∷_, _++_, append-assoc}
 use mathlib.Core.Bool.{Bool, false}
@@ -9,7 +9,7 @@ use lib.Seq.{take-at, drop-at}
 use Rattle.elements.specs.Elements.{elementAt}
 use Rattle.elements.specs.declared.Element.{Element}
 use Rattle.elements.specs.declared.Next.{Next}
-use Rattle.grammar.specs.Cuts.{marked, Cuts, cut-end, cut-element, cut-slash}
+use Rattle.grammar.specs.Cuts.{recorded, Cuts, cut-end, cut-element, cut-slash}
 use Rattle.grammar.specs.Derivations.{SameElements, no-elements, same-element}
 use Rattle.grammar.proofs.Spelling.{Piece, spelling, before, spelled, moved, placedFrom, bytes-length, written, written-length, written-text}
 
@@ -30,13 +30,13 @@ pub record Pieces (s : List ℕ) (es : List Element) : Type 0 where
   pub same : (u : List ℕ) (more : List Piece) → SameElements s (u ++ spelled (pieces ++ more)) es (placedFrom (length u) pieces)
 
 module _ (s : List ℕ) where
-  pub piece-more : (place : ℕ) (e : Element) (es : List Element) (answer : Bool) → elementAt s place answer ≡ Next.Found e → Pieces s es → Pieces s (marked e ∷ es)
+  pub piece-more : (place : ℕ) (e : Element) (es : List Element) (answer : Bool) → elementAt s place answer ≡ Next.Found e → Pieces s es → Pieces s (recorded e ∷ es)
   piece-more place e es answer f rest =
-      let p : Piece = record { source = s; place = place; answer = answer; element = e; found = f; line = e .line } in
+      let p : Piece = record { source = s; place = place; answer = answer; element = e; found = f; newline = e .newline } in
       record {
         pieces = p ∷ rest .pieces;
         same = λ u more.
-            same-element (record { kind = refl; which = refl; line = refl; bytes = piece-bytes u p (rest .pieces ++ more) })
+            same-element (record { kind = refl; which = refl; newline = refl; bytes = piece-bytes u p (rest .pieces ++ more) })
             (subst (λ (n : ℕ). SameElements s (u ++ spelled (p ∷ (rest .pieces ++ more))) es (placedFrom n (rest .pieces))) (written-length u p (rest .pieces ++ more))
             (subst (λ (t : List ℕ). SameElements s t es (placedFrom (length (written u p (rest .pieces ++ more))) (rest .pieces))) (written-text u p (rest .pieces ++ more))
             (rest .same (written u p (rest .pieces ++ more)) more)));

@@ -21,7 +21,7 @@ use Rattle.grammar.specs.Grammar.{
   chain-leaf,
   no-statements,
 }
-use Rattle.grammar.specs.Machine.{
+use Rattle.grammar.specs.Machinery.Machine.{
   Pending,
   Frame,
   frame,
@@ -49,7 +49,7 @@ use Rattle.grammar.specs.Machine.{
   assignAction,
   besidesOperators,
   afterOperand,
-  Held,
+  Open,
   popTo,
   act,
   row,
@@ -80,7 +80,7 @@ use Rattle.grammar.proofs.Partial.{
   text-ends,
 }
 
-module _ (all : List Token) (spot : Spot) (rest : List Token) (around : List Held) where
+module _ (all : List Token) (spot : Spot) (rest : List Token) (around : List Open) where
   -- what stands before a token of a class is taken by an action to a partial derivation behind it
   abbrev pub Keeps : Frame → (List Token → Type 0) → ℕ → Action → Type 0
   Keeps f Stands class action = Stands (token class spot ∷ rest) → PartialOf all (act action class spot f around) rest
@@ -199,7 +199,7 @@ module _ (all : List Token) (spot : Spot) (rest : List Token) (around : List Hel
 
   pub statement-row : (must : Bool) (setting : Setting) (done : Syntax) (starts : List Pending)
       → EachEntry (KeepsStatement setting done starts) (noStatement must setting)
-      → EachEntry (KeepsStatement setting done starts) (row (statementDue must setting) (spot .line))
+      → EachEntry (KeepsStatement setting done starts) (row (statementDue must setting) (spot .newline))
   statement-row must setting done starts more = (
     (λ place. at-statement (in-block place no-statements)),
     (

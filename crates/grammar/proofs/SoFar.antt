@@ -8,52 +8,52 @@ use borrow.Author.Tests.{eqb-true, ne-eqb}
 use lib.Dec.{eqb, leb}
 use Rattle.text.specs.Runs
 use Rattle.signs.specs.Signs.{longestSign, longestOf}
-use Rattle.elements.specs.Elements.{delimiter, delimiterKind, isSign}
+use Rattle.elements.specs.Elements.{delimiter, delimiterKind, parenOpener, parenCloser, braceOpener, braceCloser}
 use Rattle.elements.specs.declared.Element.{Element}
 use Rattle.elements.proofs.Choices.{cond-both, cond-known}
-use Rattle.prefix.specs.Trees.{Trees, leaf, group, parenKind, objectKind, blockKind}
-use Rattle.prefix.specs.Levels.{Levels, text, inside, braceOpens, depth, number, onTop}
+use Rattle.rule.specs.Trees.{Trees, leaf, group, parenKind, objectKind, blockKind}
+use Rattle.rule.specs.Levels.{Levels, wholeText, inside, braceOpens, depth, countSoFar, onTop}
 use Rattle.prefix.specs.Reading.{Limits, Step, stop, more, addLeaf, openGroup, closes, closeGroup, delimit, step}
-use Rattle.grammar.specs.Cuts.{marked}
+use Rattle.grammar.specs.Cuts.{recorded}
 use Rattle.grammar.specs.TreeElements.{openerOf, closerOf, elementsOf}
 
 abbrev pub elementsSoFar : Levels → List Element
-elementsSoFar (text trees) = elementsOf trees
-elementsSoFar (inside around kind first line trees) = elementsSoFar around ++ (openerOf kind first line ∷ elementsOf trees)
+elementsSoFar (wholeText trees) = elementsOf trees
+elementsSoFar (inside around kind first newline trees) = elementsSoFar around ++ (openerOf kind first newline ∷ elementsOf trees)
 
 -- trees more on the innermost level
 pub so-far-on-top : (add : Trees → Trees) (es : List Element) → ((trees : Trees) → elementsOf (add trees) ≡ elementsOf trees ++ es)
     → (levels : Levels) → elementsSoFar (onTop add levels) ≡ elementsSoFar levels ++ es
-so-far-on-top add es h (text trees) = h trees
-so-far-on-top add es h (inside around kind first line trees) =
-    rw (h trees) (sym (append-assoc (elementsSoFar around) (openerOf kind first line ∷ elementsOf trees) es))
+so-far-on-top add es h (wholeText trees) = h trees
+so-far-on-top add es h (inside around kind first newline trees) =
+    rw (h trees) (sym (append-assoc (elementsSoFar around) (openerOf kind first newline ∷ elementsOf trees) es))
 
--- a step that goes on has added the element, with its line mark
+-- a step that goes on has added the element, with its newline flag
 abbrev Adds : Element → Levels → Step → Type 0
 Adds e levels (stop n p) = Unit {0}
-Adds e levels (more after) = elementsSoFar after ≡ elementsSoFar levels ++ (marked e ∷ [])
+Adds e levels (more after) = elementsSoFar after ≡ elementsSoFar levels ++ (recorded e ∷ [])
 
 module _ (limits : Limits) (levels : Levels) (e : Element) where
   leaf-adds : eqb (e .kind) delimiterKind ≡ false → Adds e levels (addLeaf limits levels e)
   unfolding elementsOf
   leaf-adds k =
-      cond-both (Adds e levels) (leb (limits .room) (number levels)) tt
+      cond-both (Adds e levels) (leb (limits .room) (countSoFar levels)) tt
       (so-far-on-top (λ before. leaf before e) (e ∷ []) (λ trees. refl) levels ∙ rw k)
 
-  open-adds : (kind : ℕ) → openerOf kind (e .first) (e .line) ≡ marked e → Adds e levels (openGroup limits levels kind e)
+  open-adds : (kind : ℕ) → openerOf kind (e .first) (e .newline) ≡ recorded e → Adds e levels (openGroup limits levels kind e)
   unfolding elementsOf
   open-adds kind same =
       cond-both (Adds e levels) (leb (limits .groups) (depth levels)) tt
-      (cond-both (Adds e levels) (leb (limits .room) (number levels)) tt (ap (λ (x : Element). elementsSoFar levels ++ (x ∷ [])) same))
+      (cond-both (Adds e levels) (leb (limits .room) (countSoFar levels)) tt (ap (λ (x : Element). elementsSoFar levels ++ (x ∷ [])) same))
 
 -- the opener or the closer that a delimiter is
 module _ (e : Element) (k : e .kind ≡ delimiterKind) (single : e .end ≡ e .first + 1) where
-  opens : (kind which : ℕ) → e .which ≡ which → openerOf kind (e .first) (e .line) .which ≡ which → (isSign ")" which || isSign "}" which) ≡ false
-      → openerOf kind (e .first) (e .line) ≡ marked e
+  opens : (kind which : ℕ) → e .which ≡ which → openerOf kind (e .first) (e .newline) .which ≡ which → (eqb which parenCloser || eqb which braceCloser) ≡ false
+      → openerOf kind (e .first) (e .newline) ≡ recorded e
   opens kind which w o c = rw (k, w, single, o, c)
 
-  shuts : (kind which : ℕ) → e .which ≡ which → closerOf kind (e .end) .which ≡ which → (isSign ")" which || isSign "}" which) ≡ true
-      → closerOf kind (e .end) ≡ marked e
+  shuts : (kind which : ℕ) → e .which ≡ which → closerOf kind (e .end) .which ≡ which → (eqb which parenCloser || eqb which braceCloser) ≡ true
+      → closerOf kind (e .end) ≡ recorded e
   shuts kind which w o c =
       let first : e .end - 1 ≡ e .first = omega arith in
       rw (k, w, first, o, c)
@@ -79,32 +79,33 @@ fourth false true false false h x y z = refl
 fourth false false false false h x y z = h
 
 module _ (limits : Limits) (e : Element) (k : e .kind ≡ delimiterKind) (single : e .end ≡ e .first + 1) (known : delimiter (e .which) ≡ true) where
-  close-adds : (levels : Levels) → isSign "(" (e .which) ≡ false → isSign "{" (e .which) ≡ false → Adds e levels (closeGroup levels e)
+  close-adds : (levels : Levels) → eqb (e .which) parenOpener ≡ false → eqb (e .which) braceOpener ≡ false → Adds e levels (closeGroup levels e)
   unfolding elementsOf delimiter longestSign longestOf Runs.same
-  close-adds (text trees) p b = tt
-  close-adds (inside around kind first line trees) p b =
-      let levels = inside around kind first line trees in
-      cond-known (Adds e levels) (closes (e .which) kind) (λ c. added (shut (isSign ")" (e .which)) refl c)) (λ c. tt)
+  close-adds (wholeText trees) p b = tt
+  close-adds (inside around kind first newline trees) p b =
+      let levels = inside around kind first newline trees in
+      cond-known (Adds e levels) (closes (e .which) kind) (λ c. added (shut (eqb (e .which) parenCloser) refl c)) (λ c. tt)
     where
-      added : closerOf kind (e .end) ≡ marked e
-          → elementsSoFar (onTop (λ before. group before kind first (e .end) line trees) around)
-          ≡ (elementsSoFar around ++ (openerOf kind first line ∷ elementsOf trees)) ++ (marked e ∷ [])
+      added : closerOf kind (e .end) ≡ recorded e
+          → elementsSoFar (onTop (λ before. group before kind first (e .end) newline trees) around)
+          ≡ (elementsSoFar around ++ (openerOf kind first newline ∷ elementsOf trees)) ++ (recorded e ∷ [])
       added same =
-          so-far-on-top (λ before. group before kind first (e .end) line trees)
-          (openerOf kind first line ∷ (elementsOf trees ++ (closerOf kind (e .end) ∷ []))) (λ t. refl) around
-          ∙ rw (same, append-assoc (elementsSoFar around) (openerOf kind first line ∷ elementsOf trees) (marked e ∷ []))
+          so-far-on-top (λ before. group before kind first (e .end) newline trees)
+          (openerOf kind first newline ∷ (elementsOf trees ++ (closerOf kind (e .end) ∷ []))) (λ t. refl) around
+          ∙ rw (same, append-assoc (elementsSoFar around) (openerOf kind first newline ∷ elementsOf trees) (recorded e ∷ []))
 
-      shut : (q : Bool) → isSign ")" (e .which) ≡ q → cond q (eqb kind parenKind) (eqb kind objectKind || eqb kind blockKind) ≡ true
-          → closerOf kind (e .end) ≡ marked e
+      shut : (q : Bool) → eqb (e .which) parenCloser ≡ q → cond q (eqb kind parenKind) (eqb kind objectKind || eqb kind blockKind) ≡ true
+          → closerOf kind (e .end) ≡ recorded e
       shut true q c = shuts e k single kind 4 (eqb-true (e .which) 4 q) (rw c) refl
       shut false q c =
-          shuts e k single kind 2 (eqb-true (e .which) 2 (fourth (isSign "{" (e .which)) (isSign "}" (e .which)) (isSign "(" (e .which)) (isSign ")" (e .which)) known b p q)) (rw (no-parens kind c)) refl
+          let brace = fourth (eqb (e .which) braceOpener) (eqb (e .which) braceCloser) (eqb (e .which) parenOpener) (eqb (e .which) parenCloser) known b p q in
+          shuts e k single kind 2 (eqb-true (e .which) 2 brace) (rw (no-parens kind c)) refl
 
-  parens-adds : (levels : Levels) → isSign "(" (e .which) ≡ true → Adds e levels (openGroup limits levels parenKind e)
+  parens-adds : (levels : Levels) → eqb (e .which) parenOpener ≡ true → Adds e levels (openGroup limits levels parenKind e)
   unfolding longestSign longestOf Runs.same
   parens-adds levels w = open-adds limits levels e parenKind (opens e k single parenKind 3 (eqb-true (e .which) 3 w) refl refl)
 
-  brace-adds : (levels : Levels) (b : Bool) → isSign "{" (e .which) ≡ true → Adds e levels (openGroup limits levels (cond b objectKind blockKind) e)
+  brace-adds : (levels : Levels) (b : Bool) → eqb (e .which) braceOpener ≡ true → Adds e levels (openGroup limits levels (cond b objectKind blockKind) e)
   unfolding longestSign longestOf Runs.same
   brace-adds levels true w = open-adds limits levels e objectKind (opens e k single objectKind 1 (eqb-true (e .which) 1 w) refl refl)
   brace-adds levels false w = open-adds limits levels e blockKind (opens e k single blockKind 1 (eqb-true (e .which) 1 w) refl refl)
@@ -115,17 +116,17 @@ module _ (limits : Limits) (levels : Levels) (e : Element) (single : e .kind ≡
   unfolding step
   step-adds = go (eqb (e .kind) delimiterKind) refl
     where
-      brace : (k : e .kind ≡ delimiterKind) → isSign "(" (e .which) ≡ false
-          → Adds e levels (cond (isSign "{" (e .which)) (openGroup limits levels (cond (braceOpens levels (e .line)) objectKind blockKind) e) (closeGroup levels e))
+      brace : (k : e .kind ≡ delimiterKind) → eqb (e .which) parenOpener ≡ false
+          → Adds e levels (cond (eqb (e .which) braceOpener) (openGroup limits levels (cond (braceOpens levels (e .newline)) objectKind blockKind) e) (closeGroup levels e))
       brace k p =
-          cond-known (Adds e levels) (isSign "{" (e .which)) (brace-adds limits e k (single k) (known k) levels (braceOpens levels (e .line)))
+          cond-known (Adds e levels) (eqb (e .which) braceOpener) (brace-adds limits e k (single k) (known k) levels (braceOpens levels (e .newline)))
           (close-adds limits e k (single k) (known k) levels p)
 
       go : (d : Bool) → eqb (e .kind) delimiterKind ≡ d → Adds e levels (cond d (delimit limits levels e) (addLeaf limits levels e))
       go true d =
           let k = eqb-true (e .kind) delimiterKind d in
-          cond-known (Adds e levels) (isSign "(" (e .which)) (parens-adds limits e k (single k) (known k) levels) (brace k)
+          cond-known (Adds e levels) (eqb (e .which) parenOpener) (parens-adds limits e k (single k) (known k) levels) (brace k)
       go false d = leaf-adds limits levels e d
 
-  pub step-elements : (after : Levels) → step limits levels e ≡ more after → elementsSoFar after ≡ elementsSoFar levels ++ (marked e ∷ [])
+  pub step-elements : (after : Levels) → step limits levels e ≡ more after → elementsSoFar after ≡ elementsSoFar levels ++ (recorded e ∷ [])
   step-elements after s = rw s at step-adds

@@ -7,33 +7,7 @@ use native.Mathlib.Omega.{arith}
 use Rattle.grammar.specs.Tokens.{Token, token, Spot}
 use Rattle.grammar.specs.Syntax.{Syntax, nil}
 use Rattle.grammar.specs.Grammar.{body, block, statement-if, no-statements, Program}
-use Rattle.grammar.specs.Machine.{
-  endOfText,
-  Frame,
-  frame,
-  doneOf,
-  byStatement,
-  byReturn,
-  byParen,
-  byBrace,
-  declared,
-  operandIn,
-  among,
-  Control,
-  returnFirst,
-  finished,
-  look,
-  row,
-  Held,
-  State,
-  dead,
-  live,
-  finishIn,
-  act,
-  take,
-  run,
-  start,
-}
+use Rattle.grammar.specs.Machinery.Machine.{endOfText, Frame, frame, doneOf, byStatement, byReturn, byParen, byBrace, among, Control, returnFirst, finished, look, row, Open, State, dead, live, finishIn, act, consume, run, start}
 use Rattle.grammar.proofs.Complete.{run-append}
 use Rattle.grammar.proofs.Places.{statementAt, Reached, in-program, in-declaration, in-function}
 use Rattle.grammar.proofs.Partial.{
@@ -63,22 +37,22 @@ use Rattle.grammar.proofs.Partial.{
 use Rattle.grammar.proofs.Steps.{run-keeps}
 
 -- the state behind tokens has their partial derivation
-pub run-partial : (all : List Token) (control : Control) (f : Frame) (around : List Held) → run start all ≡ live control f around
+pub run-partial : (all : List Token) (control : Control) (f : Frame) (around : List Open) → run start all ≡ live control f around
     → Partial all control f around []
 run-partial all control f around e =
     subst (λ (state : State). PartialOf all state []) e (run-keeps all all start (at-statement (in-program no-statements)))
 
 -- behind the end of the text the machine lives only if the text was a program
-pub record Ended (all : List Token) (control : Control) (f : Frame) (around : List Held) : Type 0 where
+pub record Ended (all : List Token) (control : Control) (f : Frame) (around : List Open) : Type 0 where
   pub at-end : control ≡ finished
   pub closed : around ≡ []
   pub program : Program all (doneOf f)
 
-module _ (all : List Token) (spot : Spot) (after : Control) (g : Frame) (outside : List Held) where
+module _ (all : List Token) (spot : Spot) (after : Control) (g : Frame) (outside : List Open) where
   never : {A : Type 0} {place : ℕ} → dead place ≡ live after g outside → A
   never e = absurd (let z : _≡_ {A = ℕ} 0 1 = cc in omega arith)
 
-  finish-taken : {done : Syntax} {around : List Held} → Reached all (statementAt (among body)) done [] around []
+  finish-taken : {done : Syntax} {around : List Open} → Reached all (statementAt (among body)) done [] around []
       → finishIn (spot .first) (frame done [] [] nil) around ≡ live after g outside → Ended all after g outside
   finish-taken {done} (in-program statements) e =
       let same : frame done [] [] nil ≡ g = cc in
@@ -86,26 +60,26 @@ module _ (all : List Token) (spot : Spot) (after : Control) (g : Frame) (outside
   finish-taken (in-declaration outer statements) e = never e
   finish-taken (in-function outer waits statements) e = never e
 
-  abbrev Takes : Control → Frame → List Held → Type 0
-  Takes control f around = take (live control f around) (token endOfText spot) ≡ live after g outside
+  abbrev Takes : Control → Frame → List Open → Type 0
+  Takes control f around = consume (live control f around) (token endOfText spot) ≡ live after g outside
 
   -- the text's end, once the nest is left
-  abbrev Later : List Held → Type 0
+  abbrev Later : List Open → Type 0
   Later [] = Unit {0}
   Later (h ∷ around) = (control : Control) (f : Frame) → Partial all control f around [] → Takes control f around → Ended all after g outside
 
-  end-taken : {control : Control} {f : Frame} {around : List Held} → Later around → Partial all control f around [] → Takes control f around
+  end-taken : {control : Control} {f : Frame} {around : List Open} → Later around → Partial all control f around [] → Takes control f around
       → Ended all after g outside
   end-taken later (at-statement {scope = body} place) e = finish-taken place e
   end-taken later (at-statement {scope = block} place) e = never e
   end-taken later (at-inner-statement place) e = never e
   end-taken later (behind-name place) e = never e
-  end-taken {f = f} {around = around} later (behind-return {setting = setting} place) e = by-line (spot .line) e
+  end-taken {f = f} {around = around} later (behind-return {setting = setting} place) e = by-newline (spot .newline) e
     where
-      by-line : (line : Bool) → act (look endOfText (row (returnFirst setting) line)) endOfText spot f around ≡ live after g outside
+      by-newline : (newline : Bool) → act (look endOfText (row (returnFirst setting) newline)) endOfText spot f around ≡ live after g outside
           → Ended all after g outside
-      by-line true e = never e
-      by-line false e = never e
+      by-newline true e = never e
+      by-newline false e = never e
   end-taken later (behind-if place) e = never e
   end-taken later (behind-then outer condition inner) e = later _ _ (with-statement outer (statement-if condition inner)) e
   end-taken later (at-operand outer waits) e = never e
@@ -124,16 +98,16 @@ module _ (all : List Token) (spot : Spot) (after : Control) (g : Frame) (outside
   end-taken later (behind-property outer waits) e = never e
   end-taken later (behind-end statements) e = never e
 
-  each-end-taken : (around : List Held) (control : Control) (f : Frame) → Partial all control f around [] → Takes control f around
+  each-end-taken : (around : List Open) (control : Control) (f : Frame) → Partial all control f around [] → Takes control f around
       → Ended all after g outside
   each-end-taken [] control f p e = end-taken tt p e
   each-end-taken (h ∷ around) control f p e = end-taken (each-end-taken around) p e
 
-pub sound-to-end : (all : List Token) (spot : Spot) (control : Control) (f : Frame) (around : List Held)
+pub sound-to-end : (all : List Token) (spot : Spot) (control : Control) (f : Frame) (around : List Open)
     → run start (all ++ (token endOfText spot ∷ [])) ≡ live control f around → Ended all control f around
 sound-to-end all spot control f around e = go (run start all) refl (sym (run-append all (token endOfText spot ∷ []) start) ∙ e)
   where
-    go : (state : State) → run start all ≡ state → take state (token endOfText spot) ≡ live control f around → Ended all control f around
+    go : (state : State) → run start all ≡ state → consume state (token endOfText spot) ≡ live control f around → Ended all control f around
     go (dead place) runs taken = never all spot control f around taken
     go (live before g outside) runs taken = each-end-taken all spot control f around outside before g (run-partial all before g outside runs) taken
 

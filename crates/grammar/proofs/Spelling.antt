@@ -8,14 +8,14 @@ use lib.ListN.{length, drop, length-append, length-drop}
 use lib.Seq.{length-take-le}
 use Rattle.text.specs.Bytes.{blank, lineEnd}
 use Rattle.elements.specs.Elements.{elementAt}
-use Rattle.elements.specs.Parts.{partOf}
+use Rattle.elements.specs.Lexemes.{lexemeOf}
 use Rattle.elements.specs.declared.Element.{Element}
 use Rattle.elements.specs.declared.Next.{Next}
 use Rattle.elements.proofs.Bounds.{Placed, found-placed, past-end}
 use Rattle.elements.proofs.Separators.{lined, blank-first, line-end-first}
 use Rattle.elements.proofs.OwnBytes.{own-bytes}
-use Rattle.grammar.specs.Cuts.{marked, cut-end}
-use Rattle.grammar.proofs.ReadCuts.{CutsInto, cut-more}
+use Rattle.grammar.specs.Cuts.{recorded, cut-end, CutsInto}
+use Rattle.grammar.proofs.ReadCuts.{cut-more}
 
 -- an element of a text, and whether a line end is to lie before it
 pub record Piece : Type 0 where
@@ -24,14 +24,14 @@ pub record Piece : Type 0 where
   pub answer : Bool
   pub element : Element
   pub found : elementAt source place answer ≡ Next.Found element
-  pub line : Bool
+  pub newline : Bool
 
 -- its bytes, and what is written before them
 abbrev pub spelling : Piece → List ℕ
-spelling p = partOf (p .source) (p .element)
+spelling p = lexemeOf (p .source) (p .element)
 
 abbrev pub before : Piece → ℕ
-before p = cond (p .line) 0x0A 0x20
+before p = cond (p .newline) 0x0A 0x20
 
 -- all of them, and a line end
 unfoldable pub spelled : List Piece → List ℕ
@@ -46,15 +46,15 @@ moved n p =
       which = p .element .which;
       first = n + 1;
       end = n + 1 + (p .element .end - p .element .first);
-      line = p .line;
+      newline = p .newline;
     }
 
 abbrev pub placedFrom : ℕ → List Piece → List Element
 placedFrom n [] = []
-placedFrom n (p ∷ ps) = marked (moved n p) ∷ placedFrom (n + 1 + (p .element .end - p .element .first)) ps
+placedFrom n (p ∷ ps) = recorded (moved n p) ∷ placedFrom (n + 1 + (p .element .end - p .element .first)) ps
 
 -- what is spelled starts with a blank or a line end
-separated : (line : Bool) → (blank (cond line 0x0A 0x20) || lineEnd (cond line 0x0A 0x20)) ≡ true
+separated : (newline : Bool) → (blank (cond newline 0x0A 0x20) || lineEnd (cond newline 0x0A 0x20)) ≡ true
 unfolding blank lineEnd
 separated true = refl
 separated false = refl
@@ -68,12 +68,12 @@ pub record Starts (s : List ℕ) : Type 0 where
 starts : (ps : List Piece) → Starts (spelled ps)
 unfolding spelled blank lineEnd
 starts [] = record { head = 0x0A; tail = []; is = refl; separates = refl }
-starts (p ∷ ps) = record { head = before p; tail = spelling p ++ spelled ps; is = refl; separates = separated (p .line) }
+starts (p ∷ ps) = record { head = before p; tail = spelling p ++ spelled ps; is = refl; separates = separated (p .newline) }
 
 -- a piece is found behind what was written
 module _ (u : List ℕ) (p : Piece) (rest : List ℕ) (r : Starts rest) where
   own : (b : ℕ) → elementAt (u ++ (b ∷ (spelling p ++ rest))) (length u + 1) (p .answer)
-      ≡ Next.Found (record { kind = p .element .kind; which = p .element .which; first = length u + 1; end = length u + 1 + (p .element .end - p .element .first); line = false })
+      ≡ Next.Found (record { kind = p .element .kind; which = p .element .which; first = length u + 1; end = length u + 1 + (p .element .end - p .element .first); newline = false })
   own b =
       let size : length (u ++ (b ∷ [])) ≡ length u + 1 = length-append u (b ∷ []) in
       let o = own-bytes (p .source) (p .place) (p .answer) (p .element) (p .found) (r .head) (r .separates) (u ++ (b ∷ [])) (r .tail) in
@@ -81,10 +81,10 @@ module _ (u : List ℕ) (p : Piece) (rest : List ℕ) (r : Starts rest) where
 
   found-again : elementAt (u ++ (before p ∷ (spelling p ++ rest))) (length u) (p .answer) ≡ Next.Found (moved (length u) p)
   unfolding blank lineEnd
-  found-again = go (p .line)
+  found-again = go (p .newline)
     where
-      go : (line : Bool) → elementAt (u ++ (cond line 0x0A 0x20 ∷ (spelling p ++ rest))) (length u) (p .answer)
-          ≡ Next.Found (record { kind = p .element .kind; which = p .element .which; first = length u + 1; end = length u + 1 + (p .element .end - p .element .first); line = line })
+      go : (newline : Bool) → elementAt (u ++ (cond newline 0x0A 0x20 ∷ (spelling p ++ rest))) (length u) (p .answer)
+          ≡ Next.Found (record { kind = p .element .kind; which = p .element .which; first = length u + 1; end = length u + 1 + (p .element .end - p .element .first); newline = newline })
       go true = line-end-first u (spelling p ++ rest) 0x0A (p .answer) refl ∙ ap lined (own 0x0A)
       go false = blank-first u (spelling p ++ rest) 0x20 (p .answer) refl ∙ own 0x20
 
@@ -123,4 +123,4 @@ behindAll n (p ∷ ps) = behindAll (n + 1 + (p .element .end - p .element .first
 
 pub placed-append : (n : ℕ) (ps qs : List Piece) → placedFrom n (ps ++ qs) ≡ placedFrom n ps ++ placedFrom (behindAll n ps) qs
 placed-append n [] qs = refl
-placed-append n (p ∷ ps) qs = ap (_∷_ (marked (moved n p))) (placed-append (n + 1 + (p .element .end - p .element .first)) ps qs)
+placed-append n (p ∷ ps) qs = ap (_∷_ (recorded (moved n p))) (placed-append (n + 1 + (p .element .end - p .element .first)) ps qs)

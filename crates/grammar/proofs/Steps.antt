@@ -5,7 +5,7 @@ use Prim.Native.Nat.{ℕ}
 use Rattle.grammar.specs.Tokens.{Token, token, Spot, name, dot, openParen, closeParen, openBrace, returnWord, functionWord, ifWord}
 use Rattle.grammar.specs.Syntax.{nil, node, fullReturnSyntax}
 use Rattle.grammar.specs.Grammar.{leaf-name, body, Chain, chain-leaf, chain-empty, chain-member, statement-if, statement-bare-return, no-statements}
-use Rattle.grammar.specs.Machine.{
+use Rattle.grammar.specs.Machinery.Machine.{
   pending,
   Frame,
   frame,
@@ -39,8 +39,8 @@ use Rattle.grammar.specs.Machine.{
   operand,
   afterOperand,
   row,
-  Held,
-  held,
+  Open,
+  grouped,
   nested,
   State,
   dead,
@@ -90,28 +90,28 @@ use Rattle.grammar.proofs.Rows.{Keeps, KeepsOperand, operand-row, Keeps
 
 module _ (all : List Token) (class : ℕ) (spot : Spot) (rest : List Token) where
   -- by the row of a control, of which each entry keeps what stands there
-  by-row : (entries : List Entry) (f : Frame) (around : List Held) (Stands : List Token → Type 0)
+  by-row : (entries : List Entry) (f : Frame) (around : List Open) (Stands : List Token → Type 0)
       → EachEntry (Keeps all spot rest around f Stands) entries → Stands (token class spot ∷ rest)
       → PartialOf all (act (look class entries) class spot f around) rest
   by-row entries f around Stands each stands = looked-up (Keeps all spot rest around f Stands) entries each (λ k s. tt) class stands
 
   -- what stands around a nest takes the token, once the nest is left
-  abbrev Later : List Held → Type 0
+  abbrev Later : List Open → Type 0
   Later [] = Unit {0}
   Later (h ∷ around) = (control : Control) (f : Frame) → Partial all control f around (token class spot ∷ rest)
-      → PartialOf all (act (look class (row control (spot .line))) class spot f around) rest
+      → PartialOf all (act (look class (row control (spot .newline))) class spot f around) rest
 
-  step-keeps : {control : Control} {f : Frame} {around : List Held} → Later around → Partial all control f around (token class spot ∷ rest)
-      → PartialOf all (act (look class (row control (spot .line))) class spot f around) rest
+  step-keeps : {control : Control} {f : Frame} {around : List Open} → Later around → Partial all control f around (token class spot ∷ rest)
+      → PartialOf all (act (look class (row control (spot .newline))) class spot f around) rest
   step-keeps {around = around} later (at-statement {scope = scope} {done = done} place) =
-      by-row (row (statementDue false (among scope)) (spot .line)) (frame done [] [] nil) around (Reached all (statementAt (among scope)) done [] around)
+      by-row (row (statementDue false (among scope)) (spot .newline)) (frame done [] [] nil) around (Reached all (statementAt (among scope)) done [] around)
       (statement-row all spot rest around false (among scope) done [] (no-statement-row all spot rest around scope done)) place
   step-keeps {around = around} later (at-inner-statement {setting = setting} {done = done} {starts = starts} place) =
-      by-row (row (statementDue true setting) (spot .line)) (frame done starts [] nil) around (Reached all (statementAt setting) done starts around)
+      by-row (row (statementDue true setting) (spot .newline)) (frame done starts [] nil) around (Reached all (statementAt setting) done starts around)
       (statement-row all spot rest around true setting done starts tt) place
   step-keeps {f = f} {around = around} later (behind-name {setting = setting} {done = done} {starts = starts} {spot = before} place) =
       let Stands : List Token → Type 0 = λ here. Reached all (statementAt setting) done starts around (token name before ∷ here) in
-      by-row (row (nameFirst setting) (spot .line)) f around Stands (
+      by-row (row (nameFirst setting) (spot .newline)) f around Stands (
         (λ s. at-inner-statement (after-label s)),
         map-entries (KeepsChain all spot rest around (byStatement setting) true done starts [] (node name (before .mark) nil nil))
             (Keeps all spot rest around f Stands) (afterOperand (byStatement setting) true)
@@ -121,9 +121,9 @@ module _ (all : List Token) (class : ℕ) (spot : Spot) (rest : List Token) wher
       place
   step-keeps {f = f} {around = around} later (behind-return {setting = setting} {done = done} {starts = starts} {word = word} place) =
       let Stands : List Token → Type 0 = λ here. Reached all (statementAt setting) done starts around (token returnWord word ∷ here) in
-      by-row (row (returnFirst setting) (spot .line)) f around Stands (
+      by-row (row (returnFirst setting) (spot .newline)) f around Stands (
         (λ s. with-statement s statement-bare-return),
-        unless-entries (Keeps all spot rest around f Stands) (spot .line) (operand (byReturn setting) true)
+        unless-entries (Keeps all spot rest around f Stands) (spot .newline) (operand (byReturn setting) true)
             (λ same.
             map-entries (KeepsOperand all spot rest around (byReturn setting) true done (pending fullReturnSyntax (word .mark) nil ∷ starts) [] nil)
             (Keeps all spot rest around f Stands) (operand (byReturn setting) true)
@@ -132,7 +132,7 @@ module _ (all : List Token) (class : ℕ) (spot : Spot) (rest : List Token) wher
       )
       place
   step-keeps {f = f} later (behind-if {setting = setting} {done = done} {starts = starts} {around = around} {word = word} place) =
-      by-row (row ifFirst (spot .line)) f (nested (behindStatement setting) toStatement (word .mark) (frame done starts [] nil) ∷ around) (λ here. Reached all (statementAt setting) done starts around (token ifWord word ∷ here))
+      by-row (row ifFirst (spot .newline)) f (nested (behindStatement setting) toStatement (word .mark) (frame done starts [] nil) ∷ around) (λ here. Reached all (statementAt setting) done starts around (token ifWord word ∷ here))
       ((λ s. at-operand (in-condition s) none-waits), tt) place
   step-keeps {around = around} later (at-operand {ending = ending} {target = target} {done = done} {operand = last} {starts = starts}
       {waiting = waiting} {first = first} outer waits) =
@@ -144,59 +144,59 @@ module _ (all : List Token) (class : ℕ) (spot : Spot) (rest : List Token) wher
       (chain-row all spot rest around ending target done starts waiting last) (λ k first before outer waits chain. tt) class first before outer waits chain
   step-keeps {f = f} {around = around} later (behind-dot {ending = ending} {target = target} {operand = last} {sign = sign}
       {before = before} outer waits chain) =
-      by-row (row (dotLast ending target) (spot .line)) f around (λ here. Chain before (token dot sign ∷ here) last)
+      by-row (row (dotLast ending target) (spot .newline)) f around (λ here. Chain before (token dot sign ∷ here) last)
       ((λ s. behind-operand outer waits (chain-member s)), tt) chain
   step-keeps {f = f} {around = around} later (behind-function {role = role} {done = done} {starts = starts} {waiting = waiting} {word = word} place) =
-      by-row (row (functionFirst role) (spot .line)) f around
+      by-row (row (functionFirst role) (spot .newline)) f around
       (λ here. FunctionAt all role done starts waiting around (token functionWord word ∷ here))
       ((λ s. behind-function-name s), tt) place
   step-keeps {f = f} {around = around} later (behind-function-name {role = role} {done = done} {starts = starts} {waiting = waiting} {word = word}
       {called = called} place) =
-      by-row (row (functionNamed role) (spot .line)) f around
+      by-row (row (functionNamed role) (spot .newline)) f around
       (λ here. FunctionAt all role done starts waiting around (token functionWord word ∷ token name called ∷ here))
       ((λ s. at-parameter s), tt) place
   step-keeps later (at-parameter {role = role} {done = done} {starts = starts} {waiting = waiting} {around = around} {word = word} {called = called}
       {opener = opener} place) =
-      by-row (row parameterDue (spot .line)) empty
-      (held (parameterPast role) toParameter (opener .mark) (frame done starts waiting (heldWord (word .mark))) ∷ around)
+      by-row (row parameterDue (spot .newline)) empty
+      (grouped (parameterPast role) toParameter (opener .mark) (frame done starts waiting (heldWord (word .mark))) ∷ around)
       (λ here. FunctionAt all role done starts waiting around (token functionWord word ∷ token name called ∷ token openParen opener ∷ here))
       ((λ s. behind-parameter s), tt) place
   step-keeps later (behind-parameter {role = role} {done = done} {starts = starts} {waiting = waiting} {around = around} {word = word}
       {called = called} {opener = opener} {parameter = parameter} place) =
-      by-row (row parameterNamed (spot .line)) empty
-      (held (parameterPast role) toParameter (opener .mark) (frame done starts waiting (heldWord (word .mark))) ∷ around)
+      by-row (row parameterNamed (spot .newline)) empty
+      (grouped (parameterPast role) toParameter (opener .mark) (frame done starts waiting (heldWord (word .mark))) ∷ around)
       (λ here. FunctionAt all role done starts waiting around
       (token functionWord word ∷ token name called ∷ token openParen opener ∷ token name parameter ∷ here))
       ((λ s. at-function-body s), tt) place
   step-keeps {f = f} {around = around} later (at-function-body {done = done} {word = word} {called = called} {opener = opener} {parameter = parameter}
       {closer = closer} (declaration-at place)) =
-      by-row (row (parameterPast declared) (spot .line)) f around
+      by-row (row (parameterPast declared) (spot .newline)) f around
       (λ here. Reached all (statementAt (among body)) done [] around
       (token functionWord word ∷ token name called ∷ token openParen opener ∷ token name parameter ∷ token closeParen closer ∷ here))
       ((λ s. at-statement (in-declaration s no-statements)), tt) place
   step-keeps {f = f} {around = around} later (at-function-body {waiting = waiting} {word = word} {called = called} {opener = opener}
       {parameter = parameter} {closer = closer} (operand-at {ending = ending} {target = target} {first = first} outer waits)) =
-      by-row (row (parameterPast (operandIn ending target)) (spot .line)) f around
+      by-row (row (parameterPast (operandIn ending target)) (spot .newline)) f around
       (λ here. Waiting target waiting first
       (token functionWord word ∷ token name called ∷ token openParen opener ∷ token name parameter ∷ token closeParen closer ∷ here))
       ((λ s. at-statement (in-function outer s no-statements)), tt) waits
   step-keeps later (in-braces {ending = ending} {target = target} {done = done} {operand = last} {starts = starts} {waiting = waiting}
       {around = around} {opener = opener} {first = first} outer waits) =
-      by-row (row objectOpened (spot .line)) empty
-      (held (operandDone ending target) toObject (opener .mark) (frame done starts waiting last) ∷ around)
+      by-row (row objectOpened (spot .newline)) empty
+      (grouped (operandDone ending target) toObject (opener .mark) (frame done starts waiting last) ∷ around)
       (λ here. Waiting target waiting first (token openBrace opener ∷ here))
       ((λ s. behind-property outer s), ((λ s. behind-operand outer s chain-empty), tt)) waits
   step-keeps later (behind-property {ending = ending} {target = target} {done = done} {operand = last} {starts = starts} {waiting = waiting}
       {around = around} {opener = opener} {property = property} {first = first} outer waits) =
-      by-row (row propertyNamed (spot .line)) empty
-      (held (operandDone ending target) toObject (opener .mark) (frame done starts waiting last) ∷ around)
+      by-row (row propertyNamed (spot .newline)) empty
+      (grouped (operandDone ending target) toObject (opener .mark) (frame done starts waiting last) ∷ around)
       (λ here. Waiting target waiting first (token openBrace opener ∷ token name property ∷ here))
       ((λ s. at-operand (in-object outer s) none-waits), tt) waits
   step-keeps later (behind-then outer condition inner) = later _ _ (with-statement outer (statement-if condition inner))
   step-keeps later (behind-end statements) = tt
 
-  pub each-step-keeps : (around : List Held) (control : Control) (f : Frame) → Partial all control f around (token class spot ∷ rest)
-      → PartialOf all (act (look class (row control (spot .line))) class spot f around) rest
+  pub each-step-keeps : (around : List Open) (control : Control) (f : Frame) → Partial all control f around (token class spot ∷ rest)
+      → PartialOf all (act (look class (row control (spot .newline))) class spot f around) rest
   each-step-keeps [] control f p = step-keeps tt p
   each-step-keeps (h ∷ around) control f p = step-keeps (each-step-keeps around) p
 

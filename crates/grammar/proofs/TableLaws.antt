@@ -6,7 +6,7 @@ use Prim.Native.Nat.{ℕ, _≤_}
 use lib.Dec.{T, eqb, leb, eqb→eq, eqb-refl, leb→le}
 use Rattle.text.proofs.Range.{and-left, and-right}
 use Rattle.grammar.specs.Grammar.{Operator, operator, operators, isAmong, isOperator, precedence}
-use Rattle.grammar.specs.Machine.{Ending, operandDue, Action, fail, goto, Entry, on, otherwise, look, takeOperator, operatorRow, unlessLine, threshold}
+use Rattle.grammar.specs.Machinery.Machine.{Ending, operandDue, Action, fail, goto, Entry, on, otherwise, look, takeOperator, operatorRow, unlessLine, threshold}
 
 -- a property of each entry of a row
 abbrev pub EachEntry : (ℕ → Action → Type 0) → List Entry → Type 0
@@ -40,12 +40,12 @@ look-past class x action rest other = go (eqb class x) other
     go false other = refl
 
 -- a row that wants no line end, where there is none
-pub no-line : (line : Bool) (row : List Entry) → T (not line) → unlessLine line row ≡ row
-no-line true row h = absurd h
-no-line false row h = refl
+pub no-newline : (newline : Bool) (row : List Entry) → T (not newline) → unlessLine newline row ≡ row
+no-newline true row h = absurd h
+no-newline false row h = refl
 
-pub unless-entries : (Holds : ℕ → Action → Type 0) (line : Bool) (row : List Entry) → (T (not line) → EachEntry Holds row)
-    → EachEntry Holds (unlessLine line row)
+pub unless-entries : (Holds : ℕ → Action → Type 0) (newline : Bool) (row : List Entry) → (T (not newline) → EachEntry Holds row)
+    → EachEntry Holds (unlessLine newline row)
 unless-entries Holds true row each = tt
 unless-entries Holds false row each = each tt
 

@@ -1,28 +1,43 @@
 -- The theorems of derivations.
 use mathlib.Core.Path.{_≡_, sym, ap, subst, _∙_}
-use mathlib.Core.List.{List, [], _∷_, _++_, append-assoc}
-use Prim.Native.Nat.{ℕ}
+use mathlib.Core.List.{List, [], _++_, map, append-assoc}
+use Prim.Native.Nat.{ℕ, _*_}
 use native.Mathlib.Omega.{arith}
+use lib.ListN.{length, take, drop}
+use lib.Seq.{take-at}
 use Rattle.elements.specs.declared.Element.{Element}
-use Rattle.prefix.specs.Trees.{Trees}
-use Rattle.prefix.specs.Reading.{Limits, accepted, reading}
-use Rattle.grammar.specs.Tokens.{Spot, token, tokens}
+use Rattle.rule.specs.Trees.{Trees, none, count}
+use Rattle.rule.specs.Levels.{wholeText}
+use Rattle.prefix.specs.Reading.{Limits, Reading, accepted, reading}
+use Rattle.prefix.proofs.LimitLaws.{accepted-unlimited}
+use Rattle.tables.specs.Records.{treeWidth}
+use Rattle.storing.specs.Records.{records}
+use Rattle.reader.specs.Read.{readLimits, readingFor, tableAfter}
+use Rattle.reader.proofs.Formed.{Formed, reading-formed}
+use Rattle.reader.proofs.LengthFirst.{first-accepted}
+use Rattle.reader.proofs.Theorems.{count-of-records}
+use Rattle.grammar.specs.Cuts.{CutsInto}
+use Rattle.grammar.specs.Tokens.{tokens}
 use Rattle.grammar.specs.Grammar.{Program}
 use Rattle.grammar.specs.Derivations.{Derivation, BeginsProgram}
 use Rattle.grammar.specs.TreeElements.{elementsOf}
-use Rattle.grammar.specs.Machine.{dead, live, Control, Frame, frame, Held, doneOf, endOfText, finished, run, start}
+use Rattle.grammar.specs.Machinery.Machine.{frame, start}
 use Rattle.grammar.proofs.Ran.{anywhere}
 use Rattle.grammar.proofs.Complete.{complete, one-tree}
-use Rattle.grammar.proofs.Sound.{sound}
-use Rattle.grammar.proofs.Programs.{program-read}
+use Rattle.grammar.proofs.Programs.{program-read, program-takes}
 use Rattle.grammar.proofs.ReadCuts.{reading-cuts}
 use Rattle.grammar.proofs.SameChoice.{same-choice}
 use Rattle.grammar.proofs.Counts.{few-parts}
-use Rattle.grammar.specs.Demand3.{answersOf, ReadAs, OneDerivation, FewParts}
+use Rattle.grammar.specs.Demand3.{answersOf, ReadAs, OneDerivation, FewParts, RuleTakes}
 use Rattle.grammar.proofs.TokenLaws.{element-marks}
 use Rattle.grammar.proofs.CountTrees.{count-tokens, program-distinct}
-use Rattle.grammar.proofs.Answers.{choice-answers}
-use Rattle.grammar.proofs.Begins.{begins, begins-not, still-going, same-split}
+use Rattle.grammar.proofs.Answers.{choice-answers, patternsAmong, cut-patterns}
+use Rattle.grammar.specs.Shown.{Shown, bracesOf, placeOf, openBracesOf}
+use Rattle.grammar.proofs.TakenBraces.{braces-taken}
+use Rattle.grammar.proofs.ReadBraces.{treeBraces}
+use Rattle.grammar.proofs.AllBraces.{places-from}
+use Rattle.grammar.proofs.ShownRecords.{records-braces, records-patterns}
+use Rattle.grammar.proofs.Begins.{same-split}
 
 -- Demand 3: "the prefix rule takes each slash of a program as its derivation does". The reading of a program without limits is
 -- accepted, and the elements of its trees, closers included, are the derivation's: a regular expression stands among them at
@@ -31,6 +46,10 @@ pub no-program-differs : (text : List ℕ) (d : Derivation text) → ReadAs text
 no-program-differs text d =
     let r = program-read text (d .cut) (frame (d .parts) [] [] _, complete anywhere (d .steps)) in
     record { trees = r .0; reads = r .1; same = r .2 }
+
+-- Of each slash: where the derivation meets it, the prefix rule over the trees before answers as the derivation's choice does.
+pub rule-takes-each-slash : (text : List ℕ) (d : Derivation text) → RuleTakes text (wholeText none) 0 (d .choice) (d .elements)
+rule-takes-each-slash text d = program-takes text (d .cut) (frame (d .parts) [] [] _, complete anywhere (d .steps))
 
 -- Demand 3: "any two grammar derivations take every slash alike and have one syntax tree".
 pub any-two-derivations : (text : List ℕ) (d f : Derivation text) → OneDerivation d f
@@ -46,12 +65,35 @@ any-two-derivations text d f =
 pub slashes-by-kind : (text : List ℕ) (d : Derivation text) → d .choice ≡ answersOf text (d .elements)
 slashes-by-kind text d = choice-answers text (d .cut)
 
--- A text that is read, and whose elements the machine takes with the text's end behind them, is a program.
-pub derivation-of : (text : List ℕ) (limits : Limits) (trees : Trees) (f : Frame) → reading text limits ≡ accepted trees
-    → (stop : Spot) → run start (tokens (elementsOf trees) ++ (token endOfText stop ∷ [])) ≡ live finished f [] → Derivation text
-derivation-of text limits trees f a stop r =
-    let c = reading-cuts text limits trees a in
-    record { choice = c .choice; elements = elementsOf trees; cut = c .cut; parts = doneOf f; steps = sound (tokens (elementsOf trees)) stop f r }
+-- Demand 3, of tree records: those of every accepted reading of a text with a derivation, whatever the limits, show its regular expressions,
+-- its objects and, at all its other braces, blocks.
+pub records-shown : (text : List ℕ) (limits : Limits) (trees : Trees) → reading text limits ≡ accepted trees → (d : Derivation text) → Shown d (records trees)
+records-shown text limits trees a d =
+    let r = program-read text (d .cut) (frame (d .parts) [] [] _, complete anywhere (d .steps)) in
+    let same : trees ≡ r .0 = cc (accepted-unlimited text limits trees a) in
+    let formed : Formed trees = rw a at (reading-formed text limits) in
+    record {
+      patterns = records-patterns trees formed ∙ ap patternsAmong (ap elementsOf same ∙ r .2) ∙ cut-patterns (d .cut);
+      braces = records-braces trees formed ∙ ap treeBraces same ∙ r .3 ∙ braces-taken (d .steps);
+    }
+
+-- So do the cells that `read` leaves in its table, as many as the records that it counts have.
+pub read-shown : (text table : List ℕ) (trees : Trees) → readingFor text (length table) ≡ accepted trees → (d : Derivation text)
+    → Shown d (take (treeWidth * count trees) (tableAfter (readingFor text (length table)) table))
+unfolding readingFor
+read-shown text table trees a d =
+    subst (Shown d)
+    (sym (ap (λ (r : Reading). take (treeWidth * count trees) (tableAfter r table)) a
+    ∙ take-at (records trees) (drop (treeWidth * count trees) table) (treeWidth * count trees) (count-of-records trees)))
+    (records-shown text (readLimits (length table)) trees (first-accepted text (readLimits (length table)) trees a) d)
+
+-- A derivation says of every `{` among its elements, in their order, whether it is an object or a block.
+pub every-brace : (text : List ℕ) (d : Derivation text) → map placeOf (bracesOf (d .steps)) ≡ openBracesOf (d .elements)
+every-brace text d = ap (map placeOf) (sym (braces-taken (d .steps))) ∙ places-from start 0 (d .elements)
+
+-- What is read is the whole text: the elements of an accepted reading's trees are cut from the text's start to its end, by some choice.
+pub reading-covers : (text : List ℕ) (limits : Limits) (trees : Trees) → reading text limits ≡ accepted trees → CutsInto text 0 (elementsOf trees)
+reading-covers = reading-cuts
 
 -- Elements that begin a program with others behind them begin one: what begins none stays so.
 pub begins-shorter : (text : List ℕ) (es fs : List Element) → BeginsProgram text (es ++ fs) → BeginsProgram text es
@@ -65,18 +107,6 @@ begins-shorter text es fs b =
       starts = b .starts ∙ ap (λ (xs : List Element). xs ++ b .more) (s .all) ∙ append-assoc (s .front) (s .back) (b .more);
       same = s .same;
     }
-
--- Refused texts, 13: "first element with which the elements so far begin no program". It is where the machine stops: some text
--- with a derivation begins with the elements before it, and none begins with these and the element.
-pub first-refused : (text : List ℕ) (limits : Limits) (trees : Trees) → reading text limits ≡ accepted trees
-    → (before after : List Element) (e : Element) → elementsOf trees ≡ before ++ (e ∷ after)
-    → (control : Control) (f : Frame) (around : List Held) {place : ℕ} → run start (tokens before) ≡ live control f around
-    → run start (tokens (before ++ (e ∷ []))) ≡ dead place
-    → BeginsProgram text before × (BeginsProgram text (before ++ (e ∷ [])) → ⊥)
-first-refused text limits trees a before after e split control f around alive stops = (
-  begins text (elementsOf trees) before (e ∷ after) (reading-cuts text limits trees a) split control f around alive (still-going before control f around alive),
-  begins-not text (before ++ (e ∷ [])) stops,
-)
 
 -- A syntax tree has few records, each with a mark of its own.
 pub few-parts-each-marked : (text : List ℕ) (d : Derivation text) → FewParts d

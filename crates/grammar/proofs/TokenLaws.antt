@@ -7,16 +7,22 @@ use native.Mathlib.Omega.{arith}
 use borrow.Author.Tests.{eqb-true}
 use lib.Dec.{T, eqb, eqb→eq}
 use Rattle.text.specs.Runs.{same}
+use Rattle.text.proofs.Members.{Has, here, there, allIn, at}
 use Rattle.vocabulary.specs.Vocabulary.{Row, words, signs, tokenClass, rowAt}
 use Rattle.vocabulary.proofs.RowLaws.{eachRow, at-row, eachOther, at-other}
 use Rattle.signs.specs.Signs.{longestSign, longestOf}
-use Rattle.elements.specs.Elements.{delimiterKind, nameKind, wordKind, numberKind, stringKind, patternKind, signKind, delimiter, isSign}
+use Rattle.elements.specs.Elements.{delimiterKind, nameKind, wordKind, numberKind, stringKind, patternKind, signKind, delimiter, parenCloser, braceOpener, braceCloser}
 use Rattle.elements.specs.declared.Element.{Element}
 use Rattle.grammar.specs.Cuts.{isCloser}
 use Rattle.grammar.specs.Tokens.{
   Token,
   token,
   Spot,
+  name,
+  number,
+  string,
+  pattern,
+  openBrace,
   wordClass,
   signClass,
   delimiterClass,
@@ -26,7 +32,8 @@ use Rattle.grammar.specs.Tokens.{
 }
 use Rattle.grammar.specs.Syntax.{Syntax}
 use Rattle.grammar.specs.Grammar.{Program}
-use Rattle.grammar.specs.Machine.{endOfText}
+use Rattle.grammar.specs.Machinery.Machine.{endOfText}
+use Rattle.grammar.proofs.ClassSteps.{fails}
 use Rattle.grammar.proofs.Counts.{isClosing, countTreeTokens}
 use Rattle.grammar.proofs.Counting.{Counting, counting-none, counting-closer, counting-mark}
 use Rattle.grammar.proofs.OwnMarks.{OwnMarks, own-marks}
@@ -36,10 +43,6 @@ use Rattle.grammar.proofs.Unfinished.{BeforeEnd, none-before, more-befo
 neither : (test : ℕ → Bool) (b : Bool) (x y : ℕ) → test x ≡ false → test y ≡ false → test (cond b x y) ≡ false
 neither test true x y p q = p
 neither test false x y p q = q
-
-fails : (b : Bool) → T (not b) → b ≡ false
-fails true t = absurd t
-fails false t = refl
 
 -- a test that fails at the class of each word, of each sign, and of each sign that is no delimiter, fails at any number's
 module _ (test : ℕ → Bool) (none : T (not (test 0))) where
@@ -61,35 +64,51 @@ module _ (test : ℕ → Bool) (none : T (not (test 0))) where
       go true is = fails (test 0) none
       go false other = fails (test (tokenClass (rowAt signs which))) (at-other failsAt delimiter signs t none which other)
 
-delimiter-closing : (which : ℕ) → isClosing (delimiterClass which) ≡ (isSign ")" which || isSign "}" which)
-unfolding rowAt delimiter longestSign longestOf same
-delimiter-closing which = go (isSign ")" which) (isSign "}" which) refl refl
-  where
-    go : (a b : Bool) → isSign ")" which ≡ a → isSign "}" which ≡ b → isClosing (delimiterClass which) ≡ (a || b)
-    go true b p q = rw (eqb-true which _ p)
-    go false true p q = rw (eqb-true which _ q)
-    go false false p q =
-        neither isClosing (delimiter which) (tokenClass (rowAt signs which)) 0
-        (fails (isClosing (tokenClass (rowAt signs which)))
-        (at-other (λ row. not (isClosing (tokenClass row))) (λ which. isSign ")" which || isSign "}" which) signs tt tt which (rw (p, q))))
-        refl
+-- a test that the classes of some delimiters pass, and no others do
+module _ (test some : ℕ → Bool) (pass : (which : ℕ) → some which ≡ true → test (delimiterClass which) ≡ true)
+    (no-literal : T (allIn (λ class. not (test class)) (0 ∷ name ∷ number ∷ string ∷ pattern ∷ []))) (no-words : T (eachRow (λ number row. not (test (tokenClass row))) 1 words))
+    (no-signs : T (eachOther (λ row. not (test (tokenClass row))) delimiter signs)) (no-others : T (eachOther (λ row. not (test (tokenClass row))) some signs)) where
+  at-literal : {class : ℕ} → Has class (0 ∷ name ∷ number ∷ string ∷ pattern ∷ []) → T (not (test class))
+  at-literal h = at (λ class. not (test class)) h no-literal
+
+  delimiter-passes : (which : ℕ) → test (delimiterClass which) ≡ some which
+  delimiter-passes which = go (some which) refl
+    where
+      go : (b : Bool) → some which ≡ b → test (delimiterClass which) ≡ b
+      go true q = pass which q
+      go false q =
+          neither test (delimiter which) (tokenClass (rowAt signs which)) 0
+          (fails (test (tokenClass (rowAt signs which))) (at-other (λ row. not (test (tokenClass row))) some signs no-others (at-literal here) which q))
+          (fails (test 0) (at-literal here))
+
+  class-passes : (e : Element) → test (classOf e) ≡ (eqb (e .kind) delimiterKind && some (e .which))
+  unfolding classOf
+  class-passes e = go (eqb (e .kind) delimiterKind) refl
+    where
+      go : (b : Bool) → eqb (e .kind) delimiterKind ≡ b → test (classOf e) ≡ (b && some (e .which))
+      go true is = rw (eqb→eq (e .kind) delimiterKind (subst (λ (b : Bool). T b) (sym is) tt)) (delimiter-passes (e .which))
+      go false is =
+          rw is
+          (neither test (eqb (e .kind) nameKind) _ _ (fails (test name) (at-literal (there here)))
+          (neither test (eqb (e .kind) wordKind) _ _ (no-word test (at-literal here) no-words (e .which))
+          (neither test (eqb (e .kind) numberKind) _ _ (fails (test number) (at-literal (there (there here))))
+          (neither test (eqb (e .kind) stringKind) _ _ (fails (test string) (at-literal (there (there (there here)))))
+          (neither test (eqb (e .kind) patternKind) _ _ (fails (test pattern) (at-literal (there (there (there (there here))))))
+          (neither test (eqb (e .kind) signKind) _ _ (no-sign test (at-literal here) no-signs (e .which)) (fails (test 0) (at-literal here))))))))
 
 -- a token is a closer exactly if its element is
 pub closing-class : (e : Element) → isClosing (classOf e) ≡ isCloser e
-unfolding classOf longestSign longestOf same
-closing-class e = go (eqb (e .kind) delimiterKind) refl
+unfolding rowAt delimiter longestSign longestOf same
+closing-class = class-passes isClosing (λ which. eqb which parenCloser || eqb which braceCloser) (λ which. go which (eqb which parenCloser) refl) tt tt tt tt
   where
-    go : (b : Bool) → eqb (e .kind) delimiterKind ≡ b
-        → isClosing (classOf e) ≡ (b && (isSign ")" (e .which) || isSign "}" (e .which)))
-    go true is = rw (eqb→eq (e .kind) delimiterKind (subst (λ (b : Bool). T b) (sym is) tt)) (delimiter-closing (e .which))
-    go false is =
-        rw is
-        (neither isClosing (eqb (e .kind) nameKind) _ _ refl
-        (neither isClosing (eqb (e .kind) wordKind) _ _ (no-word isClosing tt tt (e .which))
-        (neither isClosing (eqb (e .kind) numberKind) _ _ refl
-        (neither isClosing (eqb (e .kind) stringKind) _ _ refl
-        (neither isClosing (eqb (e .kind) patternKind) _ _ refl
-        (neither isClosing (eqb (e .kind) signKind) _ _ (no-sign isClosing tt tt (e .which)) refl))))))
+    go : (which : ℕ) (a : Bool) → eqb which parenCloser ≡ a → (a || eqb which braceCloser) ≡ true → isClosing (delimiterClass which) ≡ true
+    go which true p q = rw (eqb-true which _ p)
+    go which false p q = rw (eqb-true which _ q)
+
+-- and an opening brace exactly if its element is
+pub brace-class : (e : Element) → eqb (classOf e) openBrace ≡ (eqb (e .kind) delimiterKind && eqb (e .which) braceOpener)
+unfolding rowAt delimiter longestSign longestOf same
+brace-class = class-passes (λ class. eqb class openBrace) (λ which. eqb which braceOpener) (λ which q. rw (eqb-true which _ q)) tt tt tt tt
 
 passed : (b : Bool) (n k total : ℕ) → n + (cond b 0 1 + k) ≡ total → cond b n (n + 1) + k ≡ total
 passed true n k total e = omega arith
@@ -106,7 +125,7 @@ pub tokens-counting : (total before : ℕ) (es : List Element) → before + coun
 unfolding tokensFrom
 tokens-counting total before [] e = let end : before ≡ total = omega arith in rw end counting-none
 tokens-counting total before (x ∷ es) e =
-    counted-token (isCloser x) total (classOf x) (record { line = x .line; mark = before; first = x .first })
+    counted-token (isCloser x) total (classOf x) (record { newline = x .newline; mark = before; first = x .first })
     (tokensFrom (cond (isCloser x) before (before + 1)) es) (closing-class x)
     (tokens-counting total (cond (isCloser x) before (before + 1)) es
     (passed (isCloser x) before (countTreeTokens (tokensFrom (cond (isCloser x) before (before + 1)) es)) total

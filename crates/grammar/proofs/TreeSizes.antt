@@ -8,9 +8,9 @@ use borrow.Author.Tests.{ne-eqb}
 use lib.Dec.{eqb}
 use Rattle.text.specs.Runs
 use Rattle.signs.specs.Signs.{longestSign, longestOf}
-use Rattle.elements.specs.Elements.{isSign}
+use Rattle.elements.specs.Elements.{parenCloser, braceCloser}
 use Rattle.elements.specs.declared.Element.{Element}
-use Rattle.prefix.specs.Trees.{Trees, none, leaf, group, count, deepest, parenKind}
+use Rattle.rule.specs.Trees.{Trees, none, leaf, group, count, deepest, parenKind}
 use Rattle.reader.proofs.Formed.{Formed}
 use Rattle.grammar.specs.Cuts.{isCloser}
 use Rattle.grammar.specs.Derivations.{countTrees, openAfter, deepestFrom}
@@ -21,11 +21,11 @@ count-append [] fs = omega arith
 count-append (e ∷ es) fs = rw (count-append es fs) (omega arith)
 
 -- an opener is no closer, and a closer is one
-opener-counts : (kind first : ℕ) (line : Bool) → isCloser (openerOf kind first line) ≡ false
+opener-counts : (kind first : ℕ) (newline : Bool) → isCloser (openerOf kind first newline) ≡ false
 unfolding longestSign longestOf Runs.same
-opener-counts kind first line = go (eqb kind parenKind)
+opener-counts kind first newline = go (eqb kind parenKind)
   where
-    go : (b : Bool) → (isSign ")" (cond b 3 1) || isSign "}" (cond b 3 1)) ≡ false
+    go : (b : Bool) → (eqb (cond b 3 1) parenCloser || eqb (cond b 3 1) braceCloser) ≡ false
     go true = refl
     go false = refl
 
@@ -33,7 +33,7 @@ closer-closes : (kind end : ℕ) → isCloser (closerOf kind end) ≡ true
 unfolding longestSign longestOf Runs.same
 closer-closes kind end = go (eqb kind parenKind)
   where
-    go : (b : Bool) → (isSign ")" (cond b 4 2) || isSign "}" (cond b 4 2)) ≡ true
+    go : (b : Bool) → (eqb (cond b 4 2) parenCloser || eqb (cond b 4 2) braceCloser) ≡ true
     go true = refl
     go false = refl
 
@@ -47,17 +47,17 @@ count-elements none f = refl
 count-elements (leaf before e) f =
     count-append (elementsOf before) (e ∷ [])
     ∙ rw (leaf-counts e (λ k. absurd (omega (arith, f .1)))) (omega (arith, count-elements before (f .0)))
-count-elements (group before kind first end line within) f =
-    count-append (elementsOf before) (openerOf kind first line ∷ (elementsOf within ++ (closerOf kind end ∷ [])))
-    ∙ rw (opener-counts kind first line, count-append (elementsOf within) (closerOf kind end ∷ []), closer-closes kind end)
+count-elements (group before kind first end newline within) f =
+    count-append (elementsOf before) (openerOf kind first newline ∷ (elementsOf within ++ (closerOf kind end ∷ [])))
+    ∙ rw (opener-counts kind first newline, count-append (elementsOf within) (closerOf kind end ∷ []), closer-closes kind end)
     (omega (arith, count-elements before (f .0), count-elements within (f .3)))
 
 -- groups that are open behind an opener, a closer, and an element that is neither
-opener-opens : (depth kind first : ℕ) (line : Bool) → openAfter depth (openerOf kind first line) ≡ depth + 1
+opener-opens : (depth kind first : ℕ) (newline : Bool) → openAfter depth (openerOf kind first newline) ≡ depth + 1
 unfolding longestSign longestOf Runs.same
-opener-opens depth kind first line = go (eqb kind parenKind)
+opener-opens depth kind first newline = go (eqb kind parenKind)
   where
-    go : (b : Bool) → openAfter depth (record { kind = 0; which = cond b 3 1; first = first; end = first + 1; line = line }) ≡ depth + 1
+    go : (b : Bool) → openAfter depth (record { kind = 0; which = cond b 3 1; first = first; end = first + 1; newline = newline }) ≡ depth + 1
     go true = refl
     go false = refl
 
@@ -65,7 +65,7 @@ closer-shuts : (depth kind end : ℕ) → openAfter depth (closerOf kind end) �
 unfolding longestSign longestOf Runs.same
 closer-shuts depth kind end = go (eqb kind parenKind)
   where
-    go : (b : Bool) → openAfter depth (record { kind = 0; which = cond b 4 2; first = end - 1; end = end; line = false }) ≡ depth - 1
+    go : (b : Bool) → openAfter depth (record { kind = 0; which = cond b 4 2; first = end - 1; end = end; newline = false }) ≡ depth - 1
     go true = refl
     go false = refl
 
@@ -92,12 +92,12 @@ deepest-append (leaf before e) f depth rest =
     ap (deepestFrom depth) (append-assoc (elementsOf before) (e ∷ []) rest)
     ∙ deepest-append before (f .0) depth (e ∷ rest)
     ∙ rw (leaf-stays depth e (λ k. absurd (omega (arith, f .1)))) (omega (arith, at-least depth rest))
-deepest-append (group before kind first end line within) f depth rest =
+deepest-append (group before kind first end newline within) f depth rest =
     let inner = elementsOf within ++ (closerOf kind end ∷ []) in
-    ap (deepestFrom depth) (append-assoc (elementsOf before) (openerOf kind first line ∷ inner) rest)
-    ∙ deepest-append before (f .0) depth (openerOf kind first line ∷ (inner ++ rest))
+    ap (deepestFrom depth) (append-assoc (elementsOf before) (openerOf kind first newline ∷ inner) rest)
+    ∙ deepest-append before (f .0) depth (openerOf kind first newline ∷ (inner ++ rest))
     ∙ rw (
-      opener-opens depth kind first line,
+      opener-opens depth kind first newline,
       append-assoc (elementsOf within) (closerOf kind end ∷ []) rest,
       deepest-append within (f .3) (depth + 1) (closerOf kind end ∷ rest),
       closer-shuts (depth + 1) kind end,

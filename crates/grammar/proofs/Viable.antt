@@ -1,13 +1,13 @@
 -- A run that lives can be completed to a program, and one that is dead cannot.
 use mathlib.Core.Path.{_≡_, refl, sym, _∙_, ap}
-use mathlib.Core.Bool.{Bool, true, false}
+use mathlib.Core.Bool.{Bool, true}
 use mathlib.Core.List.{List, [], _∷_, _++_}
 use Prim.Native.Nat.{ℕ}
 use native.Mathlib.Omega.{arith}
 use Rattle.grammar.specs.Tokens.{Token, token, Spot, name, colon, semicolon, openParen, closeParen, openBrace, closeBrace, returnWord}
 use Rattle.grammar.specs.Syntax.{Syntax}
 use Rattle.grammar.specs.Grammar.{Program}
-use Rattle.grammar.specs.Machine.{
+use Rattle.grammar.specs.Machinery.Machine.{
   endOfText,
   Pending,
   Frame,
@@ -22,7 +22,7 @@ use Rattle.grammar.specs.Machine.{
   operandDone,
   parameterPast,
   finished,
-  Held,
+  Open,
   State,
   dead,
   live,
@@ -93,7 +93,7 @@ use Rattle.grammar.proofs.Completion.{
 }
 
 -- a statement that must come: `return ;`
-inner-statement : {setting : Setting} {around : List Held} → Completion (behindStatement setting) around
+inner-statement : {setting : Setting} {around : List Open} → Completion (behindStatement setting) around
     → Completion (statementDue true setting) around
 inner-statement c = record {
   classes = returnWord ∷ semicolon ∷ c .classes;
@@ -102,11 +102,11 @@ inner-statement c = record {
 }
 
 -- how a place is left: where a statement may start, by the closer of what is around; an expression, by its ending
-abbrev Left : Place → List Held → Type 0
+abbrev Left : Place → List Open → Type 0
 Left (statementAt setting) around = Completion (behindStatement setting) around
 Left (expressionAt ending) around = (target : Bool) → Completion (operandDone ending target) around
 
-left : {all : List Token} {place : Place} {done : Syntax} {starts : List Pending} {around : List Held} {here : List Token}
+left : {all : List Token} {place : Place} {done : Syntax} {starts : List Pending} {around : List Open} {here : List Token}
     → Reached all place done starts around here → Left place around
 left (in-program statements) = record { classes = []; spelled = none-spelled; ends = λ f stop. (f, refl) }
 left (in-block outer statements) = let c = left outer in through spelled-close-brace c λ f closer. c .ends _
@@ -122,7 +122,7 @@ left (in-condition outer) = λ target. let c = inner-statement {setting = inNest
 left (in-object {target = behind} outer waits) = λ target. let c = left outer behind in through spelled-close-brace c λ f closer. c .ends _
 
 -- the body of a function: `{ }`
-function-body : {all : List Token} {role : Role} {done : Syntax} {starts waiting : List Pending} {around : List Held} {here : List Token}
+function-body : {all : List Token} {role : Role} {done : Syntax} {starts waiting : List Pending} {around : List Open} {here : List Token}
     → FunctionAt all role done starts waiting around here → Completion (parameterPast role) around
 function-body (declaration-at outer) =
     let c = left outer in
@@ -140,7 +140,7 @@ function-body (operand-at {target = target} outer waits) =
     }
 
 -- each partial derivation can be completed, if the text has not ended
-completion : {all : List Token} {control : Control} {f : Frame} {around : List Held} {here : List Token} → Partial all control f around here
+completion : {all : List Token} {control : Control} {f : Frame} {around : List Open} {here : List Token} → Partial all control f around here
     → (control ≡ finished → ⊥) → Completion control around
 completion (at-statement place) more = left place
 completion (at-inner-statement {setting = setting} place) more = inner-statement {setting = setting} (left place)
@@ -197,7 +197,7 @@ pub record Viable (all : List Token) : Type 0 where
   pub spelled : AllSpelled classes
   pub completes : (more : List Token) → OfClasses classes more → (parts : Syntax) × Program (all ++ more) parts
 
-pub viable : (all : List Token) (control : Control) (f : Frame) (around : List Held) → run start all ≡ live control f around
+pub viable : (all : List Token) (control : Control) (f : Frame) (around : List Open) → run start all ≡ live control f around
     → (control ≡ finished → ⊥) → Viable all
 viable all control f around e going =
     let c = completion (run-partial all control f around e) going in

@@ -8,7 +8,7 @@ use lib.Dec.{T, leb, leb→le, nleb→lt}
 use Rattle.grammar.specs.Tokens.{Token, token, Spot, assign}
 use Rattle.grammar.specs.Syntax.{Syntax, node}
 use Rattle.grammar.specs.Grammar.{isOperator, precedence, Chain, Binary, Assign, binary-chain, binary-operator, assign-binary, assign-to}
-use Rattle.grammar.specs.Machine.{Pending, pending, frame, reduce}
+use Rattle.grammar.specs.Machinery.Machine.{Pending, pending, frame, reduce}
 use Rattle.grammar.proofs.TableLaws.{precedence-positive}
 use Rattle.grammar.proofs.ReduceLaws.{Looser, reduce-stops, reduce-closes}
 

@@ -6,17 +6,17 @@ use mathlib.Core.Path.{_≡_}
 use mathlib.Core.Bool.{Bool, true, false, cond, _&&_, _||_}
 use mathlib.Core.List.{List, [], _∷_}
 use lib.Dec.{eqb}
-use Rattle.elements.specs.Elements.{elementAt, slashMet, delimiterKind, isSign}
+use Rattle.elements.specs.Elements.{elementAt, slashMet, delimiterKind, parenCloser, braceCloser}
 use Rattle.elements.specs.declared.Element.{Element}
 use Rattle.elements.specs.declared.Next.{Next}
 
 -- a closer: `)` or `}`
 abbrev pub isCloser : Element → Bool
-isCloser e = eqb (e .kind) delimiterKind && (isSign ")" (e .which) || isSign "}" (e .which))
+isCloser e = eqb (e .kind) delimiterKind && (eqb (e .which) parenCloser || eqb (e .which) braceCloser)
 
--- an element with its line mark; a closer has no tree record, and so no line mark
-abbrev pub marked : Element → Element
-marked e = record { kind = e .kind; which = e .which; first = e .first; end = e .end; line = cond (isCloser e) false (e .line) }
+-- an element with its newline flag; a closer has no tree record, and so no newline flag
+abbrev pub recorded : Element → Element
+recorded e = record { kind = e .kind; which = e .which; first = e .first; end = e .end; newline = cond (isCloser e) false (e .newline) }
 
 -- "With that choice the rules under Elements cut the whole text into elements and blanks, with no illegal byte and no element or
 -- comment that has a fault of its own": the elements of a text from a place on, by a choice. True takes a slash as a regular
@@ -24,6 +24,11 @@ marked e = record { kind = e .kind; which = e .which; first = e .first; end = e 
 pub data Cuts (text : List ℕ) : ℕ → List Bool → List Element → Type 0 where
   cut-end : {place : ℕ} → elementAt text place false ≡ Next.End → Cuts text place [] []
   cut-element : {place : ℕ} {e : Element} {choice : List Bool} {es : List Element} → slashMet text place ≡ false
-      → elementAt text place false ≡ Next.Found e → Cuts text (e .end) choice es → Cuts text place choice (marked e ∷ es)
+      → elementAt text place false ≡ Next.Found e → Cuts text (e .end) choice es → Cuts text place choice (recorded e ∷ es)
   cut-slash : {place : ℕ} {e : Element} {answer : Bool} {choice : List Bool} {es : List Element} → slashMet text place ≡ true
-      → elementAt text place answer ≡ Next.Found e → Cuts text (e .end) choice es → Cuts text place (answer ∷ choice) (marked e ∷ es)
+      → elementAt text place answer ≡ Next.Found e → Cuts text (e .end) choice es → Cuts text place (answer ∷ choice) (recorded e ∷ es)
+
+-- the elements of a text from a place on, by some choice
+pub record CutsInto (text : List ℕ) (place : ℕ) (es : List Element) : Type 0 where
+  pub choice : List Bool
+  pub cut : Cuts text place choice es

@@ -1,15 +1,18 @@
 -- Demand 3: what its statements over derivations say (`grammar/proofs/Theorems.antt`).
 use Prim.Native.Nat.{ℕ, _+_, _≤_, _<_}
 use mathlib.Core.Path.{_≡_}
-use mathlib.Core.Bool.{Bool, cond}
+use mathlib.Core.Bool.{Bool, true, false, cond}
 use mathlib.Core.List.{List, [], _∷_, _++_, List·Memᴰ}
 use lib.Dec.{eqb}
 use lib.ListN.{getD}
 use Rattle.text.specs.Quoted.{byte}
-use Rattle.elements.specs.Elements.{patternKind}
+use Rattle.elements.specs.Elements.{elementAt, slashMet, patternKind}
 use Rattle.elements.specs.declared.Element.{Element}
-use Rattle.prefix.specs.Trees.{Trees}
-use Rattle.prefix.specs.Reading.{accepted, unlimitedReading}
+use Rattle.elements.specs.declared.Next.{Next}
+use Rattle.rule.specs.Trees.{Trees}
+use Rattle.rule.specs.Levels.{Levels, slashOpens}
+use Rattle.prefix.specs.Reading.{more, step, accepted, unlimited, unlimitedReading}
+use Rattle.grammar.specs.Cuts.{recorded}
 use Rattle.grammar.specs.Syntax.{Syntax, nil, node, snoc, size}
 use Rattle.grammar.specs.Derivations.{Derivation, syntaxTree, countTrees}
 use Rattle.grammar.specs.TreeElements.{elementsOf}
@@ -19,6 +22,17 @@ pub record ReadAs (text : List ℕ) (es : List Element) : Type 0 where
   pub trees : Trees
   pub reads : unlimitedReading text ≡ accepted trees
   pub same : elementsOf trees ≡ es
+
+-- "the prefix rule takes each slash of a program as its derivation does": along the elements that a choice cuts from a place on, with these
+-- levels before it, the rule's answer at each slash that is met is the choice's, and each element is the reading's next step
+pub data RuleTakes (text : List ℕ) : Levels → ℕ → List Bool → List Element → Type 0 where
+  takes-end : {levels : Levels} {place : ℕ} → elementAt text place false ≡ Next.End → RuleTakes text levels place [] []
+  takes-element : {levels next : Levels} {place : ℕ} {e : Element} {choice : List Bool} {es : List Element} → slashMet text place ≡ false
+      → elementAt text place false ≡ Next.Found e → step (unlimited text) levels e ≡ more next → RuleTakes text next (e .end) choice es
+      → RuleTakes text levels place choice (recorded e ∷ es)
+  takes-slash : {levels next : Levels} {place : ℕ} {e : Element} {answer : Bool} {choice : List Bool} {es : List Element} → slashMet text place ≡ true
+      → slashOpens levels ≡ answer → elementAt text place answer ≡ Next.Found e → step (unlimited text) levels e ≡ more next
+      → RuleTakes text next (e .end) choice es → RuleTakes text levels place (answer ∷ choice) (recorded e ∷ es)
 
 -- "any two grammar derivations take every slash alike and have one syntax tree"
 pub record OneDerivation {text : List ℕ} (d f : Derivation text) : Type 0 where

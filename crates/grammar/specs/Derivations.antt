@@ -1,20 +1,17 @@
 -- Document 01, Grammar: "A derivation of a text is a choice together with grammar steps. With that choice the rules under
 -- Elements cut the whole text into elements and blanks .. The steps lead from Program to exactly these elements, closers
 -- included. A derivation settles no slash by the prefix rule. A text with a derivation is a program."
-use Prim.Native.Nat.{ℕ, _+_, _-_, _/_, _≤_, max}
+use Prim.Native.Nat.{ℕ, _+_, _-_, max}
 use mathlib.Core.Path.{_≡_}
 use mathlib.Core.Bool.{Bool, cond, _&&_, _||_}
 use mathlib.Core.List.{List, [], _∷_, _++_}
 use lib.Dec.{eqb}
-use lib.ListN.{length}
-use Rattle.elements.specs.Elements.{delimiterKind, isSign}
-use Rattle.elements.specs.Parts.{SameElement}
+use Rattle.elements.specs.Elements.{delimiterKind, parenOpener, braceOpener}
+use Rattle.elements.specs.Lexemes.{SameElement}
 use Rattle.elements.specs.declared.Element.{Element}
-use Rattle.tables.specs.Records.{treeWidth, mostTrees, syntaxWidth, mostSyntax}
-use Rattle.reader.specs.Read.{mostBytes, mostGroups}
 use Rattle.grammar.specs.Cuts.{isCloser, Cuts}
 use Rattle.grammar.specs.Tokens.{tokens}
-use Rattle.grammar.specs.Syntax.{Syntax, size, programTree}
+use Rattle.grammar.specs.Syntax.{Syntax, programTree}
 use Rattle.grammar.specs.Grammar.{Program}
 
 pub record Derivation (text : List ℕ) : Type 0 where
@@ -37,27 +34,13 @@ syntaxTree d = programTree (countTrees (d .elements)) (d .parts)
 -- groups that are open behind an element, where so many are open before it
 abbrev pub openAfter : ℕ → Element → ℕ
 openAfter depth e =
-    cond (eqb (e .kind) delimiterKind && (isSign "(" (e .which) || isSign "{" (e .which))) (depth + 1)
+    cond (eqb (e .kind) delimiterKind && (eqb (e .which) parenOpener || eqb (e .which) braceOpener)) (depth + 1)
     (cond (isCloser e) (depth - 1) depth)
 
 -- the most groups that are open at once
 abbrev pub deepestFrom : ℕ → List Element → ℕ
 deepestFrom depth [] = depth
 deepestFrom depth (e ∷ es) = max depth (deepestFrom (openAfter depth e) es)
-
--- "A derivation is within the limits if its text has at most 262,144 bytes, at most 16,384 of its elements are not closers, its
--- syntax tree has at most 16,385 records, and no opener stands inside 100 open groups."
-pub record WithinLimits {text : List ℕ} (d : Derivation text) : Type 0 where
-  pub few-bytes : length text ≤ mostBytes
-  pub few-trees : countTrees (d .elements) ≤ mostTrees
-  pub few-parts : size (syntaxTree d) ≤ mostSyntax
-  pub shallow : deepestFrom 0 (d .elements) ≤ mostGroups
-
--- "Tables are long enough for it if the tree table has room for as many records as the derivation has elements other than closers,
--- and the syntax table for as many as its syntax tree has": tables of so many numbers
-pub record LongEnough {text : List ℕ} (d : Derivation text) (treeCells syntaxCells : ℕ) : Type 0 where
-  pub trees-fit : countTrees (d .elements) ≤ treeCells / treeWidth
-  pub parts-fit : size (syntaxTree d) ≤ syntaxCells / syntaxWidth
 
 -- elements of two texts that are the same but for positions
 pub data SameElements (text other : List ℕ) : List Element → List Element → Type 0 where

@@ -70,62 +70,30 @@ startsExpression (token class spot ∷ rest) = not (eqb class openBrace || eqb c
 -- "with no line end after `return`"
 abbrev pub onSameLine : List Token → Bool
 onSameLine [] = true
-onSameLine (token class spot ∷ rest) = not (spot .line)
+onSameLine (token class spot ∷ rest) = not (spot .newline)
 
 -- what may hold a declaration: a program or function body, and what may not: a block
 pub data Scope : Type 0 where
   body : Scope
   block : Scope
 
--- what is derived: a Chain, a Binary by operators of at least a precedence, an Assign, a Function behind its word, a statement,
--- and the statements of a scope
+-- what is derived: the statements of a scope, a statement, a Function behind its word, an Assign, a Binary by operators of at least a
+-- precedence, and a Chain
 pub data Form : Type 0 where
-  chainForm : Form
-  binaryForm : ℕ → Form
-  assignForm functionForm statementForm : Form
   statementsForm : Scope → Form
+  statementForm functionForm assignForm : Form
+  binaryForm : ℕ → Form
+  chainForm : Form
 
 pub data Derives : Form → List Token → List Token → Syntax → Type 0 where
-  -- "Chain: name, number, string, regular expression, `{ }`, `{ name : Assign }`, `( Assign )` or function, then any run of
-  -- `( Assign )` and `. name`."
-  chain-leaf : {class : ℕ} {spot : Spot} {after : List Token} → Leaf class
-      → Derives chainForm (token class spot ∷ after) after (node class (spot .mark) nil nil)
-  chain-empty : {opener closer : Spot} {after : List Token}
-      → Derives chainForm (token openBrace opener ∷ token closeBrace closer ∷ after) after (node objectSyntax (opener .mark) nil nil)
-  chain-object : {opener property sign closer : Spot} {inside after : List Token} {value : Syntax}
-      → Derives assignForm inside (token closeBrace closer ∷ after) value
-      → Derives chainForm (token openBrace opener ∷ token name property ∷ token colon sign ∷ inside) after
-      (node objectSyntax (opener .mark) value nil)
-  chain-parens : {opener closer : Spot} {inside after : List Token} {value : Syntax}
-      → Derives assignForm inside (token closeParen closer ∷ after) value
-      → Derives chainForm (token openParen opener ∷ inside) after (node parenthesisedSyntax (opener .mark) value nil)
-  chain-function : {word : Spot} {rest after : List Token} {inside : Syntax} → Derives functionForm rest after inside
-      → Derives chainForm (token functionWord word ∷ rest) after (node functionSyntax (word .mark) inside nil)
-  chain-call : {opener closer : Spot} {before inside after : List Token} {callee value : Syntax}
-      → Derives chainForm before (token openParen opener ∷ inside) callee → Derives assignForm inside (token closeParen closer ∷ after) value
-      → Derives chainForm before after (node callSyntax (opener .mark) callee value)
-  chain-member : {sign property : Spot} {before after : List Token} {object : Syntax}
-      → Derives chainForm before (token dot sign ∷ token name property ∷ after) object
-      → Derives chainForm before after (node memberSyntax (property .mark) object nil)
-  -- "Binary: Chains joined by `/` and `+`; `/` binds tighter, both group to the left."
-  binary-chain : {least : ℕ} {before after : List Token} {value : Syntax} → Derives chainForm before after value
-      → Derives (binaryForm least) before after value
-  binary-operator : {least class : ℕ} {sign : Spot} {before middle after : List Token} {left right : Syntax}
-      → T (isOperator class) → least ≤ precedence class
-      → Derives (binaryForm (precedence class)) before (token class sign ∷ middle) left
-      → Derives (binaryForm (precedence class + 1)) middle after right
-      → Derives (binaryForm least) before after (node class (sign .mark) left right)
-  -- "Assign: Binary, or Chain `=` Assign."
-  assign-binary : {before after : List Token} {value : Syntax} → Derives (binaryForm 1) before after value → Derives assignForm before after value
-  assign-to : {sign : Spot} {before middle after : List Token} {target value : Syntax}
-      → Derives chainForm before (token assign sign ∷ middle) target → Derives assignForm middle after value
-      → Derives assignForm before after (node assign (sign .mark) target value)
-  -- "Function: `function` name `( name )` block holding a body", behind its word
-  function-all : {called opener parameter closer openBody closeBody : Spot} {inside after : List Token} {statements : Syntax}
-      → Derives (statementsForm body) inside (token closeBrace closeBody ∷ after) statements
-      → Derives functionForm
-      (token name called ∷ token openParen opener ∷ token name parameter ∷ token closeParen closer ∷ token openBrace openBody ∷ inside)
-      after statements
+  -- "Program and function body: statements and declarations, possibly none", and the statements of a block
+  no-statements : {scope : Scope} {here : List Token} → Derives (statementsForm scope) here here nil
+  add-statement : {scope : Scope} {before middle after : List Token} {statements last : Syntax}
+      → Derives (statementsForm scope) before middle statements → Derives statementForm middle after last
+      → Derives (statementsForm scope) before after (snoc statements last)
+  add-declaration : {word : Spot} {before rest after : List Token} {statements inside : Syntax}
+      → Derives (statementsForm body) before (token functionWord word ∷ rest) statements → Derives functionForm rest after inside
+      → Derives (statementsForm body) before after (snoc statements (node declarationSyntax (word .mark) inside nil))
   -- "block of statements (no declarations), possibly none"
   statement-block : {opener closer : Spot} {inside after : List Token} {statements : Syntax}
       → Derives (statementsForm block) inside (token closeBrace closer ∷ after) statements
@@ -148,32 +116,64 @@ pub data Derives : Form → List Token → List Token → Syntax → Type 0 wher
   -- "name `:` statement"
   statement-label : {label sign : Spot} {middle after : List Token} {inner : Syntax} → Derives statementForm middle after inner
       → Derives statementForm (token name label ∷ token colon sign ∷ middle) after (node labelSyntax (label .mark) nil inner)
-  -- "Program and function body: statements and declarations, possibly none", and the statements of a block
-  no-statements : {scope : Scope} {here : List Token} → Derives (statementsForm scope) here here nil
-  add-statement : {scope : Scope} {before middle after : List Token} {statements last : Syntax}
-      → Derives (statementsForm scope) before middle statements → Derives statementForm middle after last
-      → Derives (statementsForm scope) before after (snoc statements last)
-  add-declaration : {word : Spot} {before rest after : List Token} {statements inside : Syntax}
-      → Derives (statementsForm body) before (token functionWord word ∷ rest) statements → Derives functionForm rest after inside
-      → Derives (statementsForm body) before after (snoc statements (node declarationSyntax (word .mark) inside nil))
+  -- "Function: `function` name `( name )` block holding a body", behind its word
+  function-all : {called opener parameter closer openBody closeBody : Spot} {inside after : List Token} {statements : Syntax}
+      → Derives (statementsForm body) inside (token closeBrace closeBody ∷ after) statements
+      → Derives functionForm
+      (token name called ∷ token openParen opener ∷ token name parameter ∷ token closeParen closer ∷ token openBrace openBody ∷ inside)
+      after statements
+  -- "Assign: Binary, or Chain `=` Assign."
+  assign-binary : {before after : List Token} {value : Syntax} → Derives (binaryForm 1) before after value → Derives assignForm before after value
+  assign-to : {sign : Spot} {before middle after : List Token} {target value : Syntax}
+      → Derives chainForm before (token assign sign ∷ middle) target → Derives assignForm middle after value
+      → Derives assignForm before after (node assign (sign .mark) target value)
+  -- "Binary: Chains joined by `/` and `+`; `/` binds tighter, both group to the left."
+  binary-chain : {least : ℕ} {before after : List Token} {value : Syntax} → Derives chainForm before after value
+      → Derives (binaryForm least) before after value
+  binary-operator : {least class : ℕ} {sign : Spot} {before middle after : List Token} {left right : Syntax}
+      → T (isOperator class) → least ≤ precedence class
+      → Derives (binaryForm (precedence class)) before (token class sign ∷ middle) left
+      → Derives (binaryForm (precedence class + 1)) middle after right
+      → Derives (binaryForm least) before after (node class (sign .mark) left right)
+  -- "Chain: name, number, string, regular expression, `{ }`, `{ name : Assign }`, `( Assign )` or function, then any run of
+  -- `( Assign )` and `. name`."
+  chain-leaf : {class : ℕ} {spot : Spot} {after : List Token} → Leaf class
+      → Derives chainForm (token class spot ∷ after) after (node class (spot .mark) nil nil)
+  chain-empty : {opener closer : Spot} {after : List Token}
+      → Derives chainForm (token openBrace opener ∷ token closeBrace closer ∷ after) after (node objectSyntax (opener .mark) nil nil)
+  chain-object : {opener property sign closer : Spot} {inside after : List Token} {value : Syntax}
+      → Derives assignForm inside (token closeBrace closer ∷ after) value
+      → Derives chainForm (token openBrace opener ∷ token name property ∷ token colon sign ∷ inside) after
+      (node objectSyntax (opener .mark) value nil)
+  chain-parens : {opener closer : Spot} {inside after : List Token} {value : Syntax}
+      → Derives assignForm inside (token closeParen closer ∷ after) value
+      → Derives chainForm (token openParen opener ∷ inside) after (node parenthesisedSyntax (opener .mark) value nil)
+  chain-function : {word : Spot} {rest after : List Token} {inside : Syntax} → Derives functionForm rest after inside
+      → Derives chainForm (token functionWord word ∷ rest) after (node functionSyntax (word .mark) inside nil)
+  chain-call : {opener closer : Spot} {before inside after : List Token} {callee value : Syntax}
+      → Derives chainForm before (token openParen opener ∷ inside) callee → Derives assignForm inside (token closeParen closer ∷ after) value
+      → Derives chainForm before after (node callSyntax (opener .mark) callee value)
+  chain-member : {sign property : Spot} {before after : List Token} {object : Syntax}
+      → Derives chainForm before (token dot sign ∷ token name property ∷ after) object
+      → Derives chainForm before after (node memberSyntax (property .mark) object nil)
 
-abbrev pub Chain : List Token → List Token → Syntax → Type 0
-Chain before after value = Derives chainForm before after value
-
-abbrev pub Binary : ℕ → List Token → List Token → Syntax → Type 0
-Binary least before after value = Derives (binaryForm least) before after value
-
-abbrev pub Assign : List Token → List Token → Syntax → Type 0
-Assign before after value = Derives assignForm before after value
-
-abbrev pub Function : List Token → List Token → Syntax → Type 0
-Function before after value = Derives functionForm before after value
+abbrev pub Statements : Scope → List Token → List Token → Syntax → Type 0
+Statements scope before after value = Derives (statementsForm scope) before after value
 
 abbrev pub Statement : List Token → List Token → Syntax → Type 0
 Statement before after value = Derives statementForm before after value
 
-abbrev pub Statements : Scope → List Token → List Token → Syntax → Type 0
-Statements scope before after value = Derives (statementsForm scope) before after value
+abbrev pub Function : List Token → List Token → Syntax → Type 0
+Function before after value = Derives functionForm before after value
+
+abbrev pub Assign : List Token → List Token → Syntax → Type 0
+Assign before after value = Derives assignForm before after value
+
+abbrev pub Binary : ℕ → List Token → List Token → Syntax → Type 0
+Binary least before after value = Derives (binaryForm least) before after value
+
+abbrev pub Chain : List Token → List Token → Syntax → Type 0
+Chain before after value = Derives chainForm before after value
 
 -- the steps "lead from Program to exactly these elements"
 abbrev pub Program : List Token → Syntax → Type 0

@@ -4,5 +4,6 @@ pub mod Syntax
 pub mod Grammar
 pub mod Derivations
 pub mod TreeElements
-pub mod Machine
 pub mod Demand3
+pub mod Shown
+pub mod Machinery

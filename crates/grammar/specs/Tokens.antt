@@ -9,9 +9,9 @@ use Rattle.vocabulary.specs.Vocabulary.{words, signs, tokenClass, rowAt}
 pub use Rattle.vocabulary.specs.TokenClasses.{name, number, string, pattern, divide, plus, assign, colon, semicolon, dot, openParen, closeParen, openBrace, closeBrace, returnWord, functionWord, ifWord}
 use Rattle.grammar.specs.Cuts.{isCloser}
 
--- where a token stands: whether a line end lies before it, the index of its tree record, and its first byte
+-- where a token stands: whether a line end lies before it, the number of tree records before it, which is the index of its own, and its first byte
 pub record Spot : Type 0 where
-  pub line : Bool
+  pub newline : Bool
   pub mark : ℕ
   pub first : ℕ
 
@@ -45,7 +45,7 @@ classOf e =
 
 -- the token of an element before which so many tree records stand
 abbrev pub tokenOf : ℕ → Element → Token
-tokenOf before e = token (classOf e) (record { line = e .line; mark = before; first = e .first })
+tokenOf before e = token (classOf e) (record { newline = e .newline; mark = before; first = e .first })
 
 -- "Its tree records, for the marks, are its elements other than closers, in text order, a group standing at its opener."
 unfoldable pub tokensFrom : ℕ → List Element → List Token

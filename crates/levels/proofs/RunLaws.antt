@@ -10,7 +10,7 @@ use lib.ListN.{length}
 use Rattle.grammar.specs.Tokens.{Token, token, Spot, openParen, openBrace}
 use Rattle.grammar.specs.Syntax.{Syntax, nil}
 use Rattle.grammar.specs.Grammar.{body, block}
-use Rattle.grammar.specs.Machine.{
+use Rattle.grammar.specs.Machinery.Machine.{
   endOfText,
   Frame,
   frame,
@@ -37,8 +37,8 @@ use Rattle.grammar.specs.Machine.{
   byBrace,
   look,
   row,
-  Held,
-  held,
+  Open,
+  grouped,
   nested,
   dead,
   live,
@@ -46,25 +46,25 @@ use Rattle.grammar.specs.Machine.{
   run,
 }
 use Rattle.grammar.proofs.Ran.{stays-dead}
-use Rattle.controls.specs.Numbers.{controlOf}
-use Rattle.controls.specs.Steps.{isOpener, isEnd, isSingle, Settled, Ends, ends-statements, ends-text, ends-expression, ends-object, ends-parameter}
+use Rattle.controls.specs.Machinery.Numbers.{controlOf}
+use Rattle.controls.specs.Machinery.Steps.{isOpener, isEnd, isSingle, Settled, Ends, ends-statements, ends-text, ends-expression, ends-object, ends-parameter}
 use Rattle.controls.specs.declared.Control as code
-use Rattle.waiting.specs.Written.{putSyntax}
-use Rattle.waiting.specs.Waiting.{width, bare}
+use Rattle.waiting.specs.Machinery.Written.{putSyntax}
+use Rattle.waiting.specs.Machinery.Waiting.{width, bare}
 use Rattle.waiting.specs.declared.Level.{Level}
-use Rattle.frames.specs.Stands.{Shaped, written, HeldAt, owed, Stands, no-operators, no-beginnings, below-none}
-use Rattle.frames.specs.Effects.{Readies, Readied, EndsLevel, IsValue, is-popped, is-program, ofParameter}
+use Rattle.frames.specs.Machinery.Stands.{Shaped, written, HeldAt, owed, Stands, no-operators, no-beginnings, below-none}
+use Rattle.frames.specs.Machinery.Effects.{Readies, Readied, EndsLevel, IsValue, is-popped, is-program, ofParameter}
 use Rattle.frames.proofs.ParameterLaws.{parameter-value}
 use Rattle.frames.specs.declared.Standing.{Standing}
-use Rattle.parts.specs.Parts.{Part, inside, countOf, classAt, sizeAt, placeAt, lineAt, tokensAt, spotAt, closerSpot, Fine}
-use Rattle.parts.proofs.PartLaws.{element-then, group-then, end-then}
-use Rattle.levels.specs.Runs.{closerToken, closedState, Through, Dies, MayRun, Begins, begins-statements, begins-expression, begins-object, begins-parameter}
+use Rattle.segments.specs.Machinery.Segments.{Segment, inside, countOf, classAt, sizeAt, placeAt, lineAt, tokensAt, spotAt, closerSpot, Fine}
+use Rattle.segments.proofs.SegmentLaws.{element-then, group-then, end-then}
+use Rattle.levels.specs.Machinery.Runs.{closerToken, closedState, Through, Dies, MayRun, Begins, begins-statements, begins-expression, begins-object, begins-parameter}
 
 -- where the run of a level is, before a record: what stands around it is behind the nests that are open on it
-pub record Underway (p : Part) (from : Control) (count top : ℕ) (table before : List ℕ) (c : Control) (l : Level) (at : ℕ) (cells stack : List ℕ) : Type 0 where
+pub record Underway (p : Segment) (from : Control) (count top : ℕ) (table before : List ℕ) (c : Control) (l : Level) (at : ℕ) (cells stack : List ℕ) : Type 0 where
   pub g : Frame
-  pub nests : List Held
-  pub runs : (around : List Held) (u : List Token)
+  pub nests : List Open
+  pub runs : (around : List Open) (u : List Token)
       → run (live from empty around) (tokensAt p 0 ++ u) ≡ run (live c g (nests ++ around)) (tokensAt p at ++ u)
   pub stands : Stands c g nests table before count top at l stack cells
   pub kind : ofParameter c ≡ ofParameter from
@@ -85,8 +85,8 @@ fresh begins-expression = record { shaped = (refl, (refl, refl, refl)); written-
 fresh begins-object = record { shaped = (refl, refl, refl, refl, refl); written-none = refl; held-none = λ word. tt; owes-none = refl }
 fresh begins-parameter = record { shaped = (refl, refl, refl, refl, refl); written-none = refl; held-none = λ word. tt; owes-none = refl }
 
-pub starts-underway : {p : Part} {c : Control} {closer count top : ℕ} {table stack : List ℕ} {l : Level} → MayRun p closer count top stack → Begins c
-    → l .count ≡ count → l .top ≡ top → l .floor ≡ top → l .start ≡ count → l .word ≡ 0 → Underway p c count top table stack c l 0 table stack
+pub starts-underway : {p : Segment} {c : Control} {closer count top : ℕ} {table stack : List ℕ} {l : Level} → MayRun p closer count top stack → Begins c
+    → l .count ≡ count → l .top ≡ top → l .floor ≡ top → l .start ≡ count → l .held ≡ 0 → Underway p c count top table stack c l 0 table stack
 unfolding putSyntax
 starts-underway {l = l} may begins counted topped floored started worded =
     let f = fresh begins in
@@ -113,7 +113,7 @@ starts-underway {l = l} may begins counted topped floored started worded =
           written = rw (f .written-none);
           few = omega (arith, may .low, may .fine .few);
         };
-        held = f .held-none (l .word);
+        held = f .held-none (l .held);
         worded = omega arith;
         floored = floored;
         kept = record { same-length = refl; same = λ k h. refl };
@@ -127,8 +127,8 @@ starts-underway {l = l} may begins counted topped floored started worded =
     }
 
 -- one token, by its entry in the table
-step-run : (c : Control) (g : Frame) (around : List Held) (class : ℕ) (spot : Spot) (ts : List Token) {action : Action}
-    → look class (row c (spot .line)) ≡ action → run (live c g around) (token class spot ∷ ts) ≡ run (act action class spot g around) ts
+step-run : (c : Control) (g : Frame) (around : List Open) (class : ℕ) (spot : Spot) (ts : List Token) {action : Action}
+    → look class (row c (spot .newline)) ≡ action → run (live c g around) (token class spot ∷ ts) ≡ run (act action class spot g around) ts
 step-run c g around class spot ts e = ap (λ (a : Action). run (act a class spot g around) ts) e
 
 single-known : (class : ℕ) → T (isSingle class) → T (ltb 0 class && not (isOpener class))
@@ -148,7 +148,7 @@ opener-known class t = go (eqb class openParen) (eqb class openBrace) refl refl 
     go false false x y t e = absurd t
 
 -- at a record of a class
-module _ {p : Part} (fine : Fine p) {from : Control} {count top : ℕ} {table before : List ℕ} {c : Control} {l : Level} {at : ℕ} {cells stack : List ℕ}
+module _ {p : Segment} (fine : Fine p) {from : Control} {count top : ℕ} {table before : List ℕ} {c : Control} {l : Level} {at : ℕ} {cells stack : List ℕ}
     (h : Underway p from count top table before c l at cells stack) (class : ℕ) (is : classAt (p .text) (p .cells) at ≡ class) (here : at < countOf (p .cells)) where
   -- the tokens from there on start with the record's
   first-token : (u : List Token) → (rest : List Token) × (tokensAt p at ++ u ≡ token class (spotAt p at) ∷ rest)
@@ -232,19 +232,19 @@ module _ {p : Part} (fine : Fine p) {from : Control} {count top : ℕ} {table be
 
   -- a group: its inside is run, and its value taken to the level around it
   module _ (opens : T (isOpener class)) {within to : Control} {closing : Closing} (entry : look class (row c (lineAt (p .cells) at)) ≡ push within to closing) where
-    grouped : (u : List Token) → tokensAt p at ++ u
+    group-tokens : (u : List Token) → tokensAt p at ++ u
         ≡ token class (spotAt p at) ∷ (tokensAt (inside p at) 0 ++ (token (class + 1) (closerSpot p at) ∷ (tokensAt p (at + sizeAt (p .cells) at) ++ u)))
-    grouped u = group-then fine at class is u opens
+    group-tokens u = group-then fine at class is u opens
 
     abbrev rest : List Token → List Token
     rest u = tokensAt p (at + sizeAt (p .cells) at) ++ u
 
-    opened : (around : List Held) (u : List Token)
+    opened : (around : List Open) (u : List Token)
         → run (live from empty around) (tokensAt p 0 ++ u)
-        ≡ run (live within empty (held to closing (p .base + at) (h .g) ∷ (h .nests ++ around))) (tokensAt (inside p at) 0 ++ (token (class + 1) (closerSpot p at) ∷ rest u))
+        ≡ run (live within empty (grouped to closing (p .base + at) (h .g) ∷ (h .nests ++ around))) (tokensAt (inside p at) 0 ++ (token (class + 1) (closerSpot p at) ∷ rest u))
     opened around u =
         h .runs around u
-        ∙ ap (λ (ts : List Token). run (live c (h .g) (h .nests ++ around)) ts) (grouped u)
+        ∙ ap (λ (ts : List Token). run (live c (h .g) (h .nests ++ around)) ts) (group-tokens u)
         ∙ step-run c (h .g) (h .nests ++ around) class (spotAt p at) (tokensAt (inside p at) 0 ++ (token (class + 1) (closerSpot p at) ∷ rest u)) entry
 
     pub goes-behind : {l′ : Level} {n : ℕ} {cells₁ stack₁ cells′ stack′ : List ℕ}
@@ -257,7 +257,7 @@ module _ {p : Part} (fine : Fine p) {from : Control} {count top : ℕ} {table be
       nests = h .nests;
       runs = λ around u.
           opened around u
-          ∙ inner .runs (held to closing (p .base + at) (h .g) ∷ (h .nests ++ around)) (p .base + at + sizeAt (p .cells) at) (rest u)
+          ∙ inner .runs (grouped to closing (p .base + at) (h .g) ∷ (h .nests ++ around)) (p .base + at + sizeAt (p .cells) at) (rest u)
           ∙ rw (ne-eqb (class + 1) endOfText (opener-known class opens));
       stands = s;
       kind = kind ∙ h .kind;
@@ -268,14 +268,14 @@ module _ {p : Part} (fine : Fine p) {from : Control} {count top : ℕ} {table be
 
     -- it dies inside the group
     pub dies-inside : {place : ℕ}
-        → ((around : List Held) (mark : ℕ) (u : List Token) → run (live within empty around) (tokensAt (inside p at) 0 ++ (closerToken (class + 1) (inside p at) mark ∷ u)) ≡ dead place)
-        → (around : List Held) (u : List Token) → run (live from empty around) (tokensAt p 0 ++ u) ≡ dead place
+        → ((around : List Open) (mark : ℕ) (u : List Token) → run (live within empty around) (tokensAt (inside p at) 0 ++ (closerToken (class + 1) (inside p at) mark ∷ u)) ≡ dead place)
+        → (around : List Open) (u : List Token) → run (live from empty around) (tokensAt p 0 ++ u) ≡ dead place
     dies-inside dies around u =
-        opened around u ∙ dies (held to closing (p .base + at) (h .g) ∷ (h .nests ++ around)) (p .base + at + sizeAt (p .cells) at) (rest u)
+        opened around u ∙ dies (grouped to closing (p .base + at) (h .g) ∷ (h .nests ++ around)) (p .base + at + sizeAt (p .cells) at) (rest u)
 
   -- or at the record
   pub dies-here : look class (row c (lineAt (p .cells) at)) ≡ fail
-      → (around : List Held) (u : List Token) → run (live from empty around) (tokensAt p 0 ++ u) ≡ dead (placeAt (p .cells) (p .close) at)
+      → (around : List Open) (u : List Token) → run (live from empty around) (tokensAt p 0 ++ u) ≡ dead (placeAt (p .cells) (p .close) at)
   dies-here entry around u =
       let t = first-token u in
       h .runs around u
@@ -284,17 +284,17 @@ module _ {p : Part} (fine : Fine p) {from : Control} {count top : ℕ} {table be
       ∙ stays-dead (placeAt (p .cells) (p .close) at) (t .0)
 
 -- behind the last record, before the closer or the text's end
-pub record AtEnd (closer : ℕ) (p : Part) (from : Control) (count top : ℕ) (table before : List ℕ) (c : Control) (l : Level) (cells stack : List ℕ) : Type 0 where
+pub record AtEnd (closer : ℕ) (p : Segment) (from : Control) (count top : ℕ) (table before : List ℕ) (c : Control) (l : Level) (cells stack : List ℕ) : Type 0 where
   pub g : Frame
-  pub nests : List Held
+  pub nests : List Open
   pub passed : ℕ
-  pub runs : (around : List Held) (mark : ℕ) (u : List Token)
+  pub runs : (around : List Open) (mark : ℕ) (u : List Token)
       → run (live from empty around) (tokensAt p 0 ++ (closerToken closer p mark ∷ u)) ≡ run (live c g (nests ++ around)) (closerToken closer p mark ∷ u)
   pub stands : Stands c g nests table before count top passed l stack cells
   pub kind : ofParameter c ≡ ofParameter from
   pub few : passed ≤ countOf (p .cells)
 
-pub ready-at-end : {p : Part} {from : Control} {count top : ℕ} {table before : List ℕ} {control : code.Control} {l : Level} {at : ℕ} {cells stack : List ℕ}
+pub ready-at-end : {p : Segment} {from : Control} {count top : ℕ} {table before : List ℕ} {control : code.Control} {l : Level} {at : ℕ} {cells stack : List ℕ}
     → Underway p from count top table before (controlOf control) l at cells stack → countOf (p .cells) ≤ at
     → (closer : ℕ) {s : Standing} {cells′ : List ℕ} → Readies control closer l stack cells s cells′
     → AtEnd closer p from count top table before (controlOf (s .control)) (s .level) cells′ stack
@@ -307,13 +307,13 @@ ready-at-end {p = p} {count = count} {top = top} {table = table} {before = befor
       runs = λ around mark u.
           h .runs around (closerToken closer p mark ∷ u)
           ∙ ap (λ (ts : List Token). run (live (controlOf control) (h .g) (h .nests ++ around)) ts) (end-then p at past (closerToken closer p mark ∷ u))
-          ∙ r .takes around (record { line = false; mark = mark; first = p .close }) u;
+          ∙ r .takes around (record { newline = false; mark = mark; first = p .close }) u;
       stands = r .stands;
       kind = r .kind ∙ h .kind;
       few = h .within;
     }
 
-pub end-settled : {p : Part} {from : Control} {count top : ℕ} {table before : List ℕ} {control : code.Control} {l : Level} {at : ℕ} {cells stack : List ℕ}
+pub end-settled : {p : Segment} {from : Control} {count top : ℕ} {table before : List ℕ} {control : code.Control} {l : Level} {at : ℕ} {cells stack : List ℕ}
     → Underway p from count top table before (controlOf control) l at cells stack → (closer : ℕ) {s : Standing} {cells′ : List ℕ}
     → Readies control closer l stack cells s cells′ → Settled (s .control) closer
 end-settled {count = count} {top = top} {table = table} {before = before} {at = at} h closer readies =
@@ -339,19 +339,19 @@ never-text ends-object e q = no-fail (rw q at e)
 never-text ends-parameter e q = no-fail (rw q at e)
 
 -- with its value the state behind it is reached
-closes : {c : Control} (class place : ℕ) (around : List Held) (mark : ℕ) (u : List Token) {action : Action} {g : Frame} {nests : List Held} {value : Syntax}
+closes : {c : Control} (class place : ℕ) (around : List Open) (mark : ℕ) (u : List Token) {action : Action} {g : Frame} {nests : List Open} {value : Syntax}
     → nests ≡ [] → IsValue action g value → Ends class c true action → look class (row c false) ≡ action
-    → run (act action class (record { line = false; mark = mark; first = place }) g (nests ++ around)) u ≡ run (closedState class place value around) u
+    → run (act action class (record { newline = false; mark = mark; first = place }) g (nests ++ around)) u ≡ run (closedState class place value around) u
 closes class place around mark u none is-popped ends entry = rw (none, ne-eqb class endOfText (never-text ends entry))
 closes class place around mark u none is-program (ends-text e) entry = rw (none, e)
 
-module _ {closer : ℕ} {p : Part} {from : Control} {count top : ℕ} {table before : List ℕ} {c : Control} {l : Level} {cells stack : List ℕ}
+module _ {closer : ℕ} {p : Segment} {from : Control} {count top : ℕ} {table before : List ℕ} {c : Control} {l : Level} {cells stack : List ℕ}
     (h : AtEnd closer p from count top table before c l cells stack) where
-  at-closer : (around : List Held) (mark : ℕ) (u : List Token) {action : Action} → look closer (row c false) ≡ action
+  at-closer : (around : List Open) (mark : ℕ) (u : List Token) {action : Action} → look closer (row c false) ≡ action
       → run (live from empty around) (tokensAt p 0 ++ (closerToken closer p mark ∷ u))
-      ≡ run (act action closer (record { line = false; mark = mark; first = p .close }) (h .g) (h .nests ++ around)) u
+      ≡ run (act action closer (record { newline = false; mark = mark; first = p .close }) (h .g) (h .nests ++ around)) u
   at-closer around mark u e =
-      h .runs around mark u ∙ step-run c (h .g) (h .nests ++ around) closer (record { line = false; mark = mark; first = p .close }) u e
+      h .runs around mark u ∙ step-run c (h .g) (h .nests ++ around) closer (record { newline = false; mark = mark; first = p .close }) u e
 
   -- it ends there with its value
   pub through : {action : Action} {n : ℕ} {cells′ : List ℕ} → Ends closer c true action → look closer (row c false) ≡ action

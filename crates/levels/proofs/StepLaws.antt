@@ -10,20 +10,20 @@ use lib.ListN.{length}
 use Rattle.tables.specs.Records.{mostTrees}
 use Rattle.grammar.specs.Tokens.{openParen, openBrace}
 use Rattle.grammar.specs.Grammar.{body}
-use Rattle.grammar.specs.Machine.{among, behindStatement, toStatement, Control, statementDue, ifFirst, Action, fail, goto, push, enter, look, row}
-use Rattle.controls.specs.Numbers.{settingBy, controlBy, controlOf, effectBy, closingBy, insideBy}
-use Rattle.controls.specs.Steps.{isOpener, isEnd, isSingle, Leads, Spans, Settled, Means, means-end, means-fail, means-goto, means-push, means-enter, Ends, goes-on}
+use Rattle.grammar.specs.Machinery.Machine.{among, behindStatement, toStatement, Control, statementDue, ifFirst, Action, fail, goto, push, enter, look, row}
+use Rattle.controls.specs.Machinery.Numbers.{settingBy, controlBy, controlOf, effectBy, closingBy, insideBy}
+use Rattle.controls.specs.Machinery.Steps.{isOpener, isEnd, isSingle, Leads, Spans, Settled, Means, means-end, means-fail, means-goto, means-push, means-enter, Ends, goes-on}
 use Rattle.controls.specs.declared.Control as code
 use Rattle.controls.specs.declared.Step.{Step}
 use Rattle.controls.specs.declared.Step.the-variants.{Fail, Goto, Push, Enter}
-use Rattle.waiting.specs.Waiting.{width, Held}
+use Rattle.waiting.specs.Machinery.Waiting.{width, Backed}
 use Rattle.waiting.specs.declared.Level.{Level}
-use Rattle.frames.specs.Effects.{StandsSomewhere, Readies, MayAffect, Affects, MayEnter, Enters, Valued, MayClose, ClosesGroup, EndsLevel, ofParameter}
+use Rattle.frames.specs.Machinery.Effects.{StandsSomewhere, Readies, MayAffect, Affects, MayEnter, Enters, Valued, MayClose, ClosesGroup, EndsLevel, ofParameter}
 use Rattle.frames.specs.declared.Standing.{Standing}
 use Rattle.frames.proofs.ParameterLaws.{leads-kind, spans-kind, parameter-inside}
-use Rattle.parts.specs.Parts.{Part, part, inside, countOf, classAt, sizeAt, placeAt, closerAt, lineAt, contentOf, Fine}
-use Rattle.parts.proofs.PartLaws.{inside-fine, inside-count, never-ends}
-use Rattle.levels.specs.Runs.{Begins, begins-statements, begins-expression, begins-object, begins-parameter, Through, Ran, ran-through, ran-dead, MayRun, MayOpen}
+use Rattle.segments.specs.Machinery.Segments.{Segment, segment, inside, countOf, classAt, sizeAt, placeAt, closerAt, lineAt, contentOf, Fine}
+use Rattle.segments.proofs.SegmentLaws.{inside-fine, inside-count, never-ends}
+use Rattle.levels.specs.Machinery.Runs.{Begins, begins-statements, begins-expression, begins-object, begins-parameter, Through, Ran, ran-through, ran-dead, MayRun, MayOpen}
 use Rattle.levels.specs.declared.Parsed.{Parsed}
 use Rattle.levels.specs.declared.Parsed.the-variants.{Done, Bad}
 use Rattle.levels.proofs.RunLaws as runs
@@ -77,25 +77,25 @@ opener-is class t = go (eqb class openParen) (eqb class openBrace) refl refl t
     go false true x y t = let e = eqb-true class openBrace y in (omega arith, rw e tt)
     go false false x y t = absurd t
 
-ran : {q : Part} {c : Control} {class count top n : ℕ} {a b cells stack : List ℕ} → Ran class q c count top a b (Done n) cells stack
+ran : {q : Segment} {c : Control} {class count top n : ℕ} {a b cells stack : List ℕ} → Ran class q c count top a b (Done n) cells stack
     → Through class q c count top a b n cells stack
 ran (ran-through t) = t
 
 -- a turn of the loop up to its step: the level is under way before a record, it is readied for the record's token, and the step is that of
 -- the table
-pub record Turn (p : Part) (from : Control) (count top : ℕ) (table before : List ℕ) (control : code.Control) (first : Level) (at : ℕ) (old stack : List ℕ)
-    (class : ℕ) (line : Bool) (s : Standing) (cells : List ℕ) (step : Step) : Type 0 where
+pub record Arrival (p : Segment) (from : Control) (count top : ℕ) (table before : List ℕ) (control : code.Control) (first : Level) (at : ℕ) (old stack : List ℕ)
+    (class : ℕ) (newline : Bool) (s : Standing) (cells : List ℕ) (step : Step) : Type 0 where
   pub fine : Fine p
   pub underway : Underway p from count top table before (controlOf control) first at old stack
   pub here : at < countOf (p .cells)
   pub is : class ≡ classAt (p .text) (p .cells) at
-  pub lined : line ≡ lineAt (p .cells) at
+  pub lined : newline ≡ lineAt (p .cells) at
   pub readies : Readies control class first stack old s cells
-  pub steps : Settled (s .control) class → Means (controlOf (s .control)) class step (look class (row (controlOf (s .control)) line))
+  pub steps : Settled (s .control) class → Means (controlOf (s .control)) class step (look class (row (controlOf (s .control)) newline))
 
-module _ {p : Part} {from : Control} {count top : ℕ} {table before : List ℕ} {control : code.Control} {first : Level} {at : ℕ} {old stack : List ℕ}
-    {class : ℕ} {line : Bool} {s : Standing} {cells : List ℕ} {step : Step}
-    (turn : Turn p from count top table before control first at old stack class line s cells step) where
+module _ {p : Segment} {from : Control} {count top : ℕ} {table before : List ℕ} {control : code.Control} {first : Level} {at : ℕ} {old stack : List ℕ}
+    {class : ℕ} {newline : Bool} {s : Standing} {cells : List ℕ} {step : Step}
+    (turn : Arrival p from count top table before control first at old stack class newline s cells step) where
   abbrev fine : Fine p
   fine = turn .fine
 
@@ -114,14 +114,14 @@ module _ {p : Part} {from : Control} {count top : ℕ} {table before : List ℕ}
   h : Underway p from count top table before c l at cells stack
   h = runs.ready-underway fine (turn .underway) class (sym is) here refl (turn .readies)
 
-  means : Means c class step (look class (row c line))
+  means : Means c class step (look class (row c newline))
   means = turn .steps (runs.ready-settled fine (turn .underway) class (sym is) here refl (turn .readies))
 
-  entry-at : {action : Action} → look class (row c line) ≡ action → look class (row c (lineAt (p .cells) at)) ≡ action
+  entry-at : {action : Action} → look class (row c newline) ≡ action → look class (row c (lineAt (p .cells) at)) ≡ action
   entry-at e = rw (turn .lined) at e
 
-  means-as : {s : Step} → step ≡ s → Means c class s (look class (row c line))
-  means-as e = subst (λ (s : Step). Means c class s (look class (row c line))) e means
+  means-as : {s : Step} → step ≡ s → Means c class s (look class (row c newline))
+  means-as e = subst (λ (s : Step). Means c class s (look class (row c newline))) e means
 
   abbrev somewhere : StandsSomewhere c l stack cells
   somewhere = record { g = h .g; nests = h .nests; table = table; stack₀ = before; first = count; floor = top; passed = at; stands = h .stands }
@@ -141,7 +141,7 @@ module _ {p : Part} {from : Control} {count top : ℕ} {table before : List ℕ}
 
   -- it goes on
   module _ {to : code.Control} {effect : ℕ} (e : step ≡ Goto to effect) where
-    goes : GotoEntry c class (controlOf to) effect (look class (row c line))
+    goes : GotoEntry c class (controlOf to) effect (look class (row c newline))
     goes = goto-entry (means-as e)
 
     pub may-affect : MayAffect effect class (p .base + at) l stack cells
@@ -163,7 +163,7 @@ module _ {p : Part} {from : Control} {count top : ℕ} {table before : List ℕ}
 
   -- it enters a nest
   module _ {to : code.Control} {number : ℕ} (e : step ≡ Enter to number) where
-    enters : EnterEntry c class (controlOf to) number (look class (row c line))
+    enters : EnterEntry c class (controlOf to) number (look class (row c newline))
     enters = enter-entry (means-as e)
 
     pub may-enter : MayEnter number l stack cells
@@ -179,7 +179,7 @@ module _ {p : Part} {from : Control} {count top : ℕ} {table before : List ℕ}
 
   -- it opens a group
   module _ {to : code.Control} {closing : ℕ} (e : step ≡ Push to closing) where
-    pushes : PushEntry c class (controlOf to) closing (look class (row c line))
+    pushes : PushEntry c class (controlOf to) closing (look class (row c newline))
     pushes = push-entry (means-as e)
 
     pub class-small : class ≤ openBrace
@@ -249,9 +249,9 @@ module _ {p : Part} {from : Control} {count top : ℕ} {table before : List ℕ}
           (h .stands) (pushes .spans) valued (λ q. ran inner .plain (parameter-inside closing q)) fewer few) (spans-kind (pushes .spans)) (long ∙ long₁)
 
 -- behind the last record
-module _ {closer : ℕ} {p : Part} {from : Control} {count top : ℕ} {table before : List ℕ} {c : Control} {l : Level} {cells stack : List ℕ}
+module _ {closer : ℕ} {p : Segment} {from : Control} {count top : ℕ} {table before : List ℕ} {c : Control} {l : Level} {cells stack : List ℕ}
     (h : AtEnd closer p from count top table before c l cells stack) where
-  pub may-end : Held l stack cells
+  pub may-end : Backed l stack cells
   may-end = record { table = table; first = count; done = _; ps = _; operand = _; holds = h .stands .holds }
 
   pub ends : {b : Bool} {n : ℕ} {cells′ : List ℕ} → Ends closer c b (look closer (row c false)) → b ≡ true → EndsLevel l stack cells n cells′
@@ -266,19 +266,19 @@ module _ {closer : ℕ} {p : Part} {from : Control} {count top : ℕ} {table bef
   dies e t = ran-dead (dies-at-end h (goes-on-entry (subst (λ (x : Bool). Ends closer c x (look closer (row c false))) t e)))
 
 -- the inside of a group, as the code has it
-any-close : {text cells : List ℕ} {base close : ℕ} → Fine (part text cells base close) → Fine (part text cells base 0)
+any-close : {text cells : List ℕ} {base close : ℕ} → Fine (segment text cells base close) → Fine (segment text cells base 0)
 any-close fine = record { few = fine .few; at = fine .at }
 
-pub open-any : {text cells : List ℕ} {base close at closer count top : ℕ} {stack : List ℕ} → MayOpen (part text cells base close) at closer count top stack
-    → MayOpen (part text cells base 0) at closer count top stack
+pub open-any : {text cells : List ℕ} {base close at closer count top : ℕ} {stack : List ℕ} → MayOpen (segment text cells base close) at closer count top stack
+    → MayOpen (segment text cells base 0) at closer count top stack
 open-any may = record { fine = any-close (may .fine); here = may .here; low = may .low; deep = may .deep; closes = may .closes }
 
-module _ {p : Part} {at closer count top : ℕ} {stack within : List ℕ} {end : ℕ} (may : MayOpen p at closer count top stack)
+module _ {p : Segment} {at closer count top : ℕ} {stack within : List ℕ} {end : ℕ} (may : MayOpen p at closer count top stack)
     (content : within ≡ contentOf (p .cells) at) (closer-is : end ≡ closerAt (p .cells) at) where
   size-inside : countOf within ≡ sizeAt (p .cells) at - 1
   size-inside = ap countOf content ∙ inside-count (may .fine) at (may .here)
 
-  pub may-run : MayRun (part (p .text) within (p .base + at + 1) end) closer count top stack
+  pub may-run : MayRun (segment (p .text) within (p .base + at + 1) end) closer count top stack
   may-run =
       let f = may .fine .at at (may .here) in
       record {
@@ -292,7 +292,7 @@ module _ {p : Part} {at closer count top : ℕ} {stack within : List ℕ} {end :
   fewer-inside = let f = may .fine .at at (may .here) in omega (arith, size-inside, f .some, f .fits)
 
   pub as-inside : {c c′ : Control} {table before : List ℕ} {r : Parsed} {cells stack′ : List ℕ}
-      → Ran closer (part (p .text) within (p .base + at + 1) end) c count top table before r cells stack′ → c ≡ c′
+      → Ran closer (segment (p .text) within (p .base + at + 1) end) c count top table before r cells stack′ → c ≡ c′
       → Ran closer (inside p at) c′ count top table before r cells stack′
   as-inside ran e = rw (content, closer-is, e) at ran
 
@@ -344,7 +344,7 @@ pub block-inside : {closing : ℕ} → closing ≡ 5 → statementDue false (set
 unfolding insideBy settingBy
 block-inside e = rw e
 
-pub ran-as : {class : ℕ} {p : Part} {c d : Control} {count top : ℕ} {table before : List ℕ} {r : Parsed} {cells stack : List ℕ}
+pub ran-as : {class : ℕ} {p : Segment} {c d : Control} {count top : ℕ} {table before : List ℕ} {r : Parsed} {cells stack : List ℕ}
     → Ran class p c count top table before r cells stack → c ≡ d → Ran class p d count top table before r cells stack
 ran-as {class = class} {p = p} {count = count} {top = top} {table = table} {before = before} {r = r} {cells = cells} {stack = stack} ran e =
     subst (λ (k : Control). Ran class p k count top table before r cells stack) e ran

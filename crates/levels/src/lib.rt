@@ -2,9 +2,9 @@
 // part of the tree table inside a group, whose first record has the index `base` in the whole table, and behind which a token of the
 // class `closer` stands at the place `close`. Inside a level nothing is called for a part: what waits stands on the lent stack.
 ghost use Prim.Native.Nat.{_≤_};
-ghost use Rattle.controls.specs.Numbers.{controlOf, insideBy};
-ghost use Rattle.parts.specs.Parts.{part, inside};
-ghost use Rattle.levels.specs.Runs.{Begins, MayRun, MayOpen, Ran, RanStatements, RanExpression, RanFunction};
+ghost use Rattle.controls.specs.Machinery.Numbers.{controlOf, insideBy};
+ghost use Rattle.segments.specs.Machinery.Segments.{segment, inside};
+ghost use Rattle.levels.specs.Machinery.Runs.{Begins, MayRun, MayOpen, Ran, RanStatements, RanExpression, RanFunction};
 use controls::Control;
 use controls::Step;
 use tables::TreeRecord;
@@ -29,31 +29,29 @@ fn level(
     syntax: &mut [u32],
     count: usize,
 ) -> Parsed
-    requires { ⌜ MayRun (part (now text) (now trees) base close) closer count top (now waiting) × Begins (controlOf from) ⌝ }
-    ensures { λ r. ⌜ Ran closer (part (now (text .entry)) (now (trees .entry)) base close) (controlOf from) count top (now (syntax .entry)) (now (waiting .entry)) r (now (syntax .exit)) (now (waiting .exit)) ⌝ }
+    requires { ⌜ MayRun (segment (now text) (now trees) base close) closer count top (now waiting) × Begins (controlOf from) ⌝ }
+    ensures { λ r. ⌜ Ran closer (segment (now (text .entry)) (now (trees .entry)) base close) (controlOf from) count top (now (syntax .entry)) (now (waiting .entry)) r (now (syntax .exit)) (now (waiting .exit)) ⌝ }
 {
     let number = trees.len() / TreeRecord::WIDTH;
     let mut control = from;
     let mut l = frames::empty(count, top);
     let mut at = 0;
     while at < number {
-        let class = parts::class_at(text, trees, at);
-        let line = parts::line_at(trees, at);
+        let class = segments::class_at(text, trees, at);
+        let newline = segments::newline_at(trees, at);
         let s = frames::ready(control, class, l, waiting, syntax);
-        let here = s.control;
-        let so_far = s.level;
-        let step = controls::row(here, class, line);
+        let step = controls::row(s.control, class, newline);
         match step {
             Step::Fail => {
-                return Parsed::Bad(parts::place_at(trees, close, at));
+                return Parsed::Bad(segments::place_at(trees, close, at));
             }
             Step::Goto(next, effect) => {
-                l = frames::affect(effect, class, base + at, so_far, waiting, syntax);
+                l = frames::affect(effect, class, base + at, s.level, waiting, syntax);
                 control = next;
                 at = at + 1;
             }
             Step::Enter(next, setting) => {
-                l = frames::entered(so_far, setting, base + at, waiting, syntax);
+                l = frames::entered(s.level, setting, base + at, waiting, syntax);
                 control = next;
                 at = at + 1;
             }
@@ -66,28 +64,26 @@ fn level(
                     class + 1,
                     closing,
                     waiting,
-                    so_far.top,
+                    s.level.top,
                     syntax,
-                    so_far.count,
+                    s.level.count,
                 );
                 match inner {
                     Parsed::Bad(place) => {
                         return Parsed::Bad(place);
                     }
                     Parsed::Done(n) => {
-                        l = frames::close(closing, base + at, n, so_far, waiting, syntax);
+                        l = frames::close(closing, base + at, n, s.level, waiting, syntax);
                         control = behind;
-                        at = at + parts::size_at(trees, at);
+                        at = at + segments::size_at(trees, at);
                     }
                 }
             }
         }
     }
     let s = frames::ready(control, closer, l, waiting, syntax);
-    let last = s.control;
-    if controls::ends(last, closer) {
-        let all = s.level;
-        return Parsed::Done(frames::ended(all, waiting, syntax));
+    if controls::ends(s.control, closer) {
+        return Parsed::Done(frames::ended(s.level, waiting, syntax));
     }
     Parsed::Bad(close)
 }
@@ -105,11 +101,11 @@ fn group(
     syntax: &mut [u32],
     count: usize,
 ) -> Parsed
-    requires { ⌜ MayOpen (part (now text) (now trees) base 0) at closer count top (now waiting) ⌝ }
-    ensures { λ r. ⌜ Ran closer (inside (part (now (text .entry)) (now (trees .entry)) base 0) at) (insideBy closing) count top (now (syntax .entry)) (now (waiting .entry)) r (now (syntax .exit)) (now (waiting .exit)) ⌝ }
+    requires { ⌜ MayOpen (segment (now text) (now trees) base 0) at closer count top (now waiting) ⌝ }
+    ensures { λ r. ⌜ Ran closer (inside (segment (now (text .entry)) (now (trees .entry)) base 0) at) (insideBy closing) count top (now (syntax .entry)) (now (waiting .entry)) r (now (syntax .exit)) (now (waiting .exit)) ⌝ }
 {
-    let within = parts::inside(trees, at);
-    let close = parts::closer_at(trees, at);
+    let within = segments::inside(trees, at);
+    let close = segments::closer_at(trees, at);
     let first = base + at + 1;
     match closing {
         controls::TO_BLOCK => statements(
@@ -163,8 +159,8 @@ pub fn statements(
     syntax: &mut [u32],
     count: usize,
 ) -> Parsed
-    requires { ⌜ MayRun (part (now text) (now trees) base close) closer count top (now waiting) × (scope ≤ 1) ⌝ }
-    ensures { λ r. ⌜ RanStatements scope closer (part (now (text .entry)) (now (trees .entry)) base close) count top (now (syntax .entry)) (now (waiting .entry)) r (now (syntax .exit)) (now (waiting .exit)) ⌝ }
+    requires { ⌜ MayRun (segment (now text) (now trees) base close) closer count top (now waiting) × (scope ≤ 1) ⌝ }
+    ensures { λ r. ⌜ RanStatements scope closer (segment (now (text .entry)) (now (trees .entry)) base close) count top (now (syntax .entry)) (now (waiting .entry)) r (now (syntax .exit)) (now (waiting .exit)) ⌝ }
 {
     let from = controls::stand(
         controls::STATEMENT_DUE,
@@ -199,8 +195,8 @@ fn expression(
     syntax: &mut [u32],
     count: usize,
 ) -> Parsed
-    requires { ⌜ MayRun (part (now text) (now trees) base close) closer count top (now waiting) ⌝ }
-    ensures { λ r. ⌜ RanExpression closing closer (part (now (text .entry)) (now (trees .entry)) base close) count top (now (syntax .entry)) (now (waiting .entry)) r (now (syntax .exit)) (now (waiting .exit)) ⌝ }
+    requires { ⌜ MayRun (segment (now text) (now trees) base close) closer count top (now waiting) ⌝ }
+    ensures { λ r. ⌜ RanExpression closing closer (segment (now (text .entry)) (now (trees .entry)) base close) count top (now (syntax .entry)) (now (waiting .entry)) r (now (syntax .exit)) (now (waiting .exit)) ⌝ }
 {
     let from = controls::inside_of(closing);
     level(
@@ -229,8 +225,8 @@ fn function(
     syntax: &mut [u32],
     count: usize,
 ) -> Parsed
-    requires { ⌜ MayRun (part (now text) (now trees) base close) closer count top (now waiting) ⌝ }
-    ensures { λ r. ⌜ RanFunction closer (part (now (text .entry)) (now (trees .entry)) base close) count top (now (syntax .entry)) (now (waiting .entry)) r (now (syntax .exit)) (now (waiting .exit)) ⌝ }
+    requires { ⌜ MayRun (segment (now text) (now trees) base close) closer count top (now waiting) ⌝ }
+    ensures { λ r. ⌜ RanFunction closer (segment (now (text .entry)) (now (trees .entry)) base close) count top (now (syntax .entry)) (now (waiting .entry)) r (now (syntax .exit)) (now (waiting .exit)) ⌝ }
 {
     statements(
         text,

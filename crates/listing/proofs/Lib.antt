@@ -1,3 +1,2 @@
-pub mod WritingLaws
 pub mod ListingLaws
-pub mod Examples
+pub mod RespacedLaws

@@ -1,137 +1,168 @@
--- The definitions of a listing, as the code goes through them.
-use mathlib.Core.Path.{_≡_, refl, sym, ap}
-use mathlib.Core.Bool.{Bool, true, false, cond}
-use mathlib.Core.List.{List, [], _∷_, _++_, append-assoc}
-use Prim.Native.Nat.{ℕ, zero, suc, _+_, _-_, _*_, _/_, _%_, _<_, _≤_}
+-- What the calls leave is what is listed, all of it; and the front of a text that a buffer holds is listed as the whole text is.
+use mathlib.Core.Path.{_≡_, refl, sym, ap, _∙_}
+use mathlib.Core.Bool.{Bool, true, false}
+use mathlib.Core.List.{List, _++_}
+use Prim.Native.Nat.{ℕ, _+_, _*_, _<_, _≤_}
 use native.Mathlib.Omega.{arith}
-use borrow.Author.Tests.{lt-ltb, le-ltb, ltb-true, ltb-false, le-leb, lt-leb}
-use lib.Dec.{ltb}
-use lib.ListN.{length, getD, take, drop, replicate, length-append, length-drop, drop-of-length-le}
-use lib.Seq.{drop-drop, take-append-le, drop-append-le}
-use Rattle.text.specs.Quoted.{byte, bytes}
-use Rattle.text.proofs.Lists.{drop-at}
+use borrow.Author.Tests.{leb-true, leb-false, lt-leb, le-leb}
+use lib.Dec.{leb}
+use lib.ListN.{length, take, drop, replicate, length-append, length-take}
+use lib.Seq.{take-all}
+use Rattle.text.specs.Quoted.{bytes}
 use Rattle.answers.specs.declared.Answer.{Answer}
-use Rattle.prefix.specs.Trees.{count}
+use Rattle.rule.specs.Trees.{count}
 use Rattle.prefix.specs.Reading.{Reading, accepted, refused}
-use Rattle.tables.specs.Records.{treeWidth}
-use Rattle.reader.specs.Records.{records}
+use Rattle.tables.specs.Records.{treeWidth, mostTrees, syntaxWidth, mostSyntax}
+use Rattle.storing.specs.Records.{records}
 use Rattle.reader.specs.Read.{longText, mostBytes, readingFor, answerOf, tableAfter}
-use Rattle.reader.proofs.CellLaws.{records-length}
-use Rattle.listing.specs.Listing.{digit, digits, decimal, after, line, lines, listingOf, mostListed, listedReading}
+use Rattle.storing.proofs.CellLaws.{records-length}
+use Rattle.grammar.specs.Syntax.{size, syntaxRecords}
+use Rattle.parser.specs.Parse.{Parsing, program, denied, parsingFor, treesAfter, syntaxAfter}
+use Rattle.parser.proofs.WrittenCells.{syntax-length}
+use Rattle.respacer.specs.Respace.{wholeReading}
+use Rattle.printing.specs.Printed.{listed, refusal, answered, FitsTable, listingRoom}
+use Rattle.printing.proofs.WritingLaws.{all-written}
+use Rattle.printing.proofs.PrintedLaws.{listed-front, Said}
+use Rattle.listing.specs.Listing.{printedTrees, mostListed, mostListedTrees, shortReading, wholeTrees, printedSyntax, wholeSyntax, printedRespaced, Front, Holds, Counts}
 
--- a digit alone
-pub decimal-one : (n : ℕ) → n < 10 → decimal n ≡ digit (n % 10) ∷ []
-unfolding decimal digits
-decimal-one n h = rw (lt-ltb n 10 h)
+-- What answers the same of every text that is too long answers of the front that a buffer holds as of the whole text, if the buffer has a
+-- byte more than may be read.
+module _ {X : Type 0} (f : List ℕ → X) (x : X) (most : ℕ) (long : (text : List ℕ) → most < length text → f text ≡ x) where
+  cut-same : (text : List ℕ) → f (take (most + 1) text) ≡ f text
+  cut-same text = go (leb (length text) most) refl
+    where
+      go : (b : Bool) → leb (length text) most ≡ b → f (take (most + 1) text) ≡ f text
+      go true e = ap f (take-all (most + 1) text (omega (arith, leb-true (length text) most e)))
+      go false e =
+          let h : most < length text = leb-false (length text) most e in
+          long (take (most + 1) text) (omega (arith, length-take (most + 1) text)) ∙ sym (long text h)
 
-higher : (b : Bool) {x y : List ℕ} → (b ≡ false → x ≡ y) → cond b [] x ≡ cond b [] y
-higher true e = refl
-higher false e = e refl
+  front-same : (buffer : List ℕ) (n : ℕ) (text : List ℕ) → length buffer ≡ most + 1 → Front buffer n text → f (take n buffer) ≡ f text
+  front-same buffer n text l e = ap f (rw l at e) ∙ cut-same text
 
--- any number of digits that suffices gives the same
-enough : (k m n : ℕ) → n < k → n < m → digits k n ≡ digits m n
-unfolding digits
-enough zero m n h g = absurd (omega arith)
-enough (suc k) zero n h g = absurd (omega arith)
-enough (suc k) (suc m) n h g =
-    ap (λ (l : List ℕ). l ++ (digit (n % 10) ∷ []))
-    (higher (ltb n 10) (λ e. let t : 10 ≤ n = ltb-false n 10 e in enough k m (n / 10) (omega arith) (omega arith)))
+short-long : (text : List ℕ) → mostListed < length text → shortReading text ≡ refused longText mostBytes
+unfolding shortReading
+short-long text h = rw (lt-leb (length text) mostListed h)
 
--- a last digit, and those before it
-pub decimal-more : (n : ℕ) → 10 ≤ n → decimal n ≡ decimal (n / 10) ++ (digit (n % 10) ∷ [])
-unfolding decimal digits
-decimal-more n h = rw (le-ltb n 10 h, enough n (suc (n / 10)) (n / 10) (omega arith) (omega arith))
+reading-long : (cells : ℕ) (text : List ℕ) → mostBytes < length text → readingFor text cells ≡ refused longText mostBytes
+unfolding readingFor
+reading-long cells text h = rw (lt-leb (length text) mostBytes h)
 
--- the reading that is listed: length first
-module _ (text before : List ℕ) where
-  pub listed-long : (now : List ℕ) → mostListed < length text → now ≡ replicate (length before) 0
-      → (Answer.Refused longText mostBytes ≡ answerOf (listedReading text (length before))) × (now ≡ tableAfter (listedReading text (length before)) before)
-  unfolding listedReading
-  listed-long now long e = rw (lt-leb (length text) mostListed long) (refl, e)
+syntax-long : (text : List ℕ) → mostBytes < length text → wholeSyntax text ≡ denied longText mostBytes
+unfolding parsingFor
+syntax-long text h = rw (reading-long (treeWidth * mostTrees) text h) refl
 
-  pub listed-short : length text ≤ mostListed → readingFor text (length before) ≡ listedReading text (length before)
-  unfolding listedReading
-  listed-short short = rw (le-leb (length text) mostListed short)
+whole-long : (text : List ℕ) → mostBytes < length text → wholeReading text ≡ refused longText mostBytes
+unfolding wholeReading
+whole-long text h = rw (lt-leb (length text) mostBytes h)
 
--- a line's numbers: the first, and what stands behind it
-line-cons : (n : ℕ) (rest : List ℕ) → line (n ∷ rest) ≡ (decimal n ++ (after rest ∷ [])) ++ line rest
-unfolding line
-line-cons n rest = sym (append-assoc (decimal n) (after rest ∷ []) (line rest))
+respaced-long : (text : List ℕ) → mostBytes < length text → printedRespaced text (wholeReading text) ≡ refusal longText mostBytes
+unfolding printedRespaced
+respaced-long text h = rw (whole-long text h) refl
 
-pub line-none : line [] ≡ []
-unfolding line
-line-none = refl
+short-front : (buffer : List ℕ) (n : ℕ) (text : List ℕ) → length buffer ≡ mostListed + 1 → Front buffer n text → shortReading (take n buffer) ≡ shortReading text
+short-front = front-same shortReading (refused longText mostBytes) mostListed short-long
 
-pub line-one : (n : ℕ) → line (n ∷ []) ≡ decimal n ++ (byte "\n" ∷ [])
-unfolding line
-line-one n = refl
+module _ (buffer : List ℕ) (n : ℕ) (text : List ℕ) (l : length buffer ≡ mostBytes + 1) (e : Front buffer n text) where
+  trees-front : wholeTrees (take n buffer) ≡ wholeTrees text
+  trees-front = front-same wholeTrees (refused longText mostBytes) mostBytes (reading-long (treeWidth * mostTrees)) buffer n text l e
 
-pub line-two : (n m : ℕ) → line (n ∷ m ∷ []) ≡ (decimal n ++ (byte "," ∷ [])) ++ (decimal m ++ (byte "\n" ∷ []))
-line-two n m = rw (line-cons n (m ∷ []), line-one m) refl
+  syntax-front : wholeSyntax (take n buffer) ≡ wholeSyntax text
+  syntax-front = front-same wholeSyntax (denied longText mostBytes) mostBytes syntax-long buffer n text l e
 
-after-place : (s : List ℕ) (i : ℕ) → after (drop i s) ≡ cond (ltb i (length s)) (byte ",") (byte "\n")
-after-place s i = go (ltb i (length s)) refl
-  where
-    go : (b : Bool) → ltb i (length s) ≡ b → after (drop i s) ≡ cond b (byte ",") (byte "\n")
-    go true e = rw (drop-at s i (ltb-true i (length s) e)) refl
-    go false e = rw (drop-of-length-le s (ltb-false i (length s) e)) refl
+  pub whole-front : wholeReading (take n buffer) ≡ wholeReading text
+  whole-front = front-same wholeReading (refused longText mostBytes) mostBytes whole-long buffer n text l e
 
--- and so from any place of a line on
-pub line-step : (s : List ℕ) (i : ℕ) → i < length s → (b : ℕ) → b ≡ cond (ltb (i + 1) (length s)) (byte ",") (byte "\n")
-    → line (drop i s) ≡ (decimal (getD s i 0) ++ (b ∷ [])) ++ line (drop (i + 1) s)
-line-step s i h b e = rw (drop-at s i h, e, ← after-place s (i + 1)) (line-cons (getD s i 0) (drop (i + 1) s))
+  pub respaced-front : printedRespaced (take n buffer) (wholeReading (take n buffer)) ≡ printedRespaced text (wholeReading text)
+  respaced-front = front-same (λ t. printedRespaced t (wholeReading t)) (refusal longText mostBytes) mostBytes respaced-long buffer n text l e
 
--- the lines of a table's records, from any of them on
-pub lines-none : (cells : List ℕ) → lines 0 cells ≡ []
-unfolding lines
-lines-none cells = refl
+-- the reading that `treelist` lists: length first
+pub short-read : (text before now : List ℕ) (answer : Answer) → length before ≡ treeWidth * mostListedTrees → length text ≤ mostListed
+    → answer ≡ answerOf (readingFor text (length before)) → now ≡ tableAfter (readingFor text (length before)) before
+    → (answer ≡ answerOf (shortReading text)) × (now ≡ tableAfter (shortReading text) before)
+unfolding shortReading
+short-read text before now answer l h e t =
+    let same : readingFor text (length before) ≡ readingFor text (treeWidth * mostListedTrees) = ap (readingFor text) l in
+    rw (le-leb (length text) mostListed h) (e ∙ ap answerOf same, t ∙ ap (λ (r : Reading). tableAfter r before) same)
 
-lines-suc : (n : ℕ) (cells : List ℕ) → lines (suc n) cells ≡ line (take treeWidth cells) ++ lines n (drop treeWidth cells)
-unfolding lines
-lines-suc n cells = refl
+pub long-read : (text before now : List ℕ) → mostListed < length text → now ≡ replicate (length before) 0
+    → (Answer.Refused longText mostBytes ≡ answerOf (shortReading text)) × (now ≡ tableAfter (shortReading text) before)
+long-read text before now h e = rw (short-long text h) (refl, e)
 
-pub lines-step : (cells : List ℕ) (n i : ℕ) → i < n
-    → lines (n - i) (drop (treeWidth * i) cells) ≡ line (take treeWidth (drop (treeWidth * i) cells)) ++ lines (n - (i + 1)) (drop (treeWidth * (i + 1)) cells)
-lines-step cells n i h =
-    let e : n - i ≡ suc (n - (i + 1)) = omega arith in
-    let f : treeWidth * (i + 1) ≡ treeWidth * i + treeWidth = omega arith in
-    rw (e, lines-suc (n - (i + 1)) (drop (treeWidth * i) cells), drop-drop treeWidth (treeWidth * i) cells, f) refl
+-- An answer and the table beside it: the records are there, and they are what is listed.
+record Lists (heading : List ℕ) (width : ℕ) (cells : List ℕ) (answer : Answer) (said : List ℕ) : Type 0 where
+  within : FitsTable width cells answer
+  said-is : answered heading width cells answer ≡ said
 
--- what stands behind the records is not listed
-pub lines-front : (n : ℕ) (cells rest : List ℕ) → treeWidth * n ≤ length cells → lines n (cells ++ rest) ≡ lines n cells
-lines-front zero cells rest h = rw (lines-none (cells ++ rest), lines-none cells) refl
-lines-front (suc n) cells rest h =
-    rw (lines-suc n (cells ++ rest), lines-suc n cells, take-append-le treeWidth cells rest (omega arith), drop-append-le treeWidth cells rest (omega arith))
-    (ap (λ (l : List ℕ). line (take treeWidth cells) ++ l) (lines-front n (drop treeWidth cells) rest (omega (arith, length-drop treeWidth cells))))
+counted : (heading : List ℕ) (width n : ℕ) (cells rest : List ℕ) → length cells ≡ width * n
+    → Lists heading width (cells ++ rest) (Answer.Accepted n) (listed heading width n cells)
+counted heading width n cells rest l =
+    record { within = omega (arith, length-append cells rest); said-is = listed-front heading width n cells rest (omega arith) }
 
--- the answer and the table that a reading leaves give its listing
-pub accepted-fits : (r : Reading) (before now : List ℕ) (n : ℕ) → Answer.Accepted n ≡ answerOf r → now ≡ tableAfter r before → length now ≡ length before
-    → treeWidth * n ≤ length now
-accepted-fits (accepted trees) before now n e t l =
-    let m : n ≡ count trees = cc in
-    omega (
-      arith,
-      m,
-      ap length t,
-      length-append (records trees) (drop (treeWidth * count trees) before),
-      length-drop (treeWidth * count trees) before,
-      records-length trees,
-    )
-accepted-fits (refused number place) before now n e t l = absurd (let z : _≡_ {A = ℕ} 0 1 = cc in omega arith)
+trees-listed : (r : Reading) (before : List ℕ) → Lists (bytes "trees,") treeWidth (tableAfter r before) (answerOf r) (printedTrees r)
+unfolding printedTrees
+trees-listed (accepted trees) before = counted (bytes "trees,") treeWidth (count trees) (records trees) (drop (treeWidth * count trees) before) (records-length trees)
+trees-listed (refused number place) before = record { within = tt; said-is = refl }
 
-pub accepted-listing : (r : Reading) (before now : List ℕ) (n : ℕ) → Answer.Accepted n ≡ answerOf r → now ≡ tableAfter r before
-    → listingOf r ≡ bytes "trees," ++ (line (n ∷ []) ++ lines n now)
-unfolding listingOf
-accepted-listing (accepted trees) before now n e t =
-    let m : n ≡ count trees = cc in
-    let f = lines-front (count trees) (records trees) (drop (treeWidth * count trees) before) (omega (arith, records-length trees)) in
-    rw (m, t, f) refl
-accepted-listing (refused number place) before now n e t = absurd (let z : _≡_ {A = ℕ} 0 1 = cc in omega arith)
+syntax-listed : (p : Parsing) (before : List ℕ) → Lists (bytes "syntax,") syntaxWidth (syntaxAfter p before) (Rattle.parser.specs.Parse.answerOf p) (printedSyntax p)
+unfolding printedSyntax
+syntax-listed (program trees syntax) before =
+    counted (bytes "syntax,") syntaxWidth (size syntax) (syntaxRecords syntax) (drop (syntaxWidth * size syntax) before) (omega (arith, syntax-length syntax))
+syntax-listed (denied number place) before = record { within = tt; said-is = refl }
 
-pub refused-listing : (r : Reading) (n p : ℕ) → Answer.Refused n p ≡ answerOf r → listingOf r ≡ bytes "refused," ++ line (n ∷ p ∷ [])
-unfolding listingOf
-refused-listing (accepted trees) n p e = absurd (let z : _≡_ {A = ℕ} 0 1 = cc in omega arith)
-refused-listing (refused number place) n p e =
-    let f : n ≡ number = cc in
-    let g : p ≡ place = cc in
-    rw (f, g) refl
+-- All that is said has room, so all of it is written.
+pub counts : (said output now : List ℕ) (at : ℕ) → at ≡ length said → now ≡ said ++ drop at output → Counts at now
+counts said output now at e p =
+    let l : at ≤ length now = omega (arith, ap length p, length-append said (drop at output)) in
+    (l, omega (arith, length-take at now))
+
+whole-listed : (heading : List ℕ) (width : ℕ) (cells : List ℕ) (answer : Answer) (said output now : List ℕ) (at : ℕ) → length heading ≤ 19
+    → Lists heading width cells answer said → Said heading width cells answer output now at → length output ≡ listingRoom (length cells) → Counts at now × Holds said output now at
+whole-listed heading width cells answer said output now at h l p room =
+    let w = all-written (answered heading width cells answer) output now at (p .0) (omega (arith, p .1 h)) in
+    let e : at ≡ length said = w .0 ∙ ap length (l .said-is) in
+    let k : now ≡ said ++ drop at output = w .1 ∙ ap (λ (b : List ℕ). b ++ drop at output) (l .said-is) in
+    (counts said output now at e k, record { count-is = e; after-is = k })
+
+-- The same for every text of which the buffer holds the front.
+module _ (buffer : List ℕ) (n : ℕ) (front : List ℕ) (is : front ≡ take n buffer) (output after : List ℕ) (answer : Answer) (at : ℕ) where
+  trees-printed : (f : List ℕ → Reading) (table now : List ℕ) → answer ≡ answerOf (f front) → now ≡ tableAfter (f front) table
+      → Said (bytes "trees,") treeWidth now answer output after at → length output ≡ listingRoom (length now) → ((text : List ℕ) → Front buffer n text → f (take n buffer) ≡ f text)
+      → Counts at after × ((text : List ℕ) → Front buffer n text → Holds (printedTrees (f text)) output after at × (now ≡ tableAfter (f text) table))
+  trees-printed f table now e t p room same =
+      let l : Lists (bytes "trees,") treeWidth now answer (printedTrees (f front)) = rw (e, t) (trees-listed (f front) table) in
+      let w = whole-listed (bytes "trees,") treeWidth now answer (printedTrees (f front)) output after at (omega arith) l p room in
+      let to : (text : List ℕ) → Front buffer n text → f front ≡ f text = λ text o. ap f is ∙ same text o in
+      (w .0, λ text o. (rw (to text o) at (w .1), rw (to text o) at t))
+
+  pub short-printed : (table now : List ℕ) → answer ≡ answerOf (shortReading front) → now ≡ tableAfter (shortReading front) table
+      → Said (bytes "trees,") treeWidth now answer output after at → length output ≡ listingRoom (length now) → length buffer ≡ mostListed + 1
+      → Counts at after × ((text : List ℕ) → Front buffer n text → Holds (printedTrees (shortReading text)) output after at × (now ≡ tableAfter (shortReading text) table))
+  short-printed table now e t p room l = trees-printed shortReading table now e t p room (λ text o. short-front buffer n text l o)
+
+  pub whole-printed : (table now : List ℕ) → length table ≡ treeWidth * mostTrees → answer ≡ answerOf (readingFor front (length table)) → now ≡ tableAfter (readingFor front (length table)) table
+      → Said (bytes "trees,") treeWidth now answer output after at → length output ≡ listingRoom (length now) → length buffer ≡ mostBytes + 1
+      → Counts at after × ((text : List ℕ) → Front buffer n text → Holds (printedTrees (wholeTrees text)) output after at × (now ≡ tableAfter (wholeTrees text) table))
+  whole-printed table now cells e t p room l =
+      let same : readingFor front (length table) ≡ wholeTrees front = ap (readingFor front) cells in
+      trees-printed wholeTrees table now (e ∙ ap answerOf same) (t ∙ ap (λ (r : Reading). tableAfter r table) same) p room (λ text o. trees-front buffer n text l o)
+
+  pub syntax-printed : (trees treesNow table now : List ℕ) → length trees ≡ treeWidth * mostTrees → length table ≡ syntaxWidth * mostSyntax
+      → answer ≡ Rattle.parser.specs.Parse.answerOf (parsingFor front (length trees) (length table)) → treesNow ≡ treesAfter (parsingFor front (length trees) (length table)) trees
+      → now ≡ syntaxAfter (parsingFor front (length trees) (length table)) table
+      → Said (bytes "syntax,") syntaxWidth now answer output after at → length output ≡ listingRoom (length now) → length buffer ≡ mostBytes + 1
+      → Counts at after × ((text : List ℕ) → Front buffer n text → Holds (printedSyntax (wholeSyntax text)) output after at × (treesNow ≡ treesAfter (wholeSyntax text) trees) × (now ≡ syntaxAfter (wholeSyntax text) table))
+  syntax-printed trees treesNow table now treeCells cells e u t p room b =
+      let same : parsingFor front (length trees) (length table) ≡ wholeSyntax front = rw (treeCells, cells) refl in
+      let q = parsingFor front (length trees) (length table) in
+      let l : Lists (bytes "syntax,") syntaxWidth now answer (printedSyntax q) = rw (e, t) (syntax-listed q table) in
+      let w = whole-listed (bytes "syntax,") syntaxWidth now answer (printedSyntax q) output after at (omega arith) l p room in
+      let to : (text : List ℕ) → Front buffer n text → q ≡ wholeSyntax text = λ text o. same ∙ (ap wholeSyntax is ∙ syntax-front buffer n text b o) in
+      (w .0, λ text o. (rw (to text o) at (w .1), rw (to text o) at u, rw (to text o) at t))
+
+-- The records that are counted are there.
+pub trees-within : (r : Reading) (answer : Answer) (table now : List ℕ) → answer ≡ answerOf r → now ≡ tableAfter r table → FitsTable treeWidth now answer
+trees-within r answer table now e t = rw (e, t) (trees-listed r table .within)
+
+pub syntax-within : (p : Parsing) (answer : Answer) (table now : List ℕ) → answer ≡ Rattle.parser.specs.Parse.answerOf p → now ≡ syntaxAfter p table → FitsTable syntaxWidth now answer
+syntax-within p answer table now e t = rw (e, t) (syntax-listed p table .within)

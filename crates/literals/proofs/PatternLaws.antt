@@ -8,10 +8,10 @@ use lib.Dec.{eqb}
 use lib.ListN.{length, getD, drop, drop-of-length-le}
 use Rattle.text.specs.Quoted.{byte}
 use Rattle.text.specs.Bytes.{nameByte}
-use Rattle.text.specs.Inside.{insideOf}
+use Rattle.text.specs.Machinery.Inside.{insideOf}
 use Rattle.text.specs.Runs.{run}
 use Rattle.text.proofs.Lists.{drop-at}
-use Rattle.text.proofs.Laws.{inside-passed, inside-line, inside-illegal}
+use Rattle.text.proofs.Laws.{inside-passed, inside-newline, inside-illegal}
 use Rattle.answers.specs.Faults.{stray, openPattern}
 use Rattle.literals.specs.Strings.{backslash}
 use Rattle.literals.specs.Patterns.{patternRest}
@@ -23,10 +23,10 @@ module _ (first : ℕ) (s : List ℕ) (i : ℕ) where
   pattern-past class taken h = rw (drop-of-length-le s h)
 
   module _ (h : i < length s) where
-    pub pattern-line : (class taken : Bool) → insideOf (getD s i 0) ≡ 1
+    pub pattern-newline : (class taken : Bool) → insideOf (getD s i 0) ≡ 1
         → patternRest first class taken i (drop i s) ≡ Literal.Fault openPattern first
     unfolding patternRest
-    pattern-line class taken k = rw (drop-at s i h) (rw (inside-line (getD s i 0) k, patternRest))
+    pattern-newline class taken k = rw (drop-at s i h) (rw (inside-newline (getD s i 0) k, patternRest))
 
     pub pattern-stray : (class taken : Bool) → insideOf (getD s i 0) ≡ 2 → patternRest first class taken i (drop i s) ≡ Literal.Fault stray i
     unfolding patternRest

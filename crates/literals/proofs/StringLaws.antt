@@ -6,9 +6,9 @@ use Prim.Native.Nat.{ℕ, _+_, _<_, _≤_}
 use borrow.Author.Tests.{eq-eqb, ne-eqb}
 use lib.Dec.{eqb}
 use lib.ListN.{length, getD, drop, drop-of-length-le}
-use Rattle.text.specs.Inside.{insideOf}
+use Rattle.text.specs.Machinery.Inside.{insideOf}
 use Rattle.text.proofs.Lists.{drop-at}
-use Rattle.text.proofs.Laws.{inside-passed, inside-line, inside-illegal}
+use Rattle.text.proofs.Laws.{inside-passed, inside-newline, inside-illegal}
 use Rattle.answers.specs.Faults.{stray, openString}
 use Rattle.literals.specs.Strings.{stringRest, backslash}
 use Rattle.literals.specs.declared.Literal.{Literal}
@@ -19,9 +19,9 @@ module _ (q first : ℕ) (s : List ℕ) (i : ℕ) where
   string-past taken h = rw (drop-of-length-le s h)
 
   module _ (h : i < length s) where
-    pub string-line : (taken : Bool) → insideOf (getD s i 0) ≡ 1 → stringRest q first taken i (drop i s) ≡ Literal.Fault openString first
+    pub string-newline : (taken : Bool) → insideOf (getD s i 0) ≡ 1 → stringRest q first taken i (drop i s) ≡ Literal.Fault openString first
     unfolding stringRest
-    string-line taken k = rw (drop-at s i h) (rw (inside-line (getD s i 0) k, stringRest))
+    string-newline taken k = rw (drop-at s i h) (rw (inside-newline (getD s i 0) k, stringRest))
 
     pub string-stray : (taken : Bool) → insideOf (getD s i 0) ≡ 2 → stringRest q first taken i (drop i s) ≡ Literal.Fault stray i
     unfolding stringRest

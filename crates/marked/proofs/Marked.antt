@@ -9,10 +9,10 @@ use Rattle.literals.specs.Numbers.{numberFrom}
 use Rattle.literals.specs.Strings.{quote, stringRest}
 use Rattle.literals.specs.Patterns.{patternRest}
 use Rattle.elements.specs.Elements.{elementAt, elementFrom, named, delimiter}
-use Rattle.prefix.specs.Trees.{count}
-use Rattle.prefix.specs.Rule.{elementClass, groupClass, backwards, opensObject, opensPattern}
-use Rattle.prefix.specs.Reading.{step, turn, readOn, reading}
-use Rattle.reader.specs.Records.{records}
+use Rattle.rule.specs.Trees.{count}
+use Rattle.rule.specs.Rule.{elementClass, groupClass, backwards, opensObject, opensPattern}
+use Rattle.prefix.specs.Reading.{step, proceed, readOn, reading}
+use Rattle.storing.specs.Records.{records}
 use Rattle.reader.specs.Read.{readingFor}
 use Rattle.grammar.specs.Tokens.{classOf, tokensFrom}
 use Rattle.grammar.specs.Syntax.{syntaxRecords}
@@ -23,5 +23,5 @@ use Rattle.respacer.specs.Respace.{wholeReading}
 use Rattle.marked.specs.Marked.{allHold, readings}
 
 pub all-hold : T (allHold readings)
-unfolding blank lineEnd illegal letter digit nameByte Runs.run Runs.same placeIn wordNumber taken longestSign longestOf gap numberFrom quote stringRest patternRest elementAt elementFrom named delimiter count elementClass groupClass backwards opensObject opensPattern step turn readOn reading records readingFor classOf tokensFrom syntaxRecords elementsOf stateAfter parsingFor addElement addCloser addTrees wholeReading
+unfolding blank lineEnd illegal letter digit nameByte Runs.run Runs.same placeIn wordNumber taken longestSign longestOf gap numberFrom quote stringRest patternRest elementAt elementFrom named delimiter count elementClass groupClass backwards opensObject opensPattern step proceed readOn reading records readingFor classOf tokensFrom syntaxRecords elementsOf stateAfter parsingFor addElement addCloser addTrees wholeReading
 all-hold = tt

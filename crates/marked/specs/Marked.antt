@@ -6,7 +6,7 @@ use mathlib.Core.List.{List, [], _∷_}
 use Rattle.text.specs.Quoted.{bytes}
 use Rattle.text.specs.Runs.{same}
 use Rattle.prefix.specs.Reading.{Reading, accepted, refused}
-use Rattle.reader.specs.Records.{records}
+use Rattle.storing.specs.Records.{records}
 use Rattle.reader.specs.Read.{readingFor}
 use Rattle.grammar.specs.Syntax.{syntaxRecords}
 use Rattle.parser.specs.Parse.{Parsing, program, denied, parsingFor}
@@ -32,7 +32,7 @@ pub data Case : Type 0 where
 
 abbrev treeCells : List Tree → List ℕ
 treeCells [] = []
-treeCells (tree kind first end number line ∷ rest) = kind ∷ first ∷ end ∷ number ∷ line ∷ treeCells rest
+treeCells (tree kind first end number newline ∷ rest) = kind ∷ first ∷ end ∷ number ∷ newline ∷ treeCells rest
 
 abbrev partCells : List Part → List ℕ
 partCells [] = []

@@ -1,5 +1,4 @@
--- What an accepted reading of `read` has: few bytes, few records and few groups, counted over its trees and over their elements; and
--- the numbers of a refused one.
+-- What an accepted reading of `read` has: few bytes, few records and few groups, counted over its trees and over their elements.
 use mathlib.Core.Path.{_≡_, refl}
 use mathlib.Core.List.{List}
 use mathlib.Core.Bool.{Bool, true, false, cond}
@@ -8,12 +7,8 @@ use native.Mathlib.Omega.{arith}
 use borrow.Author.Tests.{leb-true}
 use lib.Dec.{leb}
 use lib.ListN.{length}
-use Rattle.elements.proofs.Bounds.{fault-number}
-use Rattle.prefix.specs.Trees.{Trees, count, deepest}
-use Rattle.prefix.specs.Levels.{Levels, text, inside, slashOpens}
-use Rattle.prefix.specs.Reading.{Limits, Reading, accepted, refused, ending, reading}
-use Rattle.prefix.proofs.Induction.{reading-tells}
-use Rattle.prefix.proofs.StepCases.{Stopped, at-depth, at-room, at-closer, step-reason}
+use Rattle.rule.specs.Trees.{Trees, count, deepest}
+use Rattle.prefix.specs.Reading.{accepted, refused, reading}
 use Rattle.prefix.proofs.Sizes.{accepted-fits}
 use Rattle.tables.specs.Records.{roomFor}
 use Rattle.reader.specs.Read.{longText, mostBytes, mostGroups, readLimits, readingFor}
@@ -47,34 +42,3 @@ accepted-reading bytes cells trees = go (leb (length bytes) mostBytes) refl
           deep-as = deepest-elements trees formed;
         }
     go false short a = absurd (let z : _≡_ {A = ℕ} 0 1 = cc in omega arith)
-
--- the numbers of refused readings are 1 to 12
-abbrev Numbered : Reading → Type 0
-Numbered (accepted trees) = Unit {0}
-Numbered (refused number place) = number ≤ 12
-
-ending-numbered : (levels : Levels) → Numbered (ending levels)
-ending-numbered (text trees) = tt
-ending-numbered (inside around kind first line trees) = omega arith
-
-stopped-numbered : {limits : Limits} {levels : Levels} {number : ℕ} → Stopped limits levels number → number ≤ 12
-stopped-numbered (at-depth h) = omega arith
-stopped-numbered (at-room h) = omega arith
-stopped-numbered at-closer = omega arith
-
-reading-numbered : (bytes : List ℕ) (limits : Limits) → Numbered (reading bytes limits)
-reading-numbered bytes limits =
-    reading-tells bytes limits (λ levels place. Unit {0}) Numbered (λ levels place p. ending-numbered levels)
-    (λ levels place number at p f. let n = fault-number bytes place (slashOpens levels) number at f in omega arith)
-    (λ levels place e number at p f s. stopped-numbered (step-reason limits e levels number at s))
-    (λ levels place e after p f s. tt) tt
-
-pub refused-number : (bytes : List ℕ) (cells number place : ℕ) → readingFor bytes cells ≡ refused number place → number ≤ 12
-unfolding readingFor
-refused-number bytes cells number place = go (leb (length bytes) mostBytes)
-  where
-    go : (b : Bool) → cond b (reading bytes (readLimits cells)) (refused longText mostBytes) ≡ refused number place → number ≤ 12
-    go true e = rw e at (reading-numbered bytes (readLimits cells))
-    go false e =
-        let n : longText ≡ number = cc in
-        omega arith

@@ -10,7 +10,7 @@ use Rattle.elements.specs.declared.Element.{Element}
 use Rattle.elements.proofs.Bounds.{found-placed}
 use Rattle.reader.specs.Read.{mostBytes, readLimits}
 use Rattle.reader.proofs.Theorems.{refused-place}
-use Rattle.grammar.specs.Cuts.{marked, Cuts, cut-end, cut-element, cut-slash}
+use Rattle.grammar.specs.Cuts.{recorded, Cuts, cut-end, cut-element, cut-slash}
 use Rattle.grammar.specs.Syntax.{size}
 use Rattle.grammar.proofs.ReadCuts.{reading-cuts}
 use Rattle.parser.specs.Parse.{Parsing, parsingFor, answerOf}
@@ -24,11 +24,11 @@ first-within : (text : List ℕ) {place : ℕ} {choice : List Bool} {es : List E
 first-within text (cut-end x) [] e rest q = absurd (let z : _≡_ {A = ℕ} 0 1 = cc in omega arith)
 first-within text (cut-end x) (b ∷ before) e rest q = absurd (let z : _≡_ {A = ℕ} 0 1 = cc in omega arith)
 first-within text (cut-element {place} {e = f} m found more) [] e rest q =
-    let same : marked f ≡ e = cc in
+    let same : recorded f ≡ e = cc in
     omega (arith, ap Element.first same, found-placed text place false f found)
 first-within text (cut-element m found more) (b ∷ before) e rest q = first-within text more before e rest (cc)
 first-within text (cut-slash {place} {e = f} {answer} m found more) [] e rest q =
-    let same : marked f ≡ e = cc in
+    let same : recorded f ≡ e = cc in
     omega (arith, ap Element.first same, found-placed text place answer f found)
 first-within text (cut-slash m found more) (b ∷ before) e rest q = first-within text more before e rest (cc)
 

@@ -8,31 +8,31 @@ use borrow.Author.Tests.{le-leb, lt-leb}
 use lib.ListN.{length, take, drop, replicate, length-append}
 use lib.Seq.{take-at}
 use Rattle.answers.specs.declared.Answer.{Answer}
-use Rattle.prefix.specs.Trees.{Trees, count}
+use Rattle.rule.specs.Trees.{Trees, count}
 use Rattle.prefix.specs.Reading.{Reading, accepted, refused}
 use Rattle.tables.specs.Records.{treeWidth, mostTrees, syntaxWidth, mostSyntax, syntaxRoom}
-use Rattle.reader.specs.Records.{records}
+use Rattle.storing.specs.Records.{records}
 use Rattle.reader.specs.Read
 use Rattle.reader.specs.Read.{readLimits, readingFor, tableAfter}
-use Rattle.reader.proofs.CellLaws.{records-length}
+use Rattle.storing.proofs.CellLaws.{records-length}
 use Rattle.grammar.specs.Tokens.{Token, tokens}
 use Rattle.grammar.specs.Syntax.{Syntax, size, syntaxRecords, programSyntax, programTree}
 use Rattle.grammar.specs.TreeElements.{elementsOf}
-use Rattle.grammar.specs.Machine.{endOfText, State, dead, run, start}
-use Rattle.controls.specs.Numbers.{settingBy}
-use Rattle.waiting.specs.Written.{putRecord, putSyntax}
-use Rattle.parts.specs.Parts.{Part, part, countOf, Fine, tokensAt}
-use Rattle.parts.proofs.ReadParts.{reading-fine, reading-tokens}
-use Rattle.levels.specs.Runs.{ran-through, ran-dead, RanStatements}
+use Rattle.grammar.specs.Machinery.Machine.{endOfText, State, dead, run, start}
+use Rattle.controls.specs.Machinery.Numbers.{settingBy}
+use Rattle.waiting.specs.Machinery.Written.{putRecord, putSyntax}
+use Rattle.segments.specs.Machinery.Segments.{Segment, segment, countOf, Fine, tokensAt}
+use Rattle.segments.proofs.ReadSegments.{reading-fine, reading-tokens}
+use Rattle.levels.specs.Machinery.Runs.{ran-through, ran-dead, RanStatements}
 use Rattle.levels.specs.declared.Parsed.{Parsed}
 use Rattle.levels.specs.declared.Parsed.the-variants.{Done, Bad}
 use Rattle.parser.specs.Parse.{noProgram, syntaxFull, Parsing, program, denied, endToken, stateAfter, judged, fitting, parsed, parsingFor, answerOf, treesAfter, syntaxAfter}
-use Rattle.parser.specs.Judged.{stateBehind, Built, Judged, judged-bad, judged-full, judged-program}
+use Rattle.parser.specs.Machinery.Judged.{stateBehind, Built, Judged, judged-bad, judged-full, judged-program}
 use Rattle.parser.proofs.WrittenCells.{syntax-written, syntax-kept-length}
 use Rattle.parser.proofs.AcceptedReadings.{AcceptedReading, accepted-reading}
 
 -- the statements of the whole table, up to the text's end
-module _ {p : Part} {table stack middle stack′ : List ℕ} where
+module _ {p : Segment} {table stack middle stack′ : List ℕ} where
   bad : {place : ℕ} → RanStatements 0 endOfText p 0 0 table stack (Bad place) middle stack′ → stateBehind p ≡ dead place
   unfolding settingBy
   bad (ran-dead dies) = dies [] 0 []
@@ -42,7 +42,7 @@ module _ {p : Part} {table stack middle stack′ : List ℕ} where
   done (ran-through t) =
       (t .value, record { ends = t .runs [] 0 []; few = omega (arith, t .count-is, t .passes) }, omega (arith, t .count-is), t .cells-are)
 
-module _ {p : Part} {table stack middle stack′ : List ℕ} {r : Parsed} (ran : RanStatements 0 endOfText p 0 0 table stack r middle stack′) where
+module _ {p : Segment} {table stack middle stack′ : List ℕ} {r : Parsed} (ran : RanStatements 0 endOfText p 0 0 table stack r middle stack′) where
   ran-as : {s : Parsed} → r ≡ s → RanStatements 0 endOfText p 0 0 table stack s middle stack′
   ran-as e = subst (λ (x : Parsed). RanStatements 0 endOfText p 0 0 table stack x middle stack′) e ran
 
@@ -134,12 +134,12 @@ module _ {text table now : List ℕ} {n : ℕ} (d : ReadDone text table now n) w
   few-trees : count (d .trees) ≤ mostTrees
   few-trees = omega (arith, d .few, d .counts)
 
-  pub front-fine : (close : ℕ) → Fine (part text (take (treeWidth * n - 0) now) 0 close)
+  pub front-fine : (close : ℕ) → Fine (segment text (take (treeWidth * n - 0) now) 0 close)
   front-fine close =
-      subst (λ (cells : List ℕ). Fine (part text cells 0 close)) (sym front) (reading-fine text (readLimits (length table)) (d .trees) (known .reads) few-trees close)
+      subst (λ (cells : List ℕ). Fine (segment text cells 0 close)) (sym front) (reading-fine text (readLimits (length table)) (d .trees) (known .reads) few-trees close)
 
-  abbrev whole : Part
-  whole = part text (records (d .trees)) 0 (length text)
+  abbrev whole : Segment
+  whole = segment text (records (d .trees)) 0 (length text)
 
   all-tokens : tokensAt whole 0 ≡ tokens (elementsOf (d .trees))
   all-tokens = reading-tokens text (readLimits (length table)) (d .trees) (known .reads) few-trees (length text)
@@ -215,17 +215,17 @@ module _ (text table syntax : List ℕ) where
 
   -- it is accepted, and the whole table is judged
   module _ {now after : List ℕ} {n : ℕ} (d : ReadDone text table now n) {judgement : Answer}
-      (j : Judged (part text (take (treeWidth * n - 0) now) 0 (length text)) syntax judgement after) where
+      (j : Judged (segment text (take (treeWidth * n - 0) now) 0 (length text)) syntax judgement after) where
     parses : Parses d (length syntax) syntax judgement after
-    parses = judged-parses d (subst (λ (cells : List ℕ). Judged (part text cells 0 (length text)) syntax judgement after) (front d) j)
+    parses = judged-parses d (subst (λ (cells : List ℕ). Judged (segment text cells 0 (length text)) syntax judgement after) (front d) j)
 
   pub judged-refused : {now after : List ℕ} {n : ℕ} (d : ReadDone text table now n) {judgement : Answer}
-      → Judged (part text (take (treeWidth * n - 0) now) 0 (length text)) syntax judgement after → {number place : ℕ} → judgement ≡ Answer.Refused number place
+      → Judged (segment text (take (treeWidth * n - 0) now) 0 (length text)) syntax judgement after → {number place : ℕ} → judgement ≡ Answer.Refused number place
       → parsingFor text (length table) (length syntax) ≡ denied number place
   judged-refused {after = after} d {judgement} j {number} {place} e = subst (λ (a : Answer). Parses d (length syntax) syntax a after) e (parses d j)
 
   pub judged-accepted : {now after : List ℕ} {n : ℕ} (d : ReadDone text table now n) {judgement : Answer}
-      → Judged (part text (take (treeWidth * n - 0) now) 0 (length text)) syntax judgement after → {m : ℕ} → judgement ≡ Answer.Accepted m
+      → Judged (segment text (take (treeWidth * n - 0) now) 0 (length text)) syntax judgement after → {m : ℕ} → judgement ≡ Answer.Accepted m
       → Answers text table syntax (Answer.Accepted m) now after
   judged-accepted {now} {after} d j {m} e =
       let p : Parses d (length syntax) syntax (Answer.Accepted m) after = subst (λ (a : Answer). Parses d (length syntax) syntax a after) e (parses d j) in (

@@ -7,26 +7,29 @@ use native.Mathlib.Omega.{arith}
 use borrow.Author.Tests.{leb-true, leb-false, le-leb}
 use lib.Dec.{leb}
 use lib.ListN.{length}
-use Rattle.prefix.specs.Trees.{Trees, count, deepest}
+use Rattle.answers.specs.declared.Answer.{Answer}
+use Rattle.rule.specs.Trees.{Trees, count, deepest}
 use Rattle.prefix.specs.Reading.{Reading, accepted, refused, unlimited}
 use Rattle.reader.specs.Read.{readLimits, readingFor, tableAfter}
 use Rattle.reader.proofs.Theorems.{read-fits}
 use Rattle.reader.proofs.Formed.{Formed, reading-formed}
 use Rattle.grammar.specs.Syntax.{Syntax, size, programTree}
-use Rattle.grammar.specs.Derivations.{Derivation, countTrees, syntaxTree, deepestFrom, WithinLimits, LongEnough}
+use Rattle.grammar.specs.Derivations.{Derivation, countTrees, syntaxTree, deepestFrom}
 use Rattle.grammar.specs.TreeElements.{elementsOf}
-use Rattle.grammar.specs.Machine.{State, dead, live, Control, Frame, Held, doneOf}
+use Rattle.grammar.specs.Machinery.Machine.{State, dead, live, Control, Frame, Open, doneOf}
 use Rattle.grammar.proofs.TreeSizes.{count-elements, deepest-elements}
-use Rattle.grammar.proofs.Theorems.{no-program-differs, few-parts-each-marked}
+use Rattle.grammar.proofs.Theorems.{no-program-differs, read-shown, few-parts-each-marked}
 use Rattle.tables.specs.Records.{syntaxRoom}
-use Rattle.parser.specs.Parse.{syntaxFull, Parsing, program, denied, stateAfter, judged, fitting, parsed, parsingFor, answerOf, treesAfter, syntaxAfter}
+use Rattle.parser.specs.Limits.{WithinLimits, LongEnough}
+use Rattle.parser.specs.Parse.{syntaxFull, Parses, Parsing, program, denied, stateAfter, judged, fitting, parsed, parsingFor, answerOf, treesAfter, syntaxAfter}
 use Rattle.parser.proofs.AcceptedReadings.{AcceptedReading, accepted-reading}
-use Rattle.parser.specs.Verdict.{Verdict, as-read, no-program, syntax-full, accepts, Left}
+use Rattle.parser.specs.Verdict.{Verdict, as-read, no-program, syntax-full, accepts, Left, CallVerdict, call-accepts, call-refuses}
+use Rattle.parser.proofs.OneVerdict.{one-verdict}
 use Rattle.parser.proofs.Verdicts.{accepted-derives, refused-derives, derives-accepted, no-derivation}
 
 module _ (text : List ℕ) (treeCells syntaxCells : ℕ) where
   -- the machine at the end of the elements of an accepted reading
-  module _ (trees : Trees) (r : readingFor text treeCells ≡ accepted trees) (control : Control) (f : Frame) (around : List Held)
+  module _ (trees : Trees) (r : readingFor text treeCells ≡ accepted trees) (control : Control) (f : Frame) (around : List Open)
       (e : stateAfter (length text) trees ≡ live control f around) where
     a : AcceptedReading text treeCells trees
     a = accepted-reading text treeCells trees r
@@ -88,6 +91,10 @@ module _ (text : List ℕ) (treeCells syntaxCells : ℕ) where
   unfolding parsingFor
   verdict = by-reading (readingFor text treeCells) refl
 
+-- One verdict: its cases exclude each other, and 13 has one place. So what `Verdict` says of an answer is said of no other one.
+pub only-verdict : (text : List ℕ) (treeCells syntaxCells : ℕ) {p : Parsing} → Verdict text treeCells syntaxCells p → p ≡ parsingFor text treeCells syntaxCells
+only-verdict text treeCells syntaxCells v = one-verdict text v (verdict text treeCells syntaxCells)
+
 -- What has a derivation within the limits and tables is accepted.
 pub accepts-all : (text : List ℕ) (treeCells syntaxCells : ℕ) (d : Derivation text) → WithinLimits d → LongEnough d treeCells syntaxCells
     → (trees : Trees) × (parsingFor text treeCells syntaxCells ≡ program trees (syntaxTree d)) × (elementsOf trees ≡ d .elements)
@@ -128,8 +135,26 @@ pub accepted-left : (text trees syntax : List ℕ) (d : Derivation text) → Wit
 accepted-left text trees syntax d limits tables =
     let p = accepts-all text (length trees) (length syntax) d limits tables in
     let reads = program-reads (verdict text (length trees) (length syntax)) (p .0) (syntaxTree d) (p .1) in
+    let cells : treesAfter (parsingFor text (length trees) (length syntax)) trees ≡ tableAfter (readingFor text (length trees)) trees =
+    ap (λ (q : Parsing). treesAfter q trees) (p .1) ∙ ap (λ (r : Reading). tableAfter r trees) (sym reads) in
+    let counted : countTrees (d .elements) ≡ count (p .0) = ap countTrees (sym (p .2)) ∙ accepted-reading text (length trees) (p .0) reads .counted in
     record {
       counts = ap answerOf (p .1);
-      tree-cells = ap (λ (q : Parsing). treesAfter q trees) (p .1) ∙ ap (λ (r : Reading). tableAfter r trees) (sym reads);
+      tree-cells = cells;
+      shown = rw (cells, counted) (read-shown text trees (p .0) reads d);
       syntax-cells = ap (λ (q : Parsing). syntaxAfter q syntax) (p .1);
     }
+
+-- Demand 3 of the call: whatever it answers and leaves, by its contract.
+pub call-verdict : (text trees syntax treesLeft syntaxLeft : List ℕ) (answer : Answer) → Parses text trees syntax treesLeft syntaxLeft answer
+    → CallVerdict text trees syntax treesLeft syntaxLeft answer
+call-verdict text trees syntax treesLeft syntaxLeft answer p = go (verdict text (length trees) (length syntax)) (p .0) (p .1) (p .2)
+  where
+    go : {q : Parsing} → Verdict text (length trees) (length syntax) q → answer ≡ answerOf q → treesLeft ≡ treesAfter q trees
+        → syntaxLeft ≡ syntaxAfter q syntax → CallVerdict text trees syntax treesLeft syntaxLeft answer
+    go (as-read r) e t s = rw e (call-refuses (as-read r) t s)
+    go (no-program n) e t s = rw e (call-refuses (no-program n) t s)
+    go (syntax-full f) e t s = rw e (call-refuses (syntax-full f) t s)
+    go (accepts a) e t s =
+        rw (e, a .same-syntax)
+        (call-accepts (a .derivation) (a .limits) (a .tables) (t ∙ ap (λ (r : Reading). tableAfter r trees) (sym (a .reads))) (rw (a .same-syntax) at s))

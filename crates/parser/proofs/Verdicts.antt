@@ -7,7 +7,7 @@ use Prim.Native.Nat.{ℕ, _+_}
 use native.Mathlib.Omega.{arith}
 use lib.ListN.{length}
 use Rattle.elements.specs.declared.Element.{Element}
-use Rattle.prefix.specs.Trees.{Trees}
+use Rattle.rule.specs.Trees.{Trees}
 use Rattle.prefix.specs.Reading.{Limits, accepted, reading}
 use Rattle.prefix.proofs.LimitLaws.{accepted-unlimited}
 use Rattle.grammar.specs.Cuts.{isCloser}
@@ -16,13 +16,14 @@ use Rattle.grammar.specs.Syntax.{nil}
 use Rattle.grammar.specs.Grammar.{Program}
 use Rattle.grammar.specs.Derivations.{Derivation}
 use Rattle.grammar.specs.TreeElements.{elementsOf}
-use Rattle.grammar.specs.Machine.{dead, live, Control, finished, Frame, frame, Held, doneOf, run, start}
+use Rattle.grammar.specs.Machinery.Machine.{dead, live, Control, finished, Frame, frame, Open, doneOf, run, start}
 use Rattle.grammar.proofs.Complete.{complete-to-end}
 use Rattle.grammar.proofs.Sound.{sound-to-end}
 use Rattle.grammar.proofs.ReadCuts.{reading-cuts}
 use Rattle.grammar.proofs.Deaths.{Death, death}
 use Rattle.grammar.proofs.Begins.{begins, still-going}
-use Rattle.grammar.proofs.Theorems.{no-program-differs, first-refused}
+use Rattle.grammar.proofs.FirstRefused.{first-refused}
+use Rattle.grammar.proofs.Theorems.{no-program-differs}
 use Rattle.parser.specs.Parse.{endSpot, endToken, stateAfter}
 use Rattle.parser.specs.Verdict.{Refuses, at-element, at-end}
 
@@ -63,7 +64,7 @@ module _ (text : List ℕ) (limits : Limits) (trees : Trees) (a : reading text l
   all = tokens es ++ (endToken (length text) ∷ [])
 
   -- where the machine lives at the end, the text has a derivation, and the machine has built its parts
-  pub accepted-derives : (control : Control) (f : Frame) (around : List Held) → stateAfter (length text) trees ≡ live control f around
+  pub accepted-derives : (control : Control) (f : Frame) (around : List Open) → stateAfter (length text) trees ≡ live control f around
       → (d : Derivation text) × (d .elements ≡ es) × (d .parts ≡ doneOf f)
   unfolding stateAfter
   accepted-derives control f around e =

@@ -12,7 +12,7 @@ use lib.ListN.{length, drop, set, length-append, length-set}
 use lib.Seq.{sets, sets-eq}
 use Rattle.tables.specs.Records.{syntaxWidth}
 use Rattle.grammar.specs.Syntax.{Syntax, nil, node, snoc, size, syntaxRecords}
-use Rattle.waiting.specs.Written.{putRecord, putSyntax}
+use Rattle.waiting.specs.Machinery.Written.{putRecord, putSyntax}
 
 sets-append : (a b table : List ℕ) (i : ℕ) → sets table i (a ++ b) ≡ sets (sets table i a) (i + length a) b
 sets-append [] b table i = rw (add-zero i)

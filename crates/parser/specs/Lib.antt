@@ -1,3 +1,4 @@
+pub mod Limits
 pub mod Parse
-pub mod Judged
 pub mod Verdict
+pub mod Machinery

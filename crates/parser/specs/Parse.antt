@@ -1,18 +1,20 @@
 -- What `parse` answers, and what it leaves in the two lent tables.
 use Prim.Native.Nat.{ℕ, _*_}
+use mathlib.Core.Path.{_≡_}
 use mathlib.Core.Bool.{false, cond}
 use mathlib.Core.List.{List, [], _∷_, _++_}
 use lib.Dec.{leb}
 use lib.ListN.{length, drop, replicate}
+use Rattle.answers.specs.Answers.{numberOf, valueOf, Tells}
 use Rattle.answers.specs.declared.Answer.{Answer}
-use Rattle.prefix.specs.Trees.{Trees, count}
+use Rattle.rule.specs.Trees.{Trees, count}
 use Rattle.prefix.specs.Reading.{Reading, accepted, refused}
 use Rattle.reader.specs.Read.{readingFor, tableAfter}
 use Rattle.grammar.specs.Tokens.{Token, token, Spot, tokens}
 use Rattle.tables.specs.Records.{syntaxWidth, syntaxRoom}
 use Rattle.grammar.specs.Syntax.{Syntax, size, syntaxRecords, programTree}
 use Rattle.grammar.specs.TreeElements.{elementsOf}
-use Rattle.grammar.specs.Machine.{endOfText, State, dead, live, doneOf, run, start}
+use Rattle.grammar.specs.Machinery.Machine.{endOfText, State, dead, live, doneOf, run, start}
 
 -- Document 01, Refused texts, row 13, no program: "first element with which the elements so far begin no program (limits aside);
 -- text length if none"
@@ -30,7 +32,7 @@ pub data Parsing : Type 0 where
 
 -- the end of a text of that length, as a token
 abbrev pub endSpot : ℕ → Spot
-endSpot end = record { line = false; mark = 0; first = end }
+endSpot end = record { newline = false; mark = 0; first = end }
 
 abbrev pub endToken : ℕ → Token
 endToken end = token endOfText (endSpot end)
@@ -73,3 +75,11 @@ treesAfter (denied number place) table = replicate (length table) 0
 abbrev pub syntaxAfter : Parsing → List ℕ → List ℕ
 syntaxAfter (program trees syntax) table = syntaxRecords syntax ++ drop (syntaxWidth * size syntax) table
 syntaxAfter (denied number place) table = replicate (length table) 0
+
+-- What `parse` promises of its answer and its two tables, before and after, for every text and all tables.
+abbrev pub Parses : List ℕ → List ℕ → List ℕ → List ℕ → List ℕ → Answer → Type 0
+Parses text trees syntax treesLeft syntaxLeft answer =
+    (answer ≡ answerOf (parsingFor text (length trees) (length syntax)))
+    × (treesLeft ≡ treesAfter (parsingFor text (length trees) (length syntax)) trees)
+    × (syntaxLeft ≡ syntaxAfter (parsingFor text (length trees) (length syntax)) syntax)
+    × Tells numberOf valueOf answer (answerOf (parsingFor text (length trees) (length syntax)))

@@ -2,16 +2,18 @@
 use Prim.Native.Nat.{ℕ, _*_, _/_, _<_}
 use mathlib.Core.Path.{_≡_}
 use mathlib.Core.List.{List, [], _∷_, _++_}
-use lib.ListN.{length, drop}
+use lib.ListN.{length, take, drop, replicate}
 use Rattle.answers.specs.declared.Answer.{Answer}
 use Rattle.elements.specs.declared.Element.{Element}
-use Rattle.prefix.specs.Trees.{Trees}
+use Rattle.rule.specs.Trees.{Trees}
 use Rattle.prefix.specs.Reading.{accepted, refused}
 use Rattle.reader.specs.Read.{readingFor, tableAfter}
-use Rattle.tables.specs.Records.{syntaxWidth}
+use Rattle.tables.specs.Records.{treeWidth, syntaxWidth}
 use Rattle.grammar.specs.Syntax.{Syntax, size, syntaxRecords}
-use Rattle.grammar.specs.Derivations.{Derivation, syntaxTree, WithinLimits, LongEnough, BeginsProgram}
+use Rattle.grammar.specs.Derivations.{Derivation, countTrees, syntaxTree, BeginsProgram}
 use Rattle.grammar.specs.TreeElements.{elementsOf}
+use Rattle.grammar.specs.Shown.{Shown}
+use Rattle.parser.specs.Limits.{WithinLimits, LongEnough}
 use Rattle.parser.specs.Parse.{noProgram, syntaxFull, Parsing, program, denied, answerOf, treesAfter, syntaxAfter}
 
 -- why the elements of a text are no program: one of them begins none with those before it; or all of them begin one, that goes on
@@ -56,8 +58,20 @@ pub data Verdict (text : List ℕ) (treeCells syntaxCells : ℕ) : Parsing → T
   accepts : {trees : Trees} {syntax : Syntax} → Accepts text treeCells syntaxCells trees syntax → Verdict text treeCells syntaxCells (program trees syntax)
 
 -- what the call answers and leaves, of an accepted text: the count of the derivation's syntax records, these records and then the
--- old cells, and the tree cells that reading leaves
+-- old cells, and the tree cells that reading leaves, whose records show the derivation's regular expressions, objects and blocks
 pub record Left (text trees syntax : List ℕ) (d : Derivation text) (parsing : Parsing) : Type 0 where
   pub counts : answerOf parsing ≡ Answer.Accepted (size (syntaxTree d))
   pub tree-cells : treesAfter parsing trees ≡ tableAfter (readingFor text (length trees)) trees
+  pub shown : Shown d (take (treeWidth * countTrees (d .elements)) (treesAfter parsing trees))
   pub syntax-cells : syntaxAfter parsing syntax ≡ syntaxRecords (syntaxTree d) ++ drop (syntaxWidth * size (syntaxTree d)) syntax
+
+-- the same of the call, by its answer and its two tables, before and after: what it accepts has a derivation within the limits and tables, whose
+-- syntax records are counted and written; what it refuses has the verdict of a refusal, and every cell is 0
+pub data CallVerdict (text trees syntax treesLeft syntaxLeft : List ℕ) : Answer → Type 0 where
+  call-accepts : (d : Derivation text) → WithinLimits d → LongEnough d (length trees) (length syntax)
+      → treesLeft ≡ tableAfter (readingFor text (length trees)) trees
+      → syntaxLeft ≡ syntaxRecords (syntaxTree d) ++ drop (syntaxWidth * size (syntaxTree d)) syntax
+      → CallVerdict text trees syntax treesLeft syntaxLeft (Answer.Accepted (size (syntaxTree d)))
+  call-refuses : {number place : ℕ} → Verdict text (length trees) (length syntax) (denied number place)
+      → treesLeft ≡ replicate (length trees) 0 → syntaxLeft ≡ replicate (length syntax) 0
+      → CallVerdict text trees syntax treesLeft syntaxLeft (Answer.Refused number place)

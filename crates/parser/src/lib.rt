@@ -2,10 +2,10 @@
 ghost use mathlib.Core.Path.{_≡_};
 ghost use lib.ListN.{length};
 ghost use Prim.Native.Nat.{_*_, _≤_};
-ghost use Rattle.waiting.specs.Waiting.{width};
-ghost use Rattle.parts.specs.Parts.{Fine, part, countOf};
-ghost use Rattle.parser.specs.Judged.{Judged};
-ghost use Rattle.parser.specs.Parse.{parsingFor, answerOf, treesAfter, syntaxAfter};
+ghost use Rattle.waiting.specs.Machinery.Waiting.{width};
+ghost use Rattle.segments.specs.Machinery.Segments.{Fine, segment, countOf};
+ghost use Rattle.parser.specs.Machinery.Judged.{Judged};
+ghost use Rattle.parser.specs.Parse.{Parses};
 use answers::Answer;
 use controls::classes;
 use levels::Parsed;
@@ -20,8 +20,8 @@ pub const SYNTAX_FULL: u32 = 14;
 // The program of a text's tree records, with what was written left in the table where it is refused. Each record lets one part wait at
 // most.
 fn program(text: &[u8], trees: &[u32], waiting: &mut [u16], syntax: &mut [u32]) -> Answer
-    requires { ⌜ Fine (part (now text) (now trees) 0 (length (now text))) × (countOf (now trees) * width ≤ length (now waiting)) ⌝ }
-    ensures { λ r. ⌜ Judged (part (now (text .entry)) (now (trees .entry)) 0 (length (now (text .entry)))) (now (syntax .entry)) r (now (syntax .exit)) ⌝ }
+    requires { ⌜ Fine (segment (now text) (now trees) 0 (length (now text))) × (countOf (now trees) * width ≤ length (now waiting)) ⌝ }
+    ensures { λ r. ⌜ Judged (segment (now (text .entry)) (now (trees .entry)) 0 (length (now (text .entry)))) (now (syntax .entry)) r (now (syntax .exit)) ⌝ }
 {
     let number = trees.len() / TreeRecord::WIDTH;
     let body = levels::statements(
@@ -48,39 +48,32 @@ fn program(text: &[u8], trees: &[u32], waiting: &mut [u16], syntax: &mut [u32]) 
     }
 }
 
-// For up to so many records a short stack is made, since a long one takes more time than they do.
-const FEW: usize = 128;
-
-fn program_of_few(text: &[u8], trees: &[u32], syntax: &mut [u32]) -> Answer
-    requires { ⌜ Fine (part (now text) (now trees) 0 (length (now text))) × (countOf (now trees) ≤ 128) ⌝ }
-    ensures { λ r. ⌜ Judged (part (now (text .entry)) (now (trees .entry)) 0 (length (now (text .entry)))) (now (syntax .entry)) r (now (syntax .exit)) ⌝ }
-{
-    let mut waiting = [0u16; 384];
-    program(text, trees, &mut waiting, syntax)
-}
-
 fn program_of_many(text: &[u8], trees: &[u32], syntax: &mut [u32]) -> Answer
-    requires { ⌜ Fine (part (now text) (now trees) 0 (length (now text))) ⌝ }
-    ensures { λ r. ⌜ Judged (part (now (text .entry)) (now (trees .entry)) 0 (length (now (text .entry)))) (now (syntax .entry)) r (now (syntax .exit)) ⌝ }
+    requires { ⌜ Fine (segment (now text) (now trees) 0 (length (now text))) ⌝ }
+    ensures { λ r. ⌜ Judged (segment (now (text .entry)) (now (trees .entry)) 0 (length (now (text .entry)))) (now (syntax .entry)) r (now (syntax .exit)) ⌝ }
 {
     let mut waiting = [0u16; 49152];
     program(text, trees, &mut waiting, syntax)
 }
 
+// For up to so many records a short stack is made, since a long one takes more time than they do.
+const FEW: usize = 128;
+
 fn program_of(text: &[u8], trees: &[u32], syntax: &mut [u32]) -> Answer
-    requires { ⌜ Fine (part (now text) (now trees) 0 (length (now text))) ⌝ }
-    ensures { λ r. ⌜ Judged (part (now (text .entry)) (now (trees .entry)) 0 (length (now (text .entry)))) (now (syntax .entry)) r (now (syntax .exit)) ⌝ }
+    requires { ⌜ Fine (segment (now text) (now trees) 0 (length (now text))) ⌝ }
+    ensures { λ r. ⌜ Judged (segment (now (text .entry)) (now (trees .entry)) 0 (length (now (text .entry)))) (now (syntax .entry)) r (now (syntax .exit)) ⌝ }
 {
-    if trees.len() / TreeRecord::WIDTH <= FEW {
-        return program_of_few(text, trees, syntax);
+    if FEW < trees.len() / TreeRecord::WIDTH {
+        return program_of_many(text, trees, syntax);
     }
-    program_of_many(text, trees, syntax)
+    let mut waiting = [0u16; 384];
+    program(text, trees, &mut waiting, syntax)
 }
 
 // Parses a text: the count of its syntax records, which the syntax table then starts with, as the tree table starts with its tree
 // records; or the number and place of its first fault, with every cell of both tables 0.
 pub fn parse(text: &[u8], trees: &mut [u32], syntax: &mut [u32]) -> Answer
-    ensures { λ r. ⌜ (r ≡ answerOf (parsingFor (now (text .entry)) (length (now (trees .entry))) (length (now (syntax .entry))))) × (now (trees .exit) ≡ treesAfter (parsingFor (now (text .entry)) (length (now (trees .entry))) (length (now (syntax .entry)))) (now (trees .entry))) × (now (syntax .exit) ≡ syntaxAfter (parsingFor (now (text .entry)) (length (now (trees .entry))) (length (now (syntax .entry)))) (now (syntax .entry))) ⌝ }
+    ensures { λ r. ⌜ Parses (now (text .entry)) (now (trees .entry)) (now (syntax .entry)) (now (trees .exit)) (now (syntax .exit)) r ⌝ }
 {
     let read = reader::read(text, trees);
     match read {

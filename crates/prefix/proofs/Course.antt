@@ -5,31 +5,31 @@ use Prim.Native.Nat.{ℕ}
 use Rattle.elements.specs.Elements.{elementAt}
 use Rattle.elements.specs.declared.Element.{Element}
 use Rattle.elements.specs.declared.Next.{Next}
-use Rattle.prefix.specs.Trees.{Trees, none}
-use Rattle.prefix.specs.Levels.{Levels, text, inside, slashOpens}
+use Rattle.rule.specs.Trees.{Trees, none}
+use Rattle.rule.specs.Levels.{Levels, wholeText, inside, slashOpens}
 use Rattle.prefix.specs.Reading.{Limits, more, step, Reading, accepted, refused, ending, reading}
 use Rattle.prefix.proofs.Induction.{reading-tells}
 
 -- from levels at a place to the trees of the whole text
 pub data Course (bytes : List ℕ) (limits : Limits) (trees : Trees) : Levels → ℕ → Type 0 where
-  ended : {place : ℕ} → Course bytes limits trees (text trees) place
+  ended : {place : ℕ} → Course bytes limits trees (wholeText trees) place
   went : {levels : Levels} {place : ℕ} (e : Element) (after : Levels) → elementAt bytes place (slashOpens levels) ≡ Next.Found e
       → step limits levels e ≡ more after → Course bytes limits trees after (e .end) → Course bytes limits trees levels place
 
 module _ (bytes : List ℕ) (limits : Limits) where
   -- the courses that go on from here are the ends of whole ones
   abbrev Completes : Levels → ℕ → Type 0
-  Completes levels place = (trees : Trees) → Course bytes limits trees levels place → Course bytes limits trees (text none) 0
+  Completes levels place = (trees : Trees) → Course bytes limits trees levels place → Course bytes limits trees (wholeText none) 0
 
   abbrev Told : Reading → Type 0
-  Told (accepted trees) = Course bytes limits trees (text none) 0
+  Told (accepted trees) = Course bytes limits trees (wholeText none) 0
   Told (refused number at) = Unit {0}
 
   told : (levels : Levels) (place : ℕ) → Completes levels place → Told (ending levels)
-  told (text trees) place complete = complete trees ended
-  told (inside around kind first line trees) place complete = tt
+  told (wholeText trees) place complete = complete trees ended
+  told (inside around kind first newline trees) place complete = tt
 
-  pub accepted-course : (trees : Trees) → reading bytes limits ≡ accepted trees → Course bytes limits trees (text none) 0
+  pub accepted-course : (trees : Trees) → reading bytes limits ≡ accepted trees → Course bytes limits trees (wholeText none) 0
   accepted-course trees e =
       rw e at
       (reading-tells bytes limits Completes Told told (λ levels place number at p f. tt) (λ levels place e number at p f s. tt)

@@ -6,8 +6,8 @@ use lib.ListN.{length}
 use Rattle.elements.specs.Elements.{elementAt}
 use Rattle.elements.specs.declared.Element.{Element}
 use Rattle.elements.specs.declared.Next.{Next}
-use Rattle.prefix.specs.Trees.{Trees, none}
-use Rattle.prefix.specs.Levels.{Levels, text, inside, slashOpens}
+use Rattle.rule.specs.Trees.{Trees, none}
+use Rattle.rule.specs.Levels.{Levels, wholeText, inside, slashOpens}
 use Rattle.prefix.specs.Reading.{Limits, Step, stop, more, step, Reading, accepted, refused, ending, readOn, reading}
 use Rattle.prefix.proofs.ReadingLaws.{read-end, read-fault, read-stop, read-more}
 
@@ -37,31 +37,31 @@ module _ (bytes : List ℕ) (limits : Limits) (P : Levels → ℕ → Type 0) (Q
         found (Next.Fault n q) f rest = rw (read-fault bytes limits fuel levels place n q f) (faults levels place n q p f)
         found (Next.Found e) f rest = stepped e (step limits levels e) f refl rest
 
-    pub reading-tells : P (text none) 0 → Q (reading bytes limits)
+    pub reading-tells : P (wholeText none) 0 → Q (reading bytes limits)
     unfolding reading
-    reading-tells p = read-on-tells (suc (length bytes)) (text none) 0 p
+    reading-tells p = read-on-tells (suc (length bytes)) (wholeText none) 0 p
 
 -- a property of the trees of a reading, if it is accepted
 abbrev pub Accepts : (Trees → Type 0) → Reading → Type 0
 Accepts P (accepted trees) = P trees
 Accepts P (refused number place) = Unit {0}
 
-pub ending-accepts : (P : Levels → Type 0) (levels : Levels) → P levels → Accepts (λ trees. P (text trees)) (ending levels)
-ending-accepts P (text trees) p = p
-ending-accepts P (inside around kind first line trees) p = tt
+pub ending-accepts : (P : Levels → Type 0) (levels : Levels) → P levels → Accepts (λ trees. P (wholeText trees)) (ending levels)
+ending-accepts P (wholeText trees) p = p
+ending-accepts P (inside around kind first newline trees) p = tt
 
 -- what holds of the levels before the first element, and is kept by each step, holds of the trees
 module _ (bytes : List ℕ) (limits : Limits) (P : Levels → Type 0)
     (kept : (levels : Levels) (e : Element) (after : Levels) → P levels → step limits levels e ≡ more after → P after)
   where
-    pub read-on-accepts : (fuel : ℕ) (levels : Levels) (place : ℕ) → P levels → Accepts (λ trees. P (text trees)) (readOn bytes limits fuel levels place)
+    pub read-on-accepts : (fuel : ℕ) (levels : Levels) (place : ℕ) → P levels → Accepts (λ trees. P (wholeText trees)) (readOn bytes limits fuel levels place)
     read-on-accepts =
-        read-on-tells bytes limits (λ levels place. P levels) (Accepts (λ trees. P (text trees)))
+        read-on-tells bytes limits (λ levels place. P levels) (Accepts (λ trees. P (wholeText trees)))
         (λ levels place p. ending-accepts P levels p)
         (λ levels place number at p f. tt)
         (λ levels place e number at p f s. tt)
         (λ levels place e after p f s. kept levels e after p s)
 
-    pub reading-accepts : P (text none) → Accepts (λ trees. P (text trees)) (reading bytes limits)
+    pub reading-accepts : P (wholeText none) → Accepts (λ trees. P (wholeText trees)) (reading bytes limits)
     unfolding reading
-    reading-accepts p = read-on-accepts (suc (length bytes)) (text none) 0 p
+    reading-accepts p = read-on-accepts (suc (length bytes)) (wholeText none) 0 p

@@ -1,6 +1,3 @@
-pub mod Finite
-pub mod SummaryLaws
-pub mod LevelNumberLaws
 pub mod StateLaws
 pub mod StepLaws
 pub mod ReadingLaws

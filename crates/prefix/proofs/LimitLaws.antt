@@ -4,7 +4,7 @@ use mathlib.Core.Logic.{_⊎_, inl, inr}
 use mathlib.Core.List.{List}
 use Prim.Native.Nat.{ℕ, _≤_, _<_}
 use native.Mathlib.Omega.{arith}
-use Rattle.prefix.specs.Trees.{Trees, count, deepest}
+use Rattle.rule.specs.Trees.{Trees, count, deepest}
 use Rattle.prefix.specs.Reading.{Limits, deep, treesFull, Reading, accepted, refused, reading, unlimitedReading}
 use Rattle.prefix.proofs.Sizes.{accepted-fits}
 use Rattle.prefix.specs.Limits.{NoLimit, Within}

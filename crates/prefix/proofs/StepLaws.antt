@@ -5,8 +5,8 @@ use borrow.Author.Tests.{eq-eqb, ne-eqb}
 use Rattle.text.specs.Runs.{same}
 use Rattle.signs.specs.Signs.{longestSign, longestOf}
 use Rattle.elements.specs.declared.Element.{Element}
-use Rattle.prefix.specs.Trees.{parenKind, objectKind, blockKind}
-use Rattle.prefix.specs.Levels.{Levels, braceOpens}
+use Rattle.rule.specs.Trees.{parenKind, objectKind, blockKind}
+use Rattle.rule.specs.Levels.{Levels, braceOpens}
 use Rattle.prefix.specs.Reading.{Limits, addLeaf, openGroup, closeGroup, step}
 
 module _ (limits : Limits) (levels : Levels) (e : Element) where
@@ -20,11 +20,11 @@ module _ (limits : Limits) (levels : Levels) (e : Element) where
     step-parens w = rw (eq-eqb (e .kind) 0 k, eq-eqb (e .which) 3 w)
 
     module _ (n : e .which ≡ 3 → ⊥) where
-      pub step-object : e .which ≡ 1 → braceOpens levels (e .line) ≡ true → step limits levels e ≡ openGroup limits levels objectKind e
+      pub step-object : e .which ≡ 1 → braceOpens levels (e .newline) ≡ true → step limits levels e ≡ openGroup limits levels objectKind e
       unfolding step longestSign longestOf same
       step-object w b = rw (eq-eqb (e .kind) 0 k, ne-eqb (e .which) 3 n, eq-eqb (e .which) 1 w, b)
 
-      pub step-block : e .which ≡ 1 → braceOpens levels (e .line) ≡ false → step limits levels e ≡ openGroup limits levels blockKind e
+      pub step-block : e .which ≡ 1 → braceOpens levels (e .newline) ≡ false → step limits levels e ≡ openGroup limits levels blockKind e
       unfolding step longestSign longestOf same
       step-block w b = rw (eq-eqb (e .kind) 0 k, ne-eqb (e .which) 3 n, eq-eqb (e .which) 1 w, b)
 

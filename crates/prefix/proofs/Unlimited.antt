@@ -7,13 +7,13 @@ use native.Mathlib.Omega.{arith}
 use borrow.Author.Tests.{leb-true, lt-leb}
 use lib.Dec.{eqb, leb}
 use lib.ListN.{length}
-use Rattle.elements.specs.Elements.{elementAt, delimiterKind, isSign}
+use Rattle.elements.specs.Elements.{elementAt, delimiterKind, parenOpener, braceOpener}
 use Rattle.elements.specs.declared.Element.{Element}
 use Rattle.elements.specs.declared.Next.{Next}
 use Rattle.elements.proofs.Choices.{cond-known}
 use Rattle.elements.proofs.Bounds.{found-placed, fault-number}
-use Rattle.prefix.specs.Trees.{Trees, none, leaf, count, deepest, parenKind, objectKind, blockKind}
-use Rattle.prefix.specs.Levels.{Levels, text, inside, slashOpens, braceOpens, depth, number, onTop}
+use Rattle.rule.specs.Trees.{Trees, none, leaf, count, deepest, parenKind, objectKind, blockKind}
+use Rattle.rule.specs.Levels.{Levels, wholeText, inside, slashOpens, braceOpens, depth, countSoFar, onTop}
 use Rattle.prefix.specs.Reading.{
   Limits,
   Step,
@@ -36,7 +36,7 @@ use Rattle.prefix.specs.Reading.{
 }
 use Rattle.prefix.proofs.ReadingLaws.{read-end, read-fault, read-stop, read-more}
 use Rattle.prefix.proofs.Induction.{Accepts, reading-tells}
-use Rattle.prefix.proofs.StateLaws.{number-on-top}
+use Rattle.prefix.proofs.StateLaws.{count-on-top}
 use Rattle.prefix.proofs.StepCases.{Stopped, at-depth, at-room, at-closer, step-taken, step-reason}
 use Rattle.prefix.proofs.Sizes.{reached, taken-grown, passed}
 use Rattle.prefix.specs.Limits.{NoLimit}
@@ -44,31 +44,31 @@ use Rattle.prefix.specs.Limits.{NoLimit}
 -- a step under limits, beside the same under limits that are not reached there
 data StepUnder (limits : Limits) : Step → Step → Type 0 where
   same-step : {s : Step} → StepUnder limits s s
-  full-step : {place : ℕ} {after : Levels} → limits .room < number after → StepUnder limits (stop treesFull place) (more after)
+  full-step : {place : ℕ} {after : Levels} → limits .room < countSoFar after → StepUnder limits (stop treesFull place) (more after)
   deep-step : {place : ℕ} {after : Levels} → limits .groups < reached after → StepUnder limits (stop deep place) (more after)
 
-module _ (limits free : Limits) (levels : Levels) (e : Element) (some : number levels < free .room) (shallow : depth levels < free .groups) where
+module _ (limits free : Limits) (levels : Levels) (e : Element) (some : countSoFar levels < free .room) (shallow : depth levels < free .groups) where
   leaf-under : StepUnder limits (addLeaf limits levels e) (addLeaf free levels e)
   unfolding count
   leaf-under =
       let add : Trees → Trees = λ before. leaf before e in
-      rw (lt-leb (free .room) (number levels) some)
-      (cond-known (λ s. StepUnder limits s (more (onTop add levels))) (leb (limits .room) (number levels))
-      (λ full. full-step (omega (arith, leb-true (limits .room) (number levels) full, number-on-top add 1 (λ t. refl) levels)))
+      rw (lt-leb (free .room) (countSoFar levels) some)
+      (cond-known (λ s. StepUnder limits s (more (onTop add levels))) (leb (limits .room) (countSoFar levels))
+      (λ full. full-step (omega (arith, leb-true (limits .room) (countSoFar levels) full, count-on-top add 1 (λ t. refl) levels)))
       (λ rest. same-step))
 
   open-under : (kind : ℕ) → StepUnder limits (openGroup limits levels kind e) (openGroup free levels kind e)
   unfolding count deepest
   open-under kind =
-      let P : Step → Type 0 = λ s. StepUnder limits s (more (inside levels kind (e .first) (e .line) none)) in
-      rw (lt-leb (free .groups) (depth levels) shallow, lt-leb (free .room) (number levels) some)
+      let P : Step → Type 0 = λ s. StepUnder limits s (more (inside levels kind (e .first) (e .newline) none)) in
+      rw (lt-leb (free .groups) (depth levels) shallow, lt-leb (free .room) (countSoFar levels) some)
       (cond-known P (leb (limits .groups) (depth levels)) (λ full. deep-step (omega (arith, leb-true (limits .groups) (depth levels) full))) λ shallow.
-      cond-known P (leb (limits .room) (number levels)) (λ full. full-step (omega (arith, leb-true (limits .room) (number levels) full))) λ rest.
+      cond-known P (leb (limits .room) (countSoFar levels)) (λ full. full-step (omega (arith, leb-true (limits .room) (countSoFar levels) full))) λ rest.
       same-step)
 
   step-under : StepUnder limits (step limits levels e) (step free levels e)
   unfolding step
-  step-under = go (eqb (e .kind) delimiterKind) (isSign "(" (e .which)) (isSign "{" (e .which)) (braceOpens levels (e .line))
+  step-under = go (eqb (e .kind) delimiterKind) (eqb (e .which) parenOpener) (eqb (e .which) braceOpener) (braceOpens levels (e .newline))
     where
       go : (d p b o : Bool)
           → StepUnder limits
@@ -87,7 +87,7 @@ pub data Under (limits : Limits) : Reading → Reading → Type 0 where
 
 -- levels at a place have at most as many records, and groups open, as there are bytes before it
 record Small (levels : Levels) (place : ℕ) : Type 0 where
-  number-small : number levels ≤ place
+  count-small : countSoFar levels ≤ place
   depth-small : depth levels ≤ place
 
 abbrev NoLimitRefused : Reading → Type 0
@@ -97,7 +97,7 @@ NoLimitRefused (refused number place) = NoLimit number
 module _ (bytes : List ℕ) where
   module _ (levels : Levels) (place : ℕ) (e : Element) (p : Small levels place) (f : elementAt bytes place (slashOpens levels) ≡ Next.Found e) where
     -- each element has a byte of its own
-    not-reached : (number levels < length bytes) × (depth levels < length bytes)
+    not-reached : (countSoFar levels < length bytes) × (depth levels < length bytes)
     not-reached = omega (arith, found-placed bytes place (slashOpens levels) e f)
 
     small-next : (limits : Limits) (after : Levels) → step limits levels e ≡ more after → Small after (e .end)
@@ -109,8 +109,8 @@ module _ (bytes : List ℕ) where
     stop-no-limit number at-closer = omega arith
 
   ending-no-limit : (levels : Levels) → NoLimitRefused (ending levels)
-  ending-no-limit (text trees) = tt
-  ending-no-limit (inside around kind first line trees) = omega arith
+  ending-no-limit (wholeText trees) = tt
+  ending-no-limit (inside around kind first newline trees) = omega arith
 
   unlimited-refused : NoLimitRefused (unlimitedReading bytes)
   unfolding count
@@ -145,7 +145,7 @@ module _ (bytes : List ℕ) where
             (rest after (e .end) (small-next levels place e p f limits after x))
         steps e f (full-step {place = at} {after = after} h) x y rest =
             rw (read-stop bytes limits fuel levels place e f treesFull at x, read-more bytes (unlimited bytes) fuel levels place e f after y)
-            (full (passed bytes (unlimited bytes) number (λ l a g. g .number-kept) (limits .room) fuel after (e .end) h))
+            (full (passed bytes (unlimited bytes) countSoFar (λ l a g. g .count-kept) (limits .room) fuel after (e .end) h))
         steps e f (deep-step {place = at} {after = after} h) x y rest =
             rw (read-stop bytes limits fuel levels place e f deep at x, read-more bytes (unlimited bytes) fuel levels place e f after y)
             (deeper (passed bytes (unlimited bytes) reached (λ l a g. g .reached-kept) (limits .groups) fuel after (e .end) h))
@@ -160,4 +160,4 @@ module _ (bytes : List ℕ) where
 
     pub reading-under : Under limits (reading bytes limits) (unlimitedReading bytes)
     unfolding reading count
-    reading-under = read-under (suc (length bytes)) (text none) 0 (omega arith)
+    reading-under = read-under (suc (length bytes)) (wholeText none) 0 (omega arith)

@@ -1,8 +1,3 @@
-pub mod Trees
-pub mod Rule
-pub mod Levels
 pub mod Reading
-pub mod Summary
-pub mod LevelNumbers
-pub mod Held
 pub mod Limits
+pub mod Machinery

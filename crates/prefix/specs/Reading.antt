@@ -5,11 +5,11 @@ use mathlib.Core.Bool.{Bool, cond, _||_}
 use mathlib.Core.List.{List}
 use lib.Dec.{eqb, leb}
 use lib.ListN.{length}
-use Rattle.elements.specs.Elements.{elementAt, delimiterKind, isSign}
+use Rattle.elements.specs.Elements.{elementAt, delimiterKind, parenOpener, parenCloser, braceOpener}
 use Rattle.elements.specs.declared.Element.{Element}
 use Rattle.elements.specs.declared.Next.{Next}
-use Rattle.prefix.specs.Trees.{Trees, none, leaf, group, parenKind, objectKind, blockKind}
-use Rattle.prefix.specs.Levels.{Levels, text, inside, slashOpens, braceOpens, depth, number, onTop}
+use Rattle.rule.specs.Trees.{Trees, none, leaf, group, parenKind, objectKind, blockKind}
+use Rattle.rule.specs.Levels.{Levels, wholeText, inside, slashOpens, braceOpens, depth, countSoFar, onTop}
 
 -- Document 01, Refused texts, row 9, deep: "opener inside 100 open groups"; place: the opener
 abbrev pub deep : ℕ
@@ -41,32 +41,34 @@ pub data Step : Type 0 where
 -- an element that is no delimiter; 12 where "an element needs a record and the table or 16,384 is used up"
 abbrev pub addLeaf : Limits → Levels → Element → Step
 addLeaf limits levels e =
-    cond (leb (limits .room) (number levels)) (stop treesFull (e .first))
+    cond (leb (limits .room) (countSoFar levels)) (stop treesFull (e .first))
     (more (onTop (λ before. leaf before e) levels))
 
 -- an opener of a group of that kind; 9 precedes 12
 abbrev pub openGroup : Limits → Levels → ℕ → Element → Step
 openGroup limits levels kind e =
     cond (leb (limits .groups) (depth levels)) (stop deep (e .first))
-    (cond (leb (limits .room) (number levels)) (stop treesFull (e .first))
-    (more (inside levels kind (e .first) (e .line) none)))
+    (cond (leb (limits .room) (countSoFar levels)) (stop treesFull (e .first))
+    (more (inside levels kind (e .first) (e .newline) none)))
 
--- `)` closes `( )`, and `}` closes an object or a block
+-- `)` closes `( )`; `}`, the other closer, an object or a block
 abbrev pub closes : ℕ → ℕ → Bool
-closes which kind = cond (isSign ")" which) (eqb kind parenKind) (eqb kind objectKind || eqb kind blockKind)
+closes which kind =
+    cond (eqb which parenCloser) (eqb kind parenKind)
+    (eqb kind objectKind || eqb kind blockKind)
 
 -- a closer; 10 for "nothing open, or the other shape"
 abbrev pub closeGroup : Levels → Element → Step
-closeGroup (text trees) e = stop wrongCloser (e .first)
-closeGroup (inside around kind first line trees) e =
-    cond (closes (e .which) kind) (more (onTop (λ before. group before kind first (e .end) line trees) around))
+closeGroup (wholeText trees) e = stop wrongCloser (e .first)
+closeGroup (inside around kind first newline trees) e =
+    cond (closes (e .which) kind) (more (onTop (λ before. group before kind first (e .end) newline trees) around))
     (stop wrongCloser (e .first))
 
 -- a delimiter
 abbrev pub delimit : Limits → Levels → Element → Step
 delimit limits levels e =
-    cond (isSign "(" (e .which)) (openGroup limits levels parenKind e)
-    (cond (isSign "{" (e .which)) (openGroup limits levels (cond (braceOpens levels (e .line)) objectKind blockKind) e)
+    cond (eqb (e .which) parenOpener) (openGroup limits levels parenKind e)
+    (cond (eqb (e .which) braceOpener) (openGroup limits levels (cond (braceOpens levels (e .newline)) objectKind blockKind) e)
     (closeGroup levels e))
 
 -- an element
@@ -80,40 +82,40 @@ pub data Reading : Type 0 where
 
 -- the text's end; 11 where "text ends in a group", at the "innermost opener"
 abbrev pub ending : Levels → Reading
-ending (text trees) = accepted trees
-ending (inside around kind first line trees) = refused unclosed first
+ending (wholeText trees) = accepted trees
+ending (inside around kind first newline trees) = refused unclosed first
 
 -- what follows a step that was taken at an element with that end: the reading is over, or goes on there
-pub data Turn : Type 0 where
-  over : Reading → Turn
-  on : Levels → ℕ → Turn
+pub data Progress : Type 0 where
+  over : Reading → Progress
+  on : Levels → ℕ → Progress
 
-abbrev pub stepped : ℕ → Step → Turn
+abbrev pub stepped : ℕ → Step → Progress
 stepped end (stop number place) = over (refused number place)
 stepped end (more levels) = on levels end
 
 -- what stands at the place where an element is looked for
-abbrev pub met : Limits → Levels → Next → Turn
+abbrev pub met : Limits → Levels → Next → Progress
 met limits levels Next.End = over (ending levels)
 met limits levels (Next.Fault number place) = over (refused number place)
 met limits levels (Next.Found e) = stepped (e .end) (step limits levels e)
 
 -- the next element at a place, where the prefix rule states what a slash does there
-unfoldable pub turn : List ℕ → Limits → Levels → ℕ → Turn
-turn bytes limits levels place = met limits levels (elementAt bytes place (slashOpens levels))
+unfoldable pub proceed : List ℕ → Limits → Levels → ℕ → Progress
+proceed bytes limits levels place = met limits levels (elementAt bytes place (slashOpens levels))
 
--- the rest of a reading; there are fewer elements than `fuel`, so that it is not used up
+-- the rest of a reading; there are fewer elements than `fuel`, so that it is not used up (`reading-covers` of `grammar/proofs/Theorems.antt`)
 unfoldable pub readOn : List ℕ → Limits → ℕ → Levels → ℕ → Reading
 readOn bytes limits zero levels place = ending levels
 readOn bytes limits (suc fuel) levels place =
-    elim (turn bytes limits levels place) [ over reading ↦ reading | on after next ↦ readOn bytes limits fuel after next ]
+    elim (proceed bytes limits levels place) [ over reading ↦ reading | on after next ↦ readOn bytes limits fuel after next ]
 
 -- the reading of a text under limits
 unfoldable pub reading : List ℕ → Limits → Reading
-reading bytes limits = readOn bytes limits (suc (length bytes)) (text none) 0
+reading bytes limits = readOn bytes limits (suc (length bytes)) (wholeText none) 0
 
--- Reading without limits: demand 3 is held "whatever the text", and has no limits in it. Each element has a byte of its own, so
--- that no reading reaches limits as large as its text is long.
+-- Reading without limits, which demand 3 is about. Each element has a byte of its own, so that no reading reaches limits as large as its text is
+-- long: `unlimited-number` of `prefix/proofs/Unlimited.antt`.
 abbrev pub unlimited : List ℕ → Limits
 unlimited bytes = record { groups = length bytes; room = length bytes }
 

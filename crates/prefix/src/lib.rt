@@ -1,23 +1,20 @@
-// The prefix rule, and the state of a reading: what the elements so far make of it.
+// The state of a reading: what the elements so far make of it, by the prefix rule.
 ghost use mathlib.Core.Path.{_≡_};
 ghost use mathlib.Core.List.{List};
 ghost use Prim.Native.Nat.{ℕ, _/_, _≤_};
 ghost use lib.ListN.{length};
-ghost use Rattle.prefix.specs.Trees.{none};
-ghost use Rattle.prefix.specs.Levels.{Levels, text, slashOpens};
-ghost use Rattle.prefix.specs.Reading.{addLeaf, openGroup, closes, closeGroup, step};
-ghost use Rattle.prefix.specs.Held.{Held, Follows};
-
-mod rule;
-
+ghost use Rattle.rule.specs.Trees.{none};
+ghost use Rattle.rule.specs.Levels.{Levels, wholeText};
+ghost use Rattle.prefix.specs.Reading.{addLeaf, openGroup, closes, closeGroup};
+ghost use Rattle.prefix.specs.Machinery.Represents.{Represents, Follows, SettlesSlash, Advances};
 use elements::Element;
 
 // The kinds of groups, as document 01 numbers those of its tree records.
-pub const PARENS: u32 = 7;
+pub const PARENS: u32 = rule::PARENS;
 
-pub const OBJECT: u32 = 8;
+pub const OBJECT: u32 = rule::OBJECT;
 
-pub const BLOCK: u32 = 9;
+pub const BLOCK: u32 = rule::BLOCK;
 
 // The numbers that document 01's table gives the faults of levels.
 pub const DEEP: u32 = 9;
@@ -33,10 +30,10 @@ pub const TREES_FULL: u32 = 12;
 pub struct State {
     pub level: u32,
     pub depth: usize,
-    pub number: usize,
+    pub records: usize,
 }
 
-// What an element makes of the state: a leaf more; a group of a kind opened; a group closed, with the caller's mark for it;
+// What an element makes of the state: a leaf more; a group of a kind opened; a group closed, with the caller's tag for it;
 // or a refusal.
 pub enum Advanced {
     Leaf(State),
@@ -47,33 +44,33 @@ pub enum Advanced {
 
 // The state before the first element.
 pub fn start() -> State
-    ensures { λ r. ⌜ ((mark : Levels → ℕ → ℕ) (stack : List ℕ) → Held mark stack r (text none)) ⌝ }
+    ensures { λ r. ⌜ ((tag : Levels → ℕ → ℕ) (stack : List ℕ) → Represents tag stack r (wholeText none)) ⌝ }
 {
     State {
         level: rule::NOTHING,
         depth: 0,
-        number: 0,
+        records: 0,
     }
 }
 
 // Whether a slash that is met in a state opens a regular expression.
 pub fn slash_opens(state: State) -> bool
-    ensures { λ r. ⌜ ((mark : Levels → ℕ → ℕ) (stack : List ℕ) (levels : Levels) → Held mark stack state levels → r ≡ slashOpens levels) ⌝ }
+    ensures { λ r. ⌜ SettlesSlash state r ⌝ }
 {
     rule::slash_opens(state.level)
 }
 
 fn add_leaf(state: State, room: usize, e: Element) -> Advanced
-    ensures { λ r. ⌜ ((mark : Levels → ℕ → ℕ) (stack : List ℕ) (groups : ℕ) (levels : Levels) → Held mark stack state levels → Follows room mark stack e levels r (addLeaf (record { groups = groups; room = room }) levels e)) ⌝ }
+    ensures { λ r. ⌜ ((tag : Levels → ℕ → ℕ) (stack : List ℕ) (groups : ℕ) (levels : Levels) → Represents tag stack state levels → Follows room tag stack e levels r (addLeaf (record { groups = groups; room = room }) levels e)) ⌝ }
 {
-    let number = state.number;
+    let number = state.records;
     if room <= number {
         return Advanced::Stopped(TREES_FULL, e.first);
     }
     Advanced::Leaf(State {
         level: rule::after_leaf(state.level, e),
         depth: state.depth,
-        number: number + 1,
+        records: number + 1,
     })
 }
 
@@ -81,15 +78,15 @@ fn open_group(
     stack: &mut [u32],
     state: State,
     room: usize,
-    mark: u32,
+    tag: u32,
     kind: u32,
     e: Element,
 ) -> Advanced
     requires { ⌜ kind ≤ 9 ⌝ }
-    ensures { λ r. ⌜ ((marks : Levels → ℕ → ℕ) (levels : Levels) → Held marks (now (stack .entry)) state levels → mark ≡ marks levels (e .first) → Follows room marks (now (stack .exit)) e levels r (openGroup (record { groups = length (now (stack .entry)) / 2; room = room }) levels kind e)) ⌝ }
+    ensures { λ r. ⌜ ((tags : Levels → ℕ → ℕ) (levels : Levels) → Represents tags (now (stack .entry)) state levels → tag ≡ tags levels (e .first) → Follows room tags (now (stack .exit)) e levels r (openGroup (record { groups = length (now (stack .entry)) / 2; room = room }) levels kind e)) ⌝ }
 {
     let depth = state.depth;
-    let number = state.number;
+    let number = state.records;
     if stack.len() / 2 <= depth {
         return Advanced::Stopped(DEEP, e.first);
     }
@@ -97,13 +94,13 @@ fn open_group(
         return Advanced::Stopped(TREES_FULL, e.first);
     }
     stack[2 * depth] = state.level;
-    stack[2 * depth + 1] = mark;
+    stack[2 * depth + 1] = tag;
     Advanced::Opened(
         kind,
         State {
             level: rule::SUMMARIES * kind + rule::NOTHING,
             depth: depth + 1,
-            number: number + 1,
+            records: number + 1,
         },
     )
 }
@@ -122,7 +119,7 @@ fn is_closed_by(kind: u32, which: u32) -> bool
 }
 
 fn close_group(stack: &[u32], state: State, e: Element) -> Advanced
-    ensures { λ r. ⌜ ((room : ℕ) (marks : Levels → ℕ → ℕ) (levels : Levels) → Held marks (now (stack .entry)) state levels → Follows room marks (now (stack .entry)) e levels r (closeGroup levels e)) ⌝ }
+    ensures { λ r. ⌜ ((room : ℕ) (tags : Levels → ℕ → ℕ) (levels : Levels) → Represents tags (now (stack .entry)) state levels → Follows room tags (now (stack .entry)) e levels r (closeGroup levels e)) ⌝ }
 {
     let depth = state.depth;
     if depth == 0 {
@@ -136,33 +133,33 @@ fn close_group(stack: &[u32], state: State, e: Element) -> Advanced
         return Advanced::Stopped(WRONG_CLOSER, e.first);
     }
     let around = stack[2 * (depth - 1)];
-    let mark = stack[2 * (depth - 1) + 1];
+    let tag = stack[2 * (depth - 1) + 1];
     Advanced::Closed(
-        mark,
+        tag,
         State {
             level: rule::after_group(around, kind),
             depth: depth - 1,
-            number: state.number,
+            records: state.records,
         },
     )
 }
 
-// The state after an element, where there is room for so many records. `mark` is what the caller keeps of a group that the
+// The state after an element, where there is room for so many records. `tag` is what the caller keeps of a group that the
 // element opens, until it is closed.
-pub fn advance(stack: &mut [u32], state: State, room: usize, mark: u32, e: Element) -> Advanced
-    ensures { λ r. ⌜ ((marks : Levels → ℕ → ℕ) (levels : Levels) → Held marks (now (stack .entry)) state levels → mark ≡ marks levels (e .first) → Follows room marks (now (stack .exit)) e levels r (step (record { groups = length (now (stack .entry)) / 2; room = room }) levels e)) ⌝ }
+pub fn advance(stack: &mut [u32], state: State, room: usize, tag: u32, e: Element) -> Advanced
+    ensures { λ r. ⌜ Advances (now (stack .entry)) (now (stack .exit)) state room tag e r ⌝ }
 {
     if e.kind != elements::DELIMITER {
         return add_leaf(state, room, e);
     }
     if e.which == signs::OPEN_PAREN {
-        return open_group(stack, state, room, mark, PARENS, e);
+        return open_group(stack, state, room, tag, PARENS, e);
     }
     if e.which == signs::OPEN_BRACE {
-        if rule::brace_opens(state.level, e.line) {
-            return open_group(stack, state, room, mark, OBJECT, e);
+        if rule::brace_opens(state.level, e.newline) {
+            return open_group(stack, state, room, tag, OBJECT, e);
         }
-        return open_group(stack, state, room, mark, BLOCK, e);
+        return open_group(stack, state, room, tag, BLOCK, e);
     }
     close_group(stack, state, e)
 }

@@ -10,42 +10,42 @@ use Rattle.elements.specs.declared.Element.{Element}
 use Rattle.elements.specs.declared.Next.{Next}
 use Rattle.elements.proofs.Bounds.{found-placed, fault-placed}
 use Rattle.elements.proofs.FoundKinds.{found-kind}
-use Rattle.prefix.specs.Trees.{Trees, none, leaf, group, count}
-use Rattle.prefix.specs.Levels.{Levels, text, inside, slashOpens, onTop}
+use Rattle.rule.specs.Trees.{Trees, none, leaf, group, count}
+use Rattle.rule.specs.Levels.{Levels, wholeText, inside, slashOpens, onTop}
 use Rattle.prefix.specs.Reading.{Limits, Reading, accepted, refused, ending, reading}
 use Rattle.prefix.proofs.Induction.{reading-tells}
 use Rattle.prefix.proofs.StepCases.{Taken, leaf-taken, open-taken, close-taken, step-taken, step-stopped}
-use Rattle.reader.specs.Records.{records}
+use Rattle.storing.specs.Records.{records}
 use Rattle.reader.specs.Nested.{contentCells, Nested}
-use Rattle.reader.proofs.CellLaws.{records-length}
+use Rattle.storing.proofs.CellLaws.{records-length}
 
 -- elements have the kinds 1 to 6, and groups 7 to 9
 abbrev pub Formed : Trees → Type 0
 Formed none = Unit {0}
 Formed (leaf before e) = Formed before × (1 ≤ e .kind) × (e .kind ≤ 6)
-Formed (group before kind first end line within) = Formed before × (7 ≤ kind) × (kind ≤ 9) × Formed within
+Formed (group before kind first end newline within) = Formed before × (7 ≤ kind) × (kind ≤ 9) × Formed within
 
 abbrev FormedLevels : Levels → Type 0
-FormedLevels (text trees) = Formed trees
-FormedLevels (inside around kind first line trees) = FormedLevels around × (7 ≤ kind) × (kind ≤ 9) × Formed trees
+FormedLevels (wholeText trees) = Formed trees
+FormedLevels (inside around kind first newline trees) = FormedLevels around × (7 ≤ kind) × (kind ≤ 9) × Formed trees
 
 formed-on-top : (add : Trees → Trees) → ((trees : Trees) → Formed trees → Formed (add trees)) → (levels : Levels) → FormedLevels levels → FormedLevels (onTop add levels)
-formed-on-top add keeps (text trees) p = keeps trees p
-formed-on-top add keeps (inside around kind first line trees) p = (p .0, p .1, p .2, keeps trees (p .3))
+formed-on-top add keeps (wholeText trees) p = keeps trees p
+formed-on-top add keeps (inside around kind first newline trees) p = (p .0, p .1, p .2, keeps trees (p .3))
 
 formed-taken : (e : Element) → e .kind ≤ 6 → {limits : Limits} {levels after : Levels} → Taken limits e levels after → FormedLevels levels → FormedLevels after
 formed-taken e k (leaf-taken {levels = levels} n r) p = formed-on-top (λ before. leaf before e) (λ trees q. (q, omega arith, k)) levels p
 formed-taken e k (open-taken l h d r) p = (p, l, h, tt)
-formed-taken e k (close-taken {around = around} {kind = kind} {first = first} {line = line} {trees = trees}) p =
-    formed-on-top (λ before. group before kind first (e .end) line trees) (λ before q. (q, p .1, p .2, p .3)) around (p .0)
+formed-taken e k (close-taken {around = around} {kind = kind} {first = first} {newline = newline} {trees = trees}) p =
+    formed-on-top (λ before. group before kind first (e .end) newline trees) (λ before q. (q, p .1, p .2, p .3)) around (p .0)
 
 abbrev FormedReading : Reading → Type 0
 FormedReading (accepted trees) = Formed trees
 FormedReading (refused number place) = Unit {0}
 
 formed-ending : (levels : Levels) → FormedLevels levels → FormedReading (ending levels)
-formed-ending (text trees) p = p
-formed-ending (inside around kind first line trees) p = tt
+formed-ending (wholeText trees) p = p
+formed-ending (inside around kind first newline trees) p = tt
 
 pub reading-formed : (bytes : List ℕ) (limits : Limits) → FormedReading (reading bytes limits)
 reading-formed bytes limits =
@@ -68,7 +68,7 @@ pub records-nested : (trees : Trees) → Formed trees → Nested (records trees)
 unfolding records
 records-nested none p = Nested.empty
 records-nested (leaf before e) p = nested-append (records-nested before (p .0)) (Nested.element (p .1) (p .2) refl Nested.empty)
-records-nested (group before kind first end line within) p =
+records-nested (group before kind first end newline within) p =
     let m : contentCells (count within + 1) ≡ length (records within) = omega (arith, records-length within) in
     nested-append (records-nested before (p .0))
     (Nested.group {number = count within + 1} {rest = records within} (p .1) (p .2) (omega arith) (omega arith)
@@ -77,18 +77,18 @@ records-nested (group before kind first end line within) p =
 
 -- each open group starts within the text
 abbrev Opened : ℕ → Levels → Type 0
-Opened bound (text trees) = Unit {0}
-Opened bound (inside around kind first line trees) = (first ≤ bound) × Opened bound around
+Opened bound (wholeText trees) = Unit {0}
+Opened bound (inside around kind first newline trees) = (first ≤ bound) × Opened bound around
 
 opened-on-top : (bound : ℕ) (add : Trees → Trees) (levels : Levels) → Opened bound levels → Opened bound (onTop add levels)
-opened-on-top bound add (text trees) p = tt
-opened-on-top bound add (inside around kind first line trees) p = p
+opened-on-top bound add (wholeText trees) p = tt
+opened-on-top bound add (inside around kind first newline trees) p = p
 
 opened-taken : (bound : ℕ) (e : Element) → e .first ≤ bound → {limits : Limits} {levels after : Levels} → Taken limits e levels after → Opened bound levels → Opened bound after
 opened-taken bound e b (leaf-taken {levels = levels} n r) p = opened-on-top bound (λ before. leaf before e) levels p
 opened-taken bound e b (open-taken l h d r) p = (b, p)
-opened-taken bound e b (close-taken {around = around} {kind = kind} {first = first} {line = line} {trees = trees}) p =
-    opened-on-top bound (λ before. group before kind first (e .end) line trees) around (p .1)
+opened-taken bound e b (close-taken {around = around} {kind = kind} {first = first} {newline = newline} {trees = trees}) p =
+    opened-on-top bound (λ before. group before kind first (e .end) newline trees) around (p .1)
 
 -- and so does each fault
 abbrev RefusedWithin : ℕ → Reading → Type 0
@@ -96,8 +96,8 @@ RefusedWithin bound (accepted trees) = Unit {0}
 RefusedWithin bound (refused number place) = place ≤ bound
 
 ending-within : (bound : ℕ) (levels : Levels) → Opened bound levels → RefusedWithin bound (ending levels)
-ending-within bound (text trees) p = tt
-ending-within bound (inside around kind first line trees) p = p .0
+ending-within bound (wholeText trees) p = tt
+ending-within bound (inside around kind first newline trees) p = p .0
 
 pub reading-within-text : (bytes : List ℕ) (limits : Limits) → RefusedWithin (length bytes) (reading bytes limits)
 reading-within-text bytes limits =

@@ -7,7 +7,7 @@ use native.Mathlib.Omega.{arith}
 use borrow.Author.Tests.{le-leb}
 use lib.Dec.{leb}
 use lib.ListN.{length}
-use Rattle.prefix.specs.Trees.{Trees, count, deepest}
+use Rattle.rule.specs.Trees.{Trees, count, deepest}
 use Rattle.prefix.specs.Reading.{Limits, Reading, accepted, refused, reading, unlimited, unlimitedReading, deep, treesFull}
 use Rattle.prefix.proofs.LimitLaws.{fits-accepted, full-means-more, deep-means-deeper}
 use Rattle.reader.specs.Read.{longText, mostBytes}

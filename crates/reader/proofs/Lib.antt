@@ -1,7 +1,6 @@
-pub mod CellLaws
-pub mod StoreLaws
 pub mod ReadLaws
 pub mod Formed
 pub mod LengthFirst
+pub mod Numbered
 pub mod Theorems
 pub mod TurnLaws

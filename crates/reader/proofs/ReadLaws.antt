@@ -11,47 +11,48 @@ use Rattle.answers.specs.declared.Answer.{Answer}
 use Rattle.elements.specs.declared.Element.{Element}
 use Rattle.elements.specs.declared.Next.{Next}
 use Rattle.elements.proofs.Bounds.{Placed, found-placed}
-use Rattle.prefix.specs.Trees.{Trees, none, count}
-use Rattle.prefix.specs.Levels.{Levels, text, inside, slashOpens, depth, number}
+use Rattle.rule.specs.Trees.{Trees, none, count}
+use Rattle.rule.specs.Levels.{Levels, wholeText, inside, slashOpens, depth, countSoFar}
 use Rattle.prefix.specs.Reading.{Limits, Step, step, Reading, accepted, refused, ending, readOn, reading, unclosed}
 use Rattle.prefix.specs.declared.Advanced.{Advanced}
 use Rattle.prefix.specs.declared.State.{State}
 use Rattle.prefix.proofs.ReadingLaws.{read-end, read-fault, read-stop, read-more}
-use Rattle.reader.specs.Records.{records}
+use Rattle.storing.specs.Records.{records}
 use Rattle.reader.specs.Read.{mostBytes, mostGroups, longText, readingFor, answerOf, tableAfter}
-use Rattle.reader.specs.Table.{cells, Holds, Some, Turned, goes-on, ends, Starts, Runs, ran, halted, Filled}
-use Rattle.reader.specs.declared.Stored.{Stored}
-use Rattle.reader.specs.declared.Turn.{Turn}
-use Rattle.reader.proofs.CellLaws.{cells-length, first-cell}
+use Rattle.storing.specs.Machinery.Table.{cells, Holds, Some, Turned, goes-on, ends}
+use Rattle.reader.specs.Machinery.Turns.{Starts, Runs, ran, halted, Filled}
+use Rattle.storing.specs.declared.Stored.{Stored}
+use Rattle.reader.specs.declared.ReadOn.{ReadOn}
+use Rattle.storing.proofs.CellLaws.{cells-length, first-cell}
 
 -- the record of the innermost group, and the answer at the text's end
 module _ (before now stack : List ℕ) (room : ℕ) (state : State) where
-  index : (around : Levels) (kind first : ℕ) (line : Bool) (trees : Trees) → Holds before now stack room state (inside around kind first line trees)
-      → getD stack (2 * (state .depth - 1) + 1) 0 ≡ number around
-  index around kind first line trees h =
-      let e : state .depth - 1 ≡ depth around = omega (arith, h .held .depth-is) in
-      rw e (h .held .stacked .1)
+  index : (around : Levels) (kind first : ℕ) (newline : Bool) (trees : Trees) → Holds before now stack room state (inside around kind first newline trees)
+      → getD stack (2 * (state .depth - 1) + 1) 0 ≡ countSoFar around
+  index around kind first newline trees h =
+      let e : state .depth - 1 ≡ depth around = omega (arith, h .represented .depth-is) in
+      rw e (h .represented .stacked .1)
 
   pub index-small : (levels : Levels) → Holds before now stack room state levels → (state .depth ≡ 0 → ⊥)
-      → getD stack (2 * (state .depth - 1) + 1) 0 < state .number
-  index-small (text trees) h z = absurd (z (h .held .depth-is))
-  index-small (inside around kind first line trees) h z = rw (index around kind first line trees h) (omega (arith, h .held .number-is))
+      → getD stack (2 * (state .depth - 1) + 1) 0 < state .records
+  index-small (wholeText trees) h z = absurd (z (h .represented .depth-is))
+  index-small (inside around kind first newline trees) h z = rw (index around kind first newline trees h) (omega (arith, h .represented .records-is))
 
-  pub ends-accepted : (levels : Levels) → Holds before now stack room state levels → state .depth ≡ 0 → Answer.Accepted (state .number) ≡ answerOf (ending levels)
-  ends-accepted (text trees) h z = ap Answer.Accepted (h .held .number-is)
-  ends-accepted (inside around kind first line trees) h z = absurd (omega (arith, h .held .depth-is))
+  pub ends-accepted : (levels : Levels) → Holds before now stack room state levels → state .depth ≡ 0 → Answer.Accepted (state .records) ≡ answerOf (ending levels)
+  ends-accepted (wholeText trees) h z = ap Answer.Accepted (h .represented .records-is)
+  ends-accepted (inside around kind first newline trees) h z = absurd (omega (arith, h .represented .depth-is))
 
   pub ends-unclosed : (levels : Levels) → Holds before now stack room state levels → (state .depth ≡ 0 → ⊥)
       → Answer.Refused unclosed (getD now (5 * getD stack (2 * (state .depth - 1) + 1) 0 + 1) 0) ≡ answerOf (ending levels)
-  ends-unclosed (text trees) h z = absurd (z (h .held .depth-is))
-  ends-unclosed (inside around kind first line trees) h z =
+  ends-unclosed (wholeText trees) h z = absurd (z (h .represented .depth-is))
+  ends-unclosed (inside around kind first newline trees) h z =
       ap (Answer.Refused unclosed)
-      (rw (index around kind first line trees h, h .cells-are)
-      (first-cell (cells around) (records trees) _ (number around) kind first line (cells-length around)))
+      (rw (index around kind first newline trees h, h .cells-are)
+      (first-cell (cells around) (records trees) _ (countSoFar around) kind first newline (cells-length around)))
 
   pub ends-filled : (levels : Levels) → Holds before now stack room state levels → Filled (ending levels) before now
-  ends-filled (text trees) h = h .cells-are
-  ends-filled (inside around kind first line trees) h = tt
+  ends-filled (wholeText trees) h = h .cells-are
+  ends-filled (inside around kind first newline trees) h = tt
 
 -- what the loop holds: there is fuel for the rest of the text
 pub record At (bytes before now stack : List ℕ) (room : ℕ) (state : State) (place : ℕ) : Type 0 where
@@ -67,13 +68,13 @@ module _ (bytes before : List ℕ) where
   unfolding readingFor reading records count
   start-at stack room state place short s =
       record {
-        levels = text none;
+        levels = wholeText none;
         fuel = length bytes;
         meets = rw (le-leb (length bytes) mostBytes short, s .room-is, s .first);
         enough = omega (arith, s .first);
         holds =
             record
-            { held = s .held; cells-are = refl; some = omega arith; room-fits = omega (arith, s .room-is); room-small = omega (arith, s .room-is); length-is = refl; stack-is = s .stack-is };
+            { represented = s .represented; cells-are = refl; some = omega arith; room-fits = omega (arith, s .room-is); room-small = omega (arith, s .room-is); length-is = refl; stack-is = s .stack-is };
       }
 
   module _ (now stack : List ℕ) (room : ℕ) (state : State) (place : ℕ) (at : At bytes before now stack room state place) (pattern : Bool) (p : pattern ≡ slashOpens (at .levels)) where
@@ -84,11 +85,11 @@ module _ (bytes before : List ℕ) where
     here : (next : Next) → elementAt bytes place pattern ≡ next → elementAt bytes place (slashOpens (at .levels)) ≡ next
     here next e = rw p at e
 
-    pub at-end : elementAt bytes place pattern ≡ Next.End → Runs bytes before now stack room (Turn.End state)
+    pub at-end : elementAt bytes place pattern ≡ Next.End → Runs bytes before now stack room (ReadOn.End state)
     unfolding limits
     at-end e = ran (at .holds) (at .meets ∙ read-end bytes limits (at .fuel) (at .levels) place (here Next.End e))
 
-    pub at-fault : (n q : ℕ) → elementAt bytes place pattern ≡ Next.Fault n q → Runs bytes before now stack room (Turn.Stop n q)
+    pub at-fault : (n q : ℕ) → elementAt bytes place pattern ≡ Next.Fault n q → Runs bytes before now stack room (ReadOn.Stop n q)
     unfolding limits
     at-fault n q e = halted (at .meets ∙ read-fault bytes limits (at .fuel) (at .levels) place n q (here (Next.Fault n q) e))
 
@@ -97,13 +98,13 @@ module _ (bytes before : List ℕ) where
       placed = found-placed bytes place pattern e found
 
       stopped-by : (after st : List ℕ) {n q : ℕ} {y : Step} → step limits (at .levels) e ≡ y → Turned before after st room (Stored.Stop n q) y
-          → Runs bytes before after st room (Turn.Stop n q)
+          → Runs bytes before after st room (ReadOn.Stop n q)
       unfolding limits
       stopped-by after st {n} {q} s ends =
           halted (at .meets ∙ read-stop bytes limits (at .fuel) (at .levels) place e (here (Next.Found e) found) n q s)
 
       pub at-stop : (after st : List ℕ) (n q : ℕ) → Turned before after st room (Stored.Stop n q) (step (record { groups = mostGroups; room = room }) (at .levels) e)
-          → Runs bytes before after st room (Turn.Stop n q)
+          → Runs bytes before after st room (ReadOn.Stop n q)
       unfolding limits
       at-stop after st n q t = stopped-by after st refl t
 
@@ -136,27 +137,27 @@ module _ (bytes before now stack : List ℕ) (room : ℕ) where
   answered : (r : Reading) → readingFor bytes (length before) ≡ r → Filled r before now → Answered (answerOf r)
   answered r e f = rw e (refl, f)
 
-  pub ran-some : {s : State} → Runs bytes before now stack room (Turn.End s) → Some now stack room s
+  pub ran-some : {s : State} → Runs bytes before now stack room (ReadOn.End s) → Some now stack room s
   ran-some (ran {levels = levels} h e) = record { before = before; levels = levels; holds = h }
 
-  pub ran-answered : {s : State} → Runs bytes before now stack room (Turn.End s) → (answer : Answer)
+  pub ran-answered : {s : State} → Runs bytes before now stack room (ReadOn.End s) → (answer : Answer)
       → ((before : List ℕ) (room : ℕ) (levels : Levels) → Holds before now stack room s levels → answer ≡ answerOf (ending levels)) → Answered answer
   ran-answered (ran {state = s} {levels = levels} h e) answer a =
       rw (a before room levels h) (answered (ending levels) e (ends-filled before now stack room s levels h))
 
-  pub halted-answered : {n q : ℕ} → Runs bytes before now stack room (Turn.Stop n q) → Answered (Answer.Refused n q)
+  pub halted-answered : {n q : ℕ} → Runs bytes before now stack room (ReadOn.Stop n q) → Answered (Answer.Refused n q)
   halted-answered (halted {number = n} {place = q} e) = answered (refused n q) e tt
 
-  abbrev elements : Turn → ℕ
-  elements (Turn.End s) = 0
-  elements (Turn.Stop n q) = 0
-  elements (Turn.Taken e advanced) = 1
+  abbrev elements : ReadOn → ℕ
+  elements (ReadOn.End s) = 0
+  elements (ReadOn.Stop n q) = 0
+  elements (ReadOn.Taken e advanced) = 1
 
-  no-elements : {t : Turn} → Runs bytes before now stack room t → elements t ≡ 0
+  no-elements : {t : ReadOn} → Runs bytes before now stack room t → elements t ≡ 0
   no-elements (ran h e) = refl
   no-elements (halted e) = refl
 
-  pub none-taken : {e : Element} {advanced : Advanced} → Runs bytes before now stack room (Turn.Taken e advanced) → ⊥
+  pub none-taken : {e : Element} {advanced : Advanced} → Runs bytes before now stack room (ReadOn.Taken e advanced) → ⊥
   none-taken t = omega (arith, no-elements t)
 
 -- the call: what was written is cleared where the reading is refused

@@ -7,17 +7,18 @@ use native.Mathlib.Omega.{arith}
 use borrow.Author.Tests.{leb-true}
 use lib.Dec.{leb}
 use lib.ListN.{length}
-use Rattle.prefix.specs.Trees.{Trees, count, deepest}
+use Rattle.rule.specs.Trees.{Trees, count, deepest}
 use Rattle.prefix.specs.Reading.{Limits, accepted, refused, reading, unlimitedReading, deep, treesFull}
 use Rattle.prefix.proofs.Sizes.{accepted-fits}
 use Rattle.prefix.specs.Limits.{Within}
 use Rattle.prefix.proofs.LimitLaws.{reading-within}
 use Rattle.tables.specs.Records.{treeWidth, roomFor}
-use Rattle.reader.specs.Records.{records}
+use Rattle.storing.specs.Records.{records}
 use Rattle.reader.specs.Read.{longText, mostBytes, mostGroups, readLimits, readingFor}
 use Rattle.reader.specs.Nested.{Nested}
-use Rattle.reader.proofs.CellLaws.{records-length}
+use Rattle.storing.proofs.CellLaws.{records-length}
 use Rattle.reader.proofs.Formed.{reading-formed, records-nested, reading-within-text}
+use Rattle.reader.proofs.Numbered.{first-numbered}
 use Rattle.reader.proofs.LengthFirst.{first-accepted, first-fits, first-full, first-deep}
 
 -- Limits: more room, or more groups, changes no accepted reading.
@@ -53,6 +54,11 @@ refused-place text cells number place = go (leb (length text) mostBytes) refl
     go false short e =
         let q : mostBytes ≡ place = cc in
         omega arith
+
+-- Its number is that of a row from 1 to 12, so that it is no 13, 14 or 15.
+pub refused-number : (text : List ℕ) (cells number place : ℕ) → readingFor text cells ≡ refused number place → (1 ≤ number) × (number ≤ 12)
+unfolding readingFor
+refused-number text cells = first-numbered text (readLimits cells)
 
 -- The count of an accepted reading is at most 16,384, and what the table has room for.
 pub accepted-count : (text : List ℕ) (cells : ℕ) (trees : Trees) → readingFor text cells ≡ accepted trees → count trees ≤ roomFor cells

@@ -7,13 +7,13 @@ use lib.ListN.{length}
 use Rattle.elements.specs.Elements.{elementAt}
 use Rattle.elements.specs.declared.Element.{Element}
 use Rattle.elements.specs.declared.Next.{Next}
-use Rattle.prefix.specs.Levels.{Levels, slashOpens}
+use Rattle.rule.specs.Levels.{Levels, slashOpens}
 use Rattle.prefix.specs.Reading.{step}
-use Rattle.prefix.specs.Held.{Held, Follows}
+use Rattle.prefix.specs.Machinery.Represents.{Represents, Follows}
 use Rattle.prefix.specs.declared.Advanced.{Advanced}
 use Rattle.prefix.specs.declared.State.{State}
-use Rattle.reader.specs.Table.{openerPlace, Takes, at-end, at-fault, at-element}
-use Rattle.reader.specs.declared.Turn.{Turn}
+use Rattle.reader.specs.Machinery.Turns.{openerPlace, Takes, at-end, at-fault, at-element}
+use Rattle.reader.specs.declared.ReadOn.{ReadOn}
 use Rattle.reader.proofs.ReadLaws.{At}
 
 -- nothing has moved since the loop began
@@ -31,22 +31,22 @@ pub record Loop (bytes before now stack₀ stack : List ℕ) (room : ℕ) (once 
 
 -- the answers of a first turn
 module _ (bytes stack₀ stack : List ℕ) (room : ℕ) (state₀ state : State) (place₀ place : ℕ) (still : Unmoved stack₀ stack state₀ state place₀ place)
-    (pattern : Bool) (rule : (mark : Levels → ℕ → ℕ) (st : List ℕ) (l : Levels) → Held mark st state l → pattern ≡ slashOpens l)
-    (levels : Levels) (held : Held openerPlace stack₀ state₀ levels) where
+    (pattern : Bool) (rule : (tag : Levels → ℕ → ℕ) (st : List ℕ) (l : Levels) → Represents tag st state l → pattern ≡ slashOpens l)
+    (levels : Levels) (represented : Represents openerPlace stack₀ state₀ levels) where
   -- the levels are those of the state that the turn begins with
-  held-now : Held openerPlace stack state levels
-  held-now = rw (still .stack-is, still .state-is) held
+  represented-now : Represents openerPlace stack state levels
+  represented-now = rw (still .stack-is, still .state-is) represented
 
   here : (next : Next) → elementAt bytes place pattern ≡ next → elementAt bytes place₀ (slashOpens levels) ≡ next
-  here next e = rw (still .place-is, rule openerPlace stack levels held-now) at e
+  here next e = rw (still .place-is, rule openerPlace stack levels represented-now) at e
 
-  pub turn-end : elementAt bytes place pattern ≡ Next.End → Takes bytes stack₀ stack room state₀ place₀ levels (Turn.End state)
+  pub turn-end : elementAt bytes place pattern ≡ Next.End → Takes bytes stack₀ stack room state₀ place₀ levels (ReadOn.End state)
   turn-end e = rw (still .state-is) (at-end (still .stack-is) (here Next.End e))
 
-  pub turn-fault : (n q : ℕ) → elementAt bytes place pattern ≡ Next.Fault n q → Takes bytes stack₀ stack room state₀ place₀ levels (Turn.Stop n q)
+  pub turn-fault : (n q : ℕ) → elementAt bytes place pattern ≡ Next.Fault n q → Takes bytes stack₀ stack room state₀ place₀ levels (ReadOn.Stop n q)
   turn-fault n q e = at-fault (here (Next.Fault n q) e)
 
   pub turn-element : (after : List ℕ) (e : Element) (advanced : Advanced) → elementAt bytes place pattern ≡ Next.Found e
-      → (Held openerPlace stack state levels → Follows room openerPlace after e levels advanced (step (record { groups = length stack / 2; room = room }) levels e))
-      → Takes bytes stack₀ after room state₀ place₀ levels (Turn.Taken e advanced)
-  turn-element after e advanced found follows = at-element (here (Next.Found e) found) (rw (still .stack-is) at (follows held-now))
+      → (Represents openerPlace stack state levels → Follows room openerPlace after e levels advanced (step (record { groups = length stack / 2; room = room }) levels e))
+      → Takes bytes stack₀ after room state₀ place₀ levels (ReadOn.Taken e advanced)
+  turn-element after e advanced found follows = at-element (here (Next.Found e) found) (rw (still .stack-is) at (follows represented-now))

@@ -1,4 +1,3 @@
-pub mod Records
 pub mod Read
 pub mod Nested
-pub mod Table
+pub mod Machinery

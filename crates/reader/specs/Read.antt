@@ -1,14 +1,16 @@
 -- What `read` answers, and what it leaves in the lent table.
 use Prim.Native.Nat.{ℕ, _*_}
+use mathlib.Core.Path.{_≡_}
 use mathlib.Core.Bool.{cond}
 use mathlib.Core.List.{List, _++_}
 use lib.Dec.{leb}
 use lib.ListN.{length, drop, replicate}
+use Rattle.answers.specs.Answers.{numberOf, valueOf, Tells}
 use Rattle.answers.specs.declared.Answer.{Answer}
-use Rattle.prefix.specs.Trees.{count}
+use Rattle.rule.specs.Trees.{count}
 use Rattle.prefix.specs.Reading.{Limits, Reading, accepted, refused, reading}
 use Rattle.tables.specs.Records.{treeWidth, roomFor}
-use Rattle.reader.specs.Records.{records}
+use Rattle.storing.specs.Records.{records}
 
 -- Document 01, Refused texts, row 1: "over 262,144 bytes", at 262144
 abbrev pub longText : ℕ
@@ -38,3 +40,9 @@ answerOf (refused number place) = Answer.Refused number place
 abbrev pub tableAfter : Reading → List ℕ → List ℕ
 tableAfter (accepted trees) table = records trees ++ drop (treeWidth * count trees) table
 tableAfter (refused number place) table = replicate (length table) 0
+
+-- What `read` promises of its answer and its table, before and after, for every text and every table.
+abbrev pub Reads : List ℕ → List ℕ → List ℕ → Answer → Type 0
+Reads text before after answer =
+    (answer ≡ answerOf (readingFor text (length before))) × (after ≡ tableAfter (readingFor text (length before)) before)
+    × Tells numberOf valueOf answer (answerOf (readingFor text (length before)))

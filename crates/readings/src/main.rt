@@ -1,20 +1,19 @@
 // Prints how `reader::read` reads, `respacer::respace` respaces and `parser::parse` parses the texts that standard input gives, one
-// case to a line, for comparison with the stored answers. `cases.rt` and `spelling.rt` say what a line holds, `print.rt` what is
-// printed.
-mod cases;
-mod number;
-mod outputs;
-mod print;
-mod spelling;
-mod table;
+// case to a line, for comparison with the stored answers. `case.rt`, and `spelling.rt` of `cases`, say what a line holds, `print.rt` of
+// `cases` what is printed.
+mod case;
 
 use answers::Answer;
-use cases::Case;
+use case::Case;
+use cases::outputs;
+use cases::outputs::BYTES;
+use cases::print;
+use cases::spelling::MOST;
+use cases::spelling::part;
+use cases::table;
+use cases::table::CELLS;
+use cases::table::SYNTAX_CELLS;
 use libc::STDIN_FILENO;
-use outputs::BYTES;
-use spelling::MOST;
-use table::CELLS;
-use table::SYNTAX_CELLS;
 
 fn main() {
     let mut input = io::large_buffer();
@@ -46,21 +45,13 @@ fn answer(line: &[u8], text: &mut [u8; MOST], cells: &mut [u32]) {
 }
 
 fn answer_case(line: &[u8], text: &mut [u8; MOST], cells: &mut [u32]) {
-    let case = cases::case_of(line, text);
+    let case = case::case_of(line, text);
     match case {
         Case::Read(lent, size) => read(part(text, size), cells, lent),
         Case::Respace(lent, size) => respace(part(text, size), lent),
         Case::Parse(lent, size) => parse(part(text, size), cells, lent),
         Case::Bad => print::bad_case(),
     }
-}
-
-fn part(text: &[u8; MOST], size: usize) -> &[u8] {
-    let all: &[u8] = text;
-    if size <= all.len() {
-        return &all[0..size];
-    }
-    all
 }
 
 // The table is the first `lent` cells.

@@ -4,21 +4,21 @@ use mathlib.Core.Bool.{Bool}
 use mathlib.Core.List.{List, _∷_, _++_}
 use Prim.Native.Nat.{ℕ, _+_, _-_}
 use Rattle.elements.specs.declared.Element.{Element}
-use Rattle.prefix.specs.Trees.{Trees, leaf, group, count}
-use Rattle.prefix.specs.Rule.{elementClass, backwards}
-use Rattle.prefix.specs.Levels.{Levels, text, inside, kindOf, treesOf, slashOpens, braceOpens, depth, number, onTop}
-use Rattle.elements.specs.Parts.{bytesOf, SameElement}
+use Rattle.rule.specs.Trees.{Trees, leaf, group, count}
+use Rattle.rule.specs.Rule.{elementClass, backwards}
+use Rattle.rule.specs.Levels.{Levels, wholeText, inside, kindOf, treesOf, slashOpens, braceOpens, depth, countSoFar, onTop}
+use Rattle.elements.specs.Lexemes.{bytesOf, SameElement}
 use Rattle.respacer.specs.Respaced.{space, separator, addElement, addCloser, addTrees}
 use Rattle.respacer.specs.Alike.{Alike, alike-none, alike-leaf, alike-group}
 
 -- levels that are the same but for positions
 pub data AlikeLevels (s t : List ℕ) : Levels → Levels → Type 0 where
-  alike-text : {trees others : Trees} → Alike s t trees others → AlikeLevels s t (text trees) (text others)
-  alike-inside : {around outer : Levels} {kind first start : ℕ} {line : Bool} {trees others : Trees}
+  alike-text : {trees others : Trees} → Alike s t trees others → AlikeLevels s t (wholeText trees) (wholeText others)
+  alike-inside : {around outer : Levels} {kind first start : ℕ} {newline : Bool} {trees others : Trees}
       → AlikeLevels s t around outer
       → bytesOf s first (first + 1) ≡ bytesOf t start (start + 1)
       → Alike s t trees others
-      → AlikeLevels s t (inside around kind first line trees) (inside outer kind start line others)
+      → AlikeLevels s t (inside around kind first newline trees) (inside outer kind start newline others)
 
 module _ {s t : List ℕ} where
   same-class : {e f : Element} → SameElement s t e f → elementClass e ≡ elementClass f
@@ -34,7 +34,7 @@ module _ {s t : List ℕ} where
   alike-backwards : {trees others : Trees} → Alike s t trees others → backwards trees ≡ backwards others
   unfolding backwards
   alike-backwards alike-none = refl
-  alike-backwards (alike-leaf before same) = rw (same-class same, same .line, alike-backwards before)
+  alike-backwards (alike-leaf before same) = rw (same-class same, same .newline, alike-backwards before)
   alike-backwards (alike-group before opener within closer) = rw (alike-backwards before)
 
   alike-kind : {levels others : Levels} → AlikeLevels s t levels others → kindOf levels ≡ kindOf others
@@ -48,16 +48,16 @@ module _ {s t : List ℕ} where
   pub alike-slash : {levels others : Levels} → AlikeLevels s t levels others → slashOpens levels ≡ slashOpens others
   alike-slash alike = rw (alike-kind alike, alike-trees alike)
 
-  pub alike-brace : {levels others : Levels} → AlikeLevels s t levels others → (line : Bool) → braceOpens levels line ≡ braceOpens others line
-  alike-brace alike line = rw (alike-kind alike, alike-trees alike)
+  pub alike-brace : {levels others : Levels} → AlikeLevels s t levels others → (newline : Bool) → braceOpens levels newline ≡ braceOpens others newline
+  alike-brace alike newline = rw (alike-kind alike, alike-trees alike)
 
   pub alike-depth : {levels others : Levels} → AlikeLevels s t levels others → depth levels ≡ depth others
   alike-depth (alike-text trees) = refl
   alike-depth (alike-inside around opener trees) = rw (alike-depth around)
 
-  pub alike-number : {levels others : Levels} → AlikeLevels s t levels others → number levels ≡ number others
-  alike-number (alike-text trees) = alike-count trees
-  alike-number (alike-inside around opener trees) = rw (alike-number around, alike-count trees)
+  pub alike-so-far : {levels others : Levels} → AlikeLevels s t levels others → countSoFar levels ≡ countSoFar others
+  alike-so-far (alike-text trees) = alike-count trees
+  alike-so-far (alike-inside around opener trees) = rw (alike-so-far around, alike-count trees)
 
   -- a tree more on both
   pub alike-leaf-more : {levels others : Levels} {e f : Element} → AlikeLevels s t levels others → SameElement s t e f
@@ -65,17 +65,17 @@ module _ {s t : List ℕ} where
   alike-leaf-more (alike-text trees) same = alike-text (alike-leaf trees same)
   alike-leaf-more (alike-inside around opener trees) same = alike-inside around opener (alike-leaf trees same)
 
-  pub alike-group-more : (kind first start end stop : ℕ) (line : Bool) {levels others : Levels} {within inner : Trees} → AlikeLevels s t levels others
+  pub alike-group-more : (kind first start end stop : ℕ) (newline : Bool) {levels others : Levels} {within inner : Trees} → AlikeLevels s t levels others
       → bytesOf s first (first + 1) ≡ bytesOf t start (start + 1) → Alike s t within inner → bytesOf s (end - 1) end ≡ bytesOf t (stop - 1) stop
-      → AlikeLevels s t (onTop (λ before. group before kind first end line within) levels) (onTop (λ before. group before kind start stop line inner) others)
-  alike-group-more kind first start end stop line (alike-text trees) opener within closer = alike-text (alike-group trees opener within closer)
-  alike-group-more kind first start end stop line (alike-inside around mark trees) opener within closer = alike-inside around mark (alike-group trees opener within closer)
+      → AlikeLevels s t (onTop (λ before. group before kind first end newline within) levels) (onTop (λ before. group before kind start stop newline inner) others)
+  alike-group-more kind first start end stop newline (alike-text trees) opener within closer = alike-text (alike-group trees opener within closer)
+  alike-group-more kind first start end stop newline (alike-inside around tag trees) opener within closer = alike-inside around tag (alike-group trees opener within closer)
 
 -- they are written the same
 module _ (s t written : List ℕ) (first end start stop : ℕ) (same : bytesOf s first end ≡ bytesOf t start stop) where
-  element-same : (line : Bool) → addElement s written first end line ≡ addElement t written start stop line
+  element-same : (newline : Bool) → addElement s written first end newline ≡ addElement t written start stop newline
   unfolding addElement
-  element-same line = ap (λ bytes. written ++ (separator written line ++ bytes)) same
+  element-same newline = ap (λ bytes. written ++ (separator written newline ++ bytes)) same
 
   closer-same : addCloser s written first end ≡ addCloser t written start stop
   unfolding addCloser
@@ -86,9 +86,9 @@ module _ {s t : List ℕ} where
   unfolding addTrees
   alike-written written alike-none = refl
   alike-written written (alike-leaf {before = before} {earlier = earlier} {e = e} {other = f} rest same) =
-      rw (alike-written written rest, same .line) (element-same s t (addTrees t written earlier) (e .first) (e .end) (f .first) (f .end) (same .bytes) (f .line))
-  alike-written written (alike-group {before = before} {earlier = earlier} {within = within} {inner = inner} {first = first} {start = start} {end = end} {stop = stop} {line = line} rest opener inners closer) =
-      let opened : addElement s (addTrees s written before) first (first + 1) line ≡ addElement t (addTrees t written earlier) start (start + 1) line =
-      rw (alike-written written rest) (element-same s t (addTrees t written earlier) first (first + 1) start (start + 1) opener line) in
-      rw (opened, alike-written (addElement t (addTrees t written earlier) start (start + 1) line) inners)
-      (closer-same s t (addTrees t (addElement t (addTrees t written earlier) start (start + 1) line) inner) (end - 1) end (stop - 1) stop closer)
+      rw (alike-written written rest, same .newline) (element-same s t (addTrees t written earlier) (e .first) (e .end) (f .first) (f .end) (same .bytes) (f .newline))
+  alike-written written (alike-group {before = before} {earlier = earlier} {within = within} {inner = inner} {first = first} {start = start} {end = end} {stop = stop} {newline = newline} rest opener inners closer) =
+      let opened : addElement s (addTrees s written before) first (first + 1) newline ≡ addElement t (addTrees t written earlier) start (start + 1) newline =
+      rw (alike-written written rest) (element-same s t (addTrees t written earlier) first (first + 1) start (start + 1) opener newline) in
+      rw (opened, alike-written (addElement t (addTrees t written earlier) start (start + 1) newline) inners)
+      (closer-same s t (addTrees t (addElement t (addTrees t written earlier) start (start + 1) newline) inner) (end - 1) end (stop - 1) stop closer)

@@ -7,7 +7,7 @@ use native.Mathlib.Omega.{arith}
 use borrow.Author.Tests.{le-leb}
 use lib.Dec.{leb}
 use lib.ListN.{length}
-use Rattle.prefix.specs.Trees.{Trees}
+use Rattle.rule.specs.Trees.{Trees}
 use Rattle.prefix.specs.Reading.{Limits, Reading, accepted, refused, reading}
 use Rattle.reader.specs.Read.{longText, mostBytes, readLimits, readingFor}
 use Rattle.respacer.specs.Respaced.{lineFeed, respaced}
@@ -49,18 +49,27 @@ fitted-again text trees e short room fits =
     let same = written-again text trees k in
     ap (fitted (respaced text trees) room) (k .reads) ∙ rw (same, le-leb (length (respaced text trees)) room fits)
 
-pub respacing-again : (text : List ℕ) (room : ℕ) (bytes : List ℕ) → respacingFor text room ≡ written bytes → length bytes ≤ mostBytes
-    → (other : ℕ) → length bytes ≤ other → respacingFor bytes other ≡ written bytes
-respacing-again text room bytes e short other fits = read (wholeReading text) refl e
+-- what `respace` wrote is the respaced text of the trees that it read
+pub record Wrote (text bytes : List ℕ) : Type 0 where
+  pub trees : Trees
+  pub reads : wholeReading text ≡ accepted trees
+  pub same : respaced text trees ≡ bytes
+
+pub wrote : (text : List ℕ) (room : ℕ) (bytes : List ℕ) → respacingFor text room ≡ written bytes → Wrote text bytes
+wrote text room bytes e = read (wholeReading text) refl e
   where
     write : (trees : Trees) → wholeReading text ≡ accepted trees → (enough : Bool)
-        → cond enough (written (respaced text trees)) (denied outputFull (length text)) ≡ written bytes → respacingFor bytes other ≡ written bytes
-    write trees r true w =
-        let is : respaced text trees ≡ bytes = cc in
-        subst (λ output. length output ≤ mostBytes → length output ≤ other → respacingFor output other ≡ written output) is
-        (λ small room. fitted-again text trees r small other room) short fits
+        → cond enough (written (respaced text trees)) (denied outputFull (length text)) ≡ written bytes → Wrote text bytes
+    write trees r true w = record { trees = trees; reads = r; same = cc }
     write trees r false w = absurd (let z : _≡_ {A = ℕ} 0 1 = cc in omega arith)
 
-    read : (r : Reading) → wholeReading text ≡ r → fitted text room r ≡ written bytes → respacingFor bytes other ≡ written bytes
+    read : (r : Reading) → wholeReading text ≡ r → fitted text room r ≡ written bytes → Wrote text bytes
     read (accepted trees) r w = write trees r (leb (length (respaced text trees)) room) w
     read (refused number place) r w = absurd (let z : _≡_ {A = ℕ} 0 1 = cc in omega arith)
+
+pub respacing-again : (text : List ℕ) (room : ℕ) (bytes : List ℕ) → respacingFor text room ≡ written bytes → length bytes ≤ mostBytes
+    → (other : ℕ) → length bytes ≤ other → respacingFor bytes other ≡ written bytes
+respacing-again text room bytes e short other fits =
+    let w = wrote text room bytes e in
+    subst (λ output. length output ≤ mostBytes → length output ≤ other → respacingFor output other ≡ written output) (w .same)
+    (λ small enough. fitted-again text (w .trees) (w .reads) small other enough) short fits

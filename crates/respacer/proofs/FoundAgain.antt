@@ -13,13 +13,13 @@ use Rattle.elements.specs.declared.Next.{Next}
 use Rattle.elements.proofs.Bounds.{Placed, found-placed, past-end}
 use Rattle.elements.proofs.Separators.{lined, blank-first, line-end-first}
 use Rattle.elements.proofs.OwnBytes.{own-bytes}
-use Rattle.elements.specs.Parts.{bytesOf}
+use Rattle.elements.specs.Lexemes.{bytesOf}
 use Rattle.respacer.specs.Respaced.{lineFeed, space, separator, addElement}
 use Rattle.respacer.proofs.OverLaws.{bytes-length}
 
 -- an element from `first` on, behind a line end or not
 abbrev pub moved : Element → ℕ → Bool → Element
-moved e first line = record { kind = e .kind; which = e .which; first = first; end = first + (e .end - e .first); line = line }
+moved e first newline = record { kind = e .kind; which = e .which; first = first; end = first + (e .end - e .first); newline = newline }
 
 module _ (s : List ℕ) (place : ℕ) (pattern : Bool) (e : Element) (found : elementAt s place pattern ≡ Next.Found e)
     (x : ℕ) (separates : (blank x || lineEnd x) ≡ true) (v : List ℕ) where
@@ -34,8 +34,8 @@ module _ (s : List ℕ) (place : ℕ) (pattern : Bool) (e : Element) (found : el
       let own = own-bytes s place pattern e found x separates (written ++ (b ∷ [])) v in
       rw (size, append-assoc written (b ∷ []) tail) at own
 
-  after-separator : (written : List ℕ) (line : Bool)
-      → elementAt ((written ++ separator written line) ++ tail) (length written) pattern ≡ Next.Found (moved e (length (written ++ separator written line)) line)
+  after-separator : (written : List ℕ) (newline : Bool)
+      → elementAt ((written ++ separator written newline) ++ tail) (length written) pattern ≡ Next.Found (moved e (length (written ++ separator written newline)) newline)
   unfolding blank lineEnd
   after-separator [] true = line-end-first [] tail lineFeed pattern refl ∙ ap lined (behind [] lineFeed)
   after-separator [] false = own-bytes s place pattern e found x separates [] v
@@ -47,14 +47,14 @@ module _ (s : List ℕ) (place : ℕ) (pattern : Bool) (e : Element) (found : el
       (blank-first (b ∷ written) tail space pattern refl ∙ behind (b ∷ written) space)
 
   -- the text that goes on so, and where the element stands in it
-  module _ (written : List ℕ) (line : Bool) where
+  module _ (written : List ℕ) (newline : Bool) where
     abbrev again : List ℕ
-    again = addElement s written (e .first) (e .end) line ++ x ∷ v
+    again = addElement s written (e .first) (e .end) newline ++ x ∷ v
 
     abbrev start : ℕ
-    start = length (written ++ separator written line)
+    start = length (written ++ separator written newline)
 
-    parts : again ≡ (written ++ separator written line) ++ tail
+    parts : again ≡ (written ++ separator written newline) ++ tail
     unfolding addElement
     parts = simp append-assoc
 
@@ -63,18 +63,18 @@ module _ (s : List ℕ) (place : ℕ) (pattern : Bool) (e : Element) (found : el
         let p : Placed s place e = found-placed s place pattern e found in
         bytes-length s (e .first) (e .end) (omega (arith, p .some)) (p .within)
 
-    pub found-again : elementAt again (length written) pattern ≡ Next.Found (moved e start line)
-    found-again = rw parts (after-separator written line)
+    pub found-again : elementAt again (length written) pattern ≡ Next.Found (moved e start newline)
+    found-again = rw parts (after-separator written newline)
 
     -- its end is that of what is written
-    pub found-end : length (addElement s written (e .first) (e .end) line) ≡ start + (e .end - e .first)
+    pub found-end : length (addElement s written (e .first) (e .end) newline) ≡ start + (e .end - e .first)
     unfolding addElement
-    found-end = rw (← append-assoc written (separator written line) (bytesOf s (e .first) (e .end)), length-append (written ++ separator written line) (bytesOf s (e .first) (e .end)), size)
+    found-end = rw (← append-assoc written (separator written newline) (bytesOf s (e .first) (e .end)), length-append (written ++ separator written newline) (bytesOf s (e .first) (e .end)), size)
 
     pub found-bytes : bytesOf s (e .first) (e .end) ≡ bytesOf again start (start + (e .end - e .first))
     found-bytes =
         let span : start + (e .end - e .first) - start ≡ e .end - e .first = omega arith in
-        sym (rw (parts, span, drop-append-seam (written ++ separator written line) tail) (take-at (bytesOf s (e .first) (e .end)) (x ∷ v) (e .end - e .first) size))
+        sym (rw (parts, span, drop-append-seam (written ++ separator written newline) tail) (take-at (bytesOf s (e .first) (e .end)) (x ∷ v) (e .end - e .first) size))
 
 -- behind the last element a text has one 0A, and no element more
 pub nothing-more : (written : List ℕ) (pattern : Bool) → elementAt (written ++ (lineFeed ∷ [])) (length written) pattern ≡ Next.End

@@ -6,28 +6,28 @@ use native.Mathlib.Omega.{arith}
 use lib.ListN.{length, length-append}
 use Rattle.elements.specs.declared.Element.{Element}
 use Rattle.elements.proofs.Bounds.{Placed, found-placed}
-use Rattle.prefix.specs.Levels.{Levels, text, inside, slashOpens}
+use Rattle.rule.specs.Levels.{Levels, wholeText, inside, slashOpens}
 use Rattle.prefix.specs.Reading.{Limits, Reading, accepted, refused, ending, reading}
 use Rattle.prefix.proofs.Induction.{reading-tells}
 use Rattle.prefix.proofs.StepCases.{Taken, leaf-taken, open-taken, close-taken, step-taken}
-use Rattle.elements.specs.Parts.{bytesOf}
+use Rattle.elements.specs.Lexemes.{bytesOf}
 use Rattle.respacer.specs.Respaced.{separator, addElement, addCloser, addTrees, space}
-use Rattle.respacer.specs.Written.{writtenOf}
+use Rattle.respacer.specs.Machinery.Written.{writtenOf}
 use Rattle.respacer.proofs.OverLaws.{bytes-length}
 use Rattle.respacer.proofs.WriteLaws.{written-leaf, written-group}
 
-separator-length : (written : List ℕ) (line : Bool) → length (separator written line) ≤ 1
+separator-length : (written : List ℕ) (newline : Bool) → length (separator written newline) ≤ 1
 separator-length [] true = omega arith
 separator-length [] false = omega arith
 separator-length (b ∷ written) true = omega arith
 separator-length (b ∷ written) false = omega arith
 
 module _ (bytes written : List ℕ) (first end : ℕ) (h : first ≤ end) (k : end ≤ length bytes) where
-  element-length : (line : Bool) → length (addElement bytes written first end line) ≤ length written + 1 + (end - first)
+  element-length : (newline : Bool) → length (addElement bytes written first end newline) ≤ length written + 1 + (end - first)
   unfolding addElement
-  element-length line =
-      rw (length-append written (separator written line ++ bytesOf bytes first end), length-append (separator written line) (bytesOf bytes first end), bytes-length bytes first end h k)
-      (omega (arith, separator-length written line))
+  element-length newline =
+      rw (length-append written (separator written newline ++ bytesOf bytes first end), length-append (separator written newline) (bytesOf bytes first end), bytes-length bytes first end h k)
+      (omega (arith, separator-length written newline))
 
   closer-length : length (addCloser bytes written first end) ≤ length written + 1 + (end - first)
   unfolding addCloser
@@ -41,20 +41,20 @@ short-taken : (bytes : List ℕ) (place : ℕ) (e : Element) → Placed bytes pl
     → Short bytes levels place → Short bytes after (e .end)
 unfolding addTrees
 short-taken bytes place e p (leaf-taken {levels = levels} n r) s =
-    rw (written-leaf bytes e levels) (omega (arith, element-length bytes (writtenOf bytes levels) (e .first) (e .end) (omega (arith, p .some)) (p .within) (e .line), p .from, p .some))
+    rw (written-leaf bytes e levels) (omega (arith, element-length bytes (writtenOf bytes levels) (e .first) (e .end) (omega (arith, p .some)) (p .within) (e .newline), p .from, p .some))
 short-taken bytes place e p (open-taken {levels = levels} l h d r) s =
-    omega (arith, element-length bytes (writtenOf bytes levels) (e .first) (e .first + 1) (omega arith) (omega (arith, p .some, p .within)) (e .line), p .from, p .some)
-short-taken bytes place e p (close-taken {around = around} {kind = kind} {first = first} {line = line} {trees = trees}) s =
-    rw (written-group bytes kind first (e .end) line trees around)
-    (omega (arith, closer-length bytes (writtenOf bytes (inside around kind first line trees)) (e .end - 1) (e .end) (omega arith) (p .within), p .from, p .some))
+    omega (arith, element-length bytes (writtenOf bytes levels) (e .first) (e .first + 1) (omega arith) (omega (arith, p .some, p .within)) (e .newline), p .from, p .some)
+short-taken bytes place e p (close-taken {around = around} {kind = kind} {first = first} {newline = newline} {trees = trees}) s =
+    rw (written-group bytes kind first (e .end) newline trees around)
+    (omega (arith, closer-length bytes (writtenOf bytes (inside around kind first newline trees)) (e .end - 1) (e .end) (omega arith) (p .within), p .from, p .some))
 
 abbrev ShortReading : List ℕ → Reading → Type 0
 ShortReading bytes (accepted trees) = length (addTrees bytes [] trees) ≤ 2 * length bytes
 ShortReading bytes (refused number place) = Unit {0}
 
 short-ending : (bytes : List ℕ) (levels : Levels) (place : ℕ) → place ≤ length bytes → Short bytes levels place → ShortReading bytes (ending levels)
-short-ending bytes (text trees) place h s = omega arith
-short-ending bytes (inside around kind first line trees) place h s = tt
+short-ending bytes (wholeText trees) place h s = omega arith
+short-ending bytes (inside around kind first newline trees) place h s = tt
 
 pub reading-short : (bytes : List ℕ) (limits : Limits) → ShortReading bytes (reading bytes limits)
 unfolding addTrees

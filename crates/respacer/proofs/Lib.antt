@@ -10,4 +10,5 @@ pub mod StepAgain
 pub mod RestOfText
 pub mod ReadAgain
 pub mod CallsAgain
+pub mod RecordsAgain
 pub mod RoundTrip

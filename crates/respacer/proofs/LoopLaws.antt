@@ -10,20 +10,20 @@ use Rattle.answers.specs.declared.Answer.{Answer}
 use Rattle.elements.specs.declared.Element.{Element}
 use Rattle.elements.specs.declared.Next.{Next}
 use Rattle.elements.proofs.Bounds.{Placed, found-placed}
-use Rattle.prefix.specs.Trees.{none}
-use Rattle.prefix.specs.Levels.{Levels, text, slashOpens}
+use Rattle.rule.specs.Trees.{none}
+use Rattle.rule.specs.Levels.{Levels, wholeText, slashOpens}
 use Rattle.prefix.specs.Reading.{Step, step, Reading, accepted, refused, ending, readOn, reading}
-use Rattle.prefix.specs.Held.{Held, Follows}
+use Rattle.prefix.specs.Machinery.Represents.{Represents, Follows}
 use Rattle.prefix.specs.declared.Advanced.{Advanced}
 use Rattle.prefix.specs.declared.State.{State}
 use Rattle.prefix.proofs.ReadingLaws.{read-end, read-fault, read-stop, read-more}
 use Rattle.tables.specs.Records.{mostTrees}
 use Rattle.reader.specs.Read.{mostBytes, longText}
-use Rattle.reader.specs.Table.{openerPlace, Takes, at-end, at-fault, at-element}
-use Rattle.reader.specs.declared.Turn.{Turn}
+use Rattle.reader.specs.Machinery.Turns.{openerPlace, Takes, at-end, at-fault, at-element}
+use Rattle.reader.specs.declared.ReadOn.{ReadOn}
 use Rattle.respacer.specs.Respaced.{addTrees, respaced}
 use Rattle.respacer.specs.Respace.{respaceLimits, wholeReading, outputFull, Respacing, fitted, respacingFor, answerOf, outputAfter}
-use Rattle.respacer.specs.Written.{Writes, Turned, goes-on, ends, Told}
+use Rattle.respacer.specs.Machinery.Written.{Writes, Turned, goes-on, ends, Told}
 use Rattle.respacer.specs.declared.Wrote.{Wrote}
 use Rattle.respacer.proofs.OverLaws.{over-nothing, over-fits}
 
@@ -40,43 +40,43 @@ module _ (bytes old : List ℕ) where
   told : (output : List ℕ) (answer : Answer) (r : Reading) → wholeReading bytes ≡ r → Told bytes old output r answer → Told bytes old output (wholeReading bytes) answer
   told output answer r e t = rw e t
 
-  pub start-at : (stack : List ℕ) (state : State) → length bytes ≤ mostBytes → length stack ≡ 200 → Held openerPlace stack state (text none) → At bytes old old stack state 0 0
+  pub start-at : (stack : List ℕ) (state : State) → length bytes ≤ mostBytes → length stack ≡ 200 → Represents openerPlace stack state (wholeText none) → At bytes old old stack state 0 0
   unfolding wholeReading reading addTrees
-  start-at stack state short s held =
+  start-at stack state short s represented =
       record {
-        levels = text none;
+        levels = wholeText none;
         fuel = length bytes;
         meets = rw (le-leb (length bytes) mostBytes short);
         enough = omega arith;
         inside = omega arith;
-        writes = record { held = held; output-is = over-nothing old; at-is = refl; few = omega arith; length-is = refl; stack-is = s };
+        writes = record { represented = represented; output-is = over-nothing old; at-is = refl; few = omega arith; length-is = refl; stack-is = s };
       }
 
   module _ (output stack : List ℕ) (state : State) (at place : ℕ) (here : At bytes old output stack state at place) (after : List ℕ) where
     -- at the text's end nothing has changed
-    pub end-writes : {s : State} → Takes bytes stack after mostTrees state place (here .levels) (Turn.End s) → Writes bytes old output after state at place (here .levels)
+    pub end-writes : {s : State} → Takes bytes stack after mostTrees state place (here .levels) (ReadOn.End s) → Writes bytes old output after state at place (here .levels)
     end-writes (at-end same e) = rw same (here .writes)
 
-    pub end-told : {s : State} → Takes bytes stack after mostTrees state place (here .levels) (Turn.End s) → (next : List ℕ) (answer : Answer)
+    pub end-told : {s : State} → Takes bytes stack after mostTrees state place (here .levels) (ReadOn.End s) → (next : List ℕ) (answer : Answer)
         → Told bytes old next (ending (here .levels)) answer → Told bytes old next (wholeReading bytes) answer
     end-told (at-end same e) next answer t =
         told next answer (ending (here .levels)) (here .meets ∙ read-end bytes respaceLimits (here .fuel) (here .levels) place e) t
 
-    pub fault-told : {n q : ℕ} → Takes bytes stack after mostTrees state place (here .levels) (Turn.Stop n q) → (next : List ℕ)
+    pub fault-told : {n q : ℕ} → Takes bytes stack after mostTrees state place (here .levels) (ReadOn.Stop n q) → (next : List ℕ)
         → Told bytes old next (wholeReading bytes) (Answer.Refused n q)
     fault-told (at-fault {number = n} {fault = q} e) next =
         told next (Answer.Refused n q) (refused n q) (here .meets ∙ read-fault bytes respaceLimits (here .fuel) (here .levels) place n q e) refl
 
     -- an element, and the step that was taken at it
-    found-by : {e : Element} {advanced : Advanced} → Takes bytes stack after mostTrees state place (here .levels) (Turn.Taken e advanced)
+    found-by : {e : Element} {advanced : Advanced} → Takes bytes stack after mostTrees state place (here .levels) (ReadOn.Taken e advanced)
         → elementAt bytes place (slashOpens (here .levels)) ≡ Next.Found e
     found-by (at-element f s) = f
 
-    pub follows : {e : Element} {advanced : Advanced} → Takes bytes stack after mostTrees state place (here .levels) (Turn.Taken e advanced)
+    pub follows : {e : Element} {advanced : Advanced} → Takes bytes stack after mostTrees state place (here .levels) (ReadOn.Taken e advanced)
         → Follows mostTrees openerPlace after e (here .levels) advanced (step respaceLimits (here .levels) e)
     follows (at-element f s) = rw (here .writes .stack-is) at s
 
-    module _ (e : Element) (advanced : Advanced) (taken : Takes bytes stack after mostTrees state place (here .levels) (Turn.Taken e advanced)) where
+    module _ (e : Element) (advanced : Advanced) (taken : Takes bytes stack after mostTrees state place (here .levels) (ReadOn.Taken e advanced)) where
       found : elementAt bytes place (slashOpens (here .levels)) ≡ Next.Found e
       found = found-by taken
 

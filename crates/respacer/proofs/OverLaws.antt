@@ -7,9 +7,9 @@ use native.Mathlib.Omega.{arith}
 use native.Mathlib.Numerals.{add-one}
 use lib.ListN.{length, getD, take, drop, set, length-append, length-take, length-drop, drop-of-length-le}
 use lib.Seq.{take-nil, take-all, take-append-le, drop-cons, set-append-seam, take-suc, getD-drop, length-take-le}
-use Rattle.elements.specs.Parts.{bytesOf}
+use Rattle.elements.specs.Lexemes.{bytesOf}
 use Rattle.respacer.specs.Respaced.{addElement, addCloser, lineFeed, space}
-use Rattle.respacer.specs.Written.{over}
+use Rattle.respacer.specs.Machinery.Written.{over}
 
 pub over-nothing : (old : List ℕ) → old ≡ over [] old
 unfolding over
@@ -83,10 +83,10 @@ module _ (text : List ℕ) (first : ℕ) (written old : List ℕ) where
 
 -- an element with what comes before it
 module _ (text : List ℕ) (first end : ℕ) where
-  pub element-line : (written : List ℕ) → addElement text written first end true ≡ (written ++ (lineFeed ∷ [])) ++ bytesOf text first end
+  pub element-newline : (written : List ℕ) → addElement text written first end true ≡ (written ++ (lineFeed ∷ [])) ++ bytesOf text first end
   unfolding addElement
-  element-line [] = refl
-  element-line (b ∷ written) = sym (append-assoc (b ∷ written) (lineFeed ∷ []) (bytesOf text first end))
+  element-newline [] = refl
+  element-newline (b ∷ written) = sym (append-assoc (b ∷ written) (lineFeed ∷ []) (bytesOf text first end))
 
   pub element-first : (written : List ℕ) → length written ≡ 0 → addElement text written first end false ≡ written ++ bytesOf text first end
   unfolding addElement

@@ -9,14 +9,14 @@ use Rattle.elements.specs.Elements.{elementAt}
 use Rattle.elements.specs.declared.Element.{Element}
 use Rattle.elements.specs.declared.Next.{Next}
 use Rattle.elements.proofs.Delimiters.{delimiter-byte}
-use Rattle.prefix.specs.Trees.{Trees, none}
-use Rattle.prefix.specs.Levels.{Levels, text, slashOpens, depth}
+use Rattle.rule.specs.Trees.{Trees, none}
+use Rattle.rule.specs.Levels.{Levels, wholeText, slashOpens, depth}
 use Rattle.prefix.specs.Reading.{Limits, more, step, accepted, readOn, reading}
 use Rattle.prefix.proofs.ReadingLaws.{read-end, read-more}
 use Rattle.prefix.proofs.Course.{Course, ended, went, accepted-course}
-use Rattle.elements.specs.Parts.{bytesOf}
+use Rattle.elements.specs.Lexemes.{bytesOf}
 use Rattle.respacer.specs.Respaced.{separator, addElement, addTrees, respaced}
-use Rattle.respacer.specs.Written.{writtenOf}
+use Rattle.respacer.specs.Machinery.Written.{writtenOf}
 use Rattle.respacer.specs.Alike.{alike-none, Kept}
 use Rattle.respacer.proofs.AlikeLevels.{AlikeLevels, alike-text, alike-slash}
 use Rattle.respacer.proofs.StepWrites.{lineWritten}
@@ -75,11 +75,11 @@ module _ (s : List ℕ) (limits : Limits) (trees : Trees) where
         rw (turned (suc k)) (rest (reaches .then) (reaches .alike) k (omega (arith, more-written s limits levels after place e found begun steps)))
 
   -- the end: one 0A is left
-  last-again : {others : Levels} → AlikeLevels s t (text trees) others → (fuel : ℕ) → Kept s trees (readOn t limits (suc fuel) others (length (addTrees s [] trees)))
+  last-again : {others : Levels} → AlikeLevels s t (wholeText trees) others → (fuel : ℕ) → Kept s trees (readOn t limits (suc fuel) others (length (addTrees s [] trees)))
   last-again (alike-text {others = kept} alike) fuel =
       record {
         kept = kept;
-        reads = read-end t limits fuel (text kept) (length (addTrees s [] trees)) (nothing-more (addTrees s [] trees) (slashOpens (text kept)));
+        reads = read-end t limits fuel (wholeText kept) (length (addTrees s [] trees)) (nothing-more (addTrees s [] trees) (slashOpens (wholeText kept)));
         alike = alike;
       }
 
@@ -94,4 +94,4 @@ module _ (s : List ℕ) (limits : Limits) (trees : Trees) where
 
   pub read-again : reading s limits ≡ accepted trees → Kept s trees (reading t limits)
   unfolding reading addTrees
-  read-again e = read-on-again (accepted-course s limits trees e) (λ inner. absurd (omega arith)) (text none) (alike-text alike-none) (length t) (omega arith)
+  read-again e = read-on-again (accepted-course s limits trees e) (λ inner. absurd (omega arith)) (wholeText none) (alike-text alike-none) (length t) (omega arith)

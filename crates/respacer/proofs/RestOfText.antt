@@ -11,13 +11,13 @@ use Rattle.elements.specs.declared.Element.{Element}
 use Rattle.elements.specs.declared.Next.{Next}
 use Rattle.elements.proofs.Bounds.{Placed, found-placed}
 use Rattle.elements.proofs.Delimiters.{delimiter-byte}
-use Rattle.prefix.specs.Trees.{Trees}
-use Rattle.prefix.specs.Levels.{Levels, text, slashOpens, depth}
+use Rattle.rule.specs.Trees.{Trees}
+use Rattle.rule.specs.Levels.{Levels, slashOpens, depth}
 use Rattle.prefix.specs.Reading.{Limits, more, step}
 use Rattle.prefix.proofs.Course.{Course, ended, went}
-use Rattle.elements.specs.Parts.{bytesOf}
+use Rattle.elements.specs.Lexemes.{bytesOf}
 use Rattle.respacer.specs.Respaced.{lineFeed, space, separator, addElement, respaced}
-use Rattle.respacer.specs.Written.{writtenOf}
+use Rattle.respacer.specs.Machinery.Written.{writtenOf}
 use Rattle.respacer.proofs.OverLaws.{bytes-length}
 use Rattle.respacer.proofs.StepWrites.{lineWritten, step-written}
 
@@ -33,17 +33,17 @@ behind whole written bytes b separates after =
     record { next = b; rest = bytes ++ after .next ∷ after .rest; separates = separates; is = after .is ∙ append-assoc written (b ∷ bytes) (after .next ∷ after .rest) }
 
 -- it does so before an element that was written
-before-element : (s whole written : List ℕ) (first end : ℕ) (line : Bool) → 0 < length written → GoesOn whole (addElement s written first end line) → GoesOn whole written
+before-element : (s whole written : List ℕ) (first end : ℕ) (newline : Bool) → 0 < length written → GoesOn whole (addElement s written first end newline) → GoesOn whole written
 unfolding addElement blank lineEnd
-before-element s whole [] first end line some after = absurd (omega arith)
+before-element s whole [] first end newline some after = absurd (omega arith)
 before-element s whole (b ∷ written) first end true some after = behind whole (b ∷ written) (bytesOf s first end) lineFeed refl after
 before-element s whole (b ∷ written) first end false some after = behind whole (b ∷ written) (bytesOf s first end) space refl after
 
 -- an element adds its bytes
-element-adds : (s written : List ℕ) (first end : ℕ) (line : Bool) → first ≤ end → end ≤ length s → length written + (end - first) ≤ length (addElement s written first end line)
+element-adds : (s written : List ℕ) (first end : ℕ) (newline : Bool) → first ≤ end → end ≤ length s → length written + (end - first) ≤ length (addElement s written first end newline)
 unfolding addElement
-element-adds s written first end line h k =
-    rw (length-append written (separator written line ++ bytesOf s first end), length-append (separator written line) (bytesOf s first end), bytes-length s first end h k)
+element-adds s written first end newline h k =
+    rw (length-append written (separator written newline ++ bytesOf s first end), length-append (separator written newline) (bytesOf s first end), bytes-length s first end h k)
     (omega arith)
 
 -- one element of an accepted reading

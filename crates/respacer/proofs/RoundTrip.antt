@@ -3,15 +3,16 @@ use mathlib.Core.Path.{_≡_}
 use mathlib.Core.List.{List}
 use Prim.Native.Nat.{ℕ, _≤_}
 use lib.ListN.{length}
-use Rattle.prefix.specs.Trees.{Trees, count}
+use Rattle.rule.specs.Trees.{Trees, count}
 use Rattle.prefix.specs.Reading.{Limits, Reading, accepted, reading, unlimited, unlimitedReading}
 use Rattle.prefix.proofs.LimitLaws.{accepted-unlimited}
 use Rattle.reader.specs.Read.{mostBytes, readingFor}
 use Rattle.respacer.specs.Respaced.{respaced}
 use Rattle.respacer.specs.Respace.{wholeReading, written, respacingFor}
-use Rattle.respacer.specs.Alike.{Kept}
+use Rattle.respacer.specs.Alike.{Kept, RoundTrip}
 use Rattle.respacer.proofs.AlikeLevels.{alike-count}
 use Rattle.respacer.proofs.ReadAgain.{read-again}
+use Rattle.respacer.proofs.RecordsAgain.{read-written}
 use Rattle.respacer.proofs.CallsAgain.{kept-by-read, kept-by-respace, written-again, respacing-again}
 
 -- A respaced text, of any length, is read under the limits of its text's reading, with the same trees but for positions.
@@ -37,6 +38,12 @@ respace-round-trip = kept-by-respace
 -- The count is the same.
 pub kept-count : (text : List ℕ) (trees : Trees) (answer : Reading) (k : Kept text trees answer) → count trees ≡ count (k .kept)
 kept-count text trees answer k = alike-count (k .alike)
+
+-- Through the calls: what `respace` wrote of a text, if it has at most 262,144 bytes, `read` accepts wherever it accepts the text, with the
+-- same answer, the same trees but for positions, and the same numbers one, four and five of each record.
+pub call-round-trip : (text : List ℕ) (room : ℕ) (bytes : List ℕ) → respacingFor text room ≡ written bytes → length bytes ≤ mostBytes
+    → (table : List ℕ) (trees : Trees) → readingFor text (length table) ≡ accepted trees → RoundTrip text bytes table trees
+call-round-trip = read-written
 
 -- Respacing a respaced text gives it back.
 pub respaced-twice : (text : List ℕ) (trees : Trees) (answer : Reading) (k : Kept text trees answer) → respaced (respaced text trees) (k .kept) ≡ respaced text trees

@@ -8,20 +8,16 @@ use borrow.Author.Tests.{leb-true}
 use lib.Dec.{leb}
 use lib.ListN.{length, length-append}
 use Rattle.answers.specs.Answers.{valueOf}
-use Rattle.prefix.specs.Trees.{Trees, count, deepest}
+use Rattle.rule.specs.Trees.{Trees, count, deepest}
 use Rattle.prefix.specs.Reading.{Reading, accepted, refused, reading, unlimitedReading, deep, treesFull}
 use Rattle.tables.specs.Records.{mostTrees}
 use Rattle.reader.specs.Read.{longText, mostBytes, mostGroups}
 use Rattle.reader.proofs.Formed.{reading-within-text}
+use Rattle.reader.proofs.Numbered.{first-numbered}
 use Rattle.reader.proofs.LengthFirst.{first-fits, first-full, first-deep}
 use Rattle.respacer.specs.Respaced.{lineFeed, addTrees, respaced}
-use Rattle.respacer.specs.Respace.{respaceLimits, wholeReading, outputFull, written, denied, fitted, respacingFor, answerOf}
+use Rattle.respacer.specs.Respace.{Short, respaceLimits, wholeReading, outputFull, written, denied, fitted, respacingFor, answerOf}
 use Rattle.respacer.proofs.Lengths.{reading-short}
-
--- A text that is respaced has at most 262,144 bytes, and its respaced text at most twice as many and one.
-pub record Short (text : List ℕ) (trees : Trees) : Type 0 where
-  pub text-short : length text ≤ mostBytes
-  pub respaced-short : length (respaced text trees) ≤ 2 * length text + 1
 
 abbrev Bounded : List ℕ → Reading → Type 0
 Bounded text (accepted trees) = Short text trees
@@ -43,6 +39,7 @@ bounded text = go (leb (length text) mostBytes) refl
     go true short = inner (reading text respaceLimits) refl (leb-true (length text) mostBytes short)
     go false short = omega arith
 
+-- A respaced text is short.
 pub respaced-length : (text : List ℕ) (trees : Trees) → wholeReading text ≡ accepted trees → Short text trees
 respaced-length text trees e = rw e at (bounded text)
 
@@ -63,6 +60,11 @@ pub respace-deep : (text : List ℕ) (trees : Trees) → unlimitedReading text �
     → (place : ℕ) → wholeReading text ≡ refused deep place → mostGroups < deepest trees
 unfolding wholeReading
 respace-deep text = first-deep text respaceLimits
+
+-- What refuses the reading has a number from 1 to 12, so that 15 is given for the output alone.
+pub respace-number : (text : List ℕ) (number place : ℕ) → wholeReading text ≡ refused number place → (1 ≤ number) × (number ≤ 12)
+unfolding wholeReading
+respace-number text = first-numbered text respaceLimits
 
 -- The count of bytes, or the place of a refusal, is small.
 pub value-bounded : (text : List ℕ) (room : ℕ) → valueOf (answerOf (respacingFor text room)) ≤ 2 * mostBytes + 1

@@ -1,4 +1,4 @@
 pub mod Respaced
 pub mod Alike
 pub mod Respace
-pub mod Written
+pub mod Machinery

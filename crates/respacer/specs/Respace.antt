@@ -1,10 +1,13 @@
 -- What `respace` answers, and what it leaves in the lent output.
-use Prim.Native.Nat.{ℕ}
+use Prim.Native.Nat.{ℕ, _+_, _*_, _≤_}
+use mathlib.Core.Path.{_≡_}
 use mathlib.Core.Bool.{cond}
 use mathlib.Core.List.{List, _++_}
 use lib.Dec.{leb}
 use lib.ListN.{length, drop, replicate}
+use Rattle.answers.specs.Answers.{numberOf, valueOf, Tells}
 use Rattle.answers.specs.declared.Answer.{Answer}
+use Rattle.rule.specs.Trees.{Trees}
 use Rattle.prefix.specs.Reading.{Limits, Reading, accepted, refused, reading}
 use Rattle.tables.specs.Records.{mostTrees}
 use Rattle.reader.specs.Read.{longText, mostBytes, mostGroups}
@@ -46,3 +49,14 @@ answerOf (denied number place) = Answer.Refused number place
 abbrev pub outputAfter : Respacing → List ℕ → List ℕ
 outputAfter (written bytes) output = bytes ++ drop (length bytes) output
 outputAfter (denied number place) output = replicate (length output) 0
+
+-- What `respace` promises of its answer and its output, before and after, for every text and every output.
+abbrev pub Respaces : List ℕ → List ℕ → List ℕ → Answer → Type 0
+Respaces text before after answer =
+    (answer ≡ answerOf (respacingFor text (length before))) × (after ≡ outputAfter (respacingFor text (length before)) before)
+    × Tells numberOf valueOf answer (answerOf (respacingFor text (length before)))
+
+-- a text that is respaced has at most 262,144 bytes, and its respaced text at most twice as many and one
+pub record Short (text : List ℕ) (trees : Trees) : Type 0 where
+  pub text-short : length text ≤ mostBytes
+  pub respaced-short : length (respaced text trees) ≤ 2 * length text + 1

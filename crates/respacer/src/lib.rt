@@ -3,22 +3,22 @@ ghost use mathlib.Core.Path.{_≡_};
 ghost use mathlib.Core.List.{List, [], _∷_, _++_};
 ghost use Prim.Native.Nat.{ℕ, _+_, _*_, _<_, _≤_, _^_};
 ghost use lib.ListN.{length, replicate};
-ghost use Rattle.elements.specs.Parts.{bytesOf};
+ghost use Rattle.elements.specs.Lexemes.{bytesOf};
 ghost use Rattle.respacer.specs.Respaced.{addElement, addCloser};
-ghost use Rattle.respacer.specs.Respace.{wholeReading, respacingFor, answerOf, outputAfter};
-ghost use Rattle.prefix.specs.Levels.{Levels};
+ghost use Rattle.respacer.specs.Respace.{wholeReading, Respaces};
+ghost use Rattle.rule.specs.Levels.{Levels};
 ghost use Rattle.prefix.specs.Reading.{Step};
-ghost use Rattle.prefix.specs.Held.{Follows};
+ghost use Rattle.prefix.specs.Machinery.Represents.{Follows};
 ghost use Rattle.prefix.specs.declared.State.{State};
 ghost use Rattle.tables.specs.Records.{mostTrees};
 ghost use Rattle.reader.specs.Read.{mostBytes};
-ghost use Rattle.reader.specs.Table.{openerPlace};
-ghost use Rattle.respacer.specs.Written.{over, Writes, Turned, Told};
+ghost use Rattle.reader.specs.Machinery.Turns.{openerPlace};
+ghost use Rattle.respacer.specs.Machinery.Written.{over, Writes, Turned, Told};
 use answers::Answer;
 use elements::Element;
 use prefix::Advanced;
 use prefix::State;
-use reader::Turn;
+use reader::ReadOn;
 
 // The number of the table's row for an output that is too short.
 pub const OUTPUT_FULL: u32 = 15;
@@ -56,12 +56,12 @@ fn put_element(
     at: usize,
     first: usize,
     end: usize,
-    line: bool,
+    newline: bool,
 ) -> usize
     requires { ⌜ (at + 1 < 2 ^ 31) × (first ≤ end) × (end ≤ length (now text)) × (end < 2 ^ 31) ⌝ }
-    ensures { λ r. ⌜ (r + first ≤ at + end + 1) × ((written old : List ℕ) → at ≡ length written → now (output .entry) ≡ over written old → (r ≡ length (addElement (now (text .entry)) written first end line)) × (now (output .exit) ≡ over (addElement (now (text .entry)) written first end line) old)) ⌝ }
+    ensures { λ r. ⌜ (r + first ≤ at + end + 1) × ((written old : List ℕ) → at ≡ length written → now (output .entry) ≡ over written old → (r ≡ length (addElement (now (text .entry)) written first end newline)) × (now (output .exit) ≡ over (addElement (now (text .entry)) written first end newline) old)) ⌝ }
 {
-    if line {
+    if newline {
         let next = put_byte(output, at, 10);
         return put_bytes(text, output, next, first, end);
     }
@@ -94,14 +94,14 @@ fn write_element(text: &[u8], output: &mut [u8], at: usize, e: Element, advanced
 {
     let first = e.first;
     let end = e.end;
-    let line = e.line;
+    let newline = e.newline;
     match advanced {
         Advanced::Leaf(next) => {
-            let to = put_element(text, output, at, first, end, line);
+            let to = put_element(text, output, at, first, end, newline);
             Wrote::More(next, to)
         }
         Advanced::Opened(_, next) => {
-            let to = put_element(text, output, at, first, first + 1, line);
+            let to = put_element(text, output, at, first, first + 1, newline);
             Wrote::More(next, to)
         }
         Advanced::Closed(_, next) => {
@@ -136,13 +136,13 @@ fn write_text(text: &[u8], output: &mut [u8], stack: &mut [u32]) -> Answer
     loop {
         let turn = reader::take_turn(text, stack, state, place);
         match turn {
-            Turn::End(_) => {
+            ReadOn::End(_) => {
                 return write_end(output, stack, state, at);
             }
-            Turn::Stop(number, fault) => {
+            ReadOn::Stop(number, fault) => {
                 return Answer::Refused(number, fault);
             }
-            Turn::Taken(e, advanced) => {
+            ReadOn::Taken(e, advanced) => {
                 let wrote = write_element(text, output, at, e, advanced);
                 match wrote {
                     Wrote::More(after, to) => {
@@ -173,7 +173,7 @@ fn clear(output: &mut [u8])
 // Respaces a text: the count of bytes written to the output, whose bytes past these are as they were; or the number and place
 // of a refusal, with every byte of the output 0.
 pub fn respace(text: &[u8], output: &mut [u8]) -> Answer
-    ensures { λ r. ⌜ (r ≡ answerOf (respacingFor (now (text .entry)) (length (now (output .entry))))) × (now (output .exit) ≡ outputAfter (respacingFor (now (text .entry)) (length (now (output .entry)))) (now (output .entry))) ⌝ }
+    ensures { λ r. ⌜ Respaces (now (text .entry)) (now (output .entry)) (now (output .exit)) r ⌝ }
 {
     if reader::MOST_BYTES < text.len() {
         clear(output);

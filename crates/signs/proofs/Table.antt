@@ -2,14 +2,16 @@
 use mathlib.Core.Path.{_≡_, refl, sym}
 use mathlib.Core.List.{List, [], _∷_, map}
 use mathlib.Core.Bool.{Bool, true, false, and-false}
-use Prim.Native.Nat.{ℕ, zero, suc, _+_, _-_, _<_, _≤_}
+use Prim.Native.Nat.{ℕ, zero, suc, _+_, _<_, _≤_}
 use native.Mathlib.Numerals.{add-one}
 use native.Mathlib.Omega.{arith}
 use borrow.Author.Tests.{lt-ltb, le-ltb}
-use lib.ListN.{length, take, drop, getD, replicate, drop-of-length-le, length-append}
-use lib.Seq.{drop-cons, take-append-seam}
-use Rattle.signs.specs.Rows.{row}
-use Rattle.vocabulary.specs.Vocabulary.{Row, spelling, isTaken, signs, noRow}
+use lib.Dec.{leb, leb→le}
+use lib.ListN.{length, take, drop, getD, drop-of-length-le}
+use lib.Seq.{drop-cons}
+use Rattle.signs.specs.Machinery.Rows.{row, bytesOf}
+use Rattle.vocabulary.specs.Vocabulary.{Row, spelling, isTaken, signs, noRow, rowAt}
+use Rattle.vocabulary.proofs.RowLaws.{at-row as row-passes}
 use Rattle.signs.specs.Signs.{startsWith, size, longer, longestOf}
 use Rattle.signs.specs.declared.Longest.{Longest}
 use Rattle.signs.specs.declared.Longest.the-variants.{None, Sign}
@@ -28,22 +30,31 @@ pub found-some : (number n : ℕ) (l : Bool) → 1 ≤ n → found number n l �
 found-some number zero l h = absurd (omega arith)
 found-some number (suc n) l h = refl
 
--- the code at the row r of a sign g
-module _ (g : Row) (r : TableRow) (e : r ≡ row g) where
-  row-len : r .len ≤ length (r .bytes)
-  row-len = rw e (omega (arith, length-append (spelling g) (replicate (4 - length (spelling g)) 0)))
+-- four bytes have room for a sign
+first-four : (s : List ℕ) → length s ≤ 4 → take (length s) (getD s 0 0 ∷ getD s 1 0 ∷ getD s 2 0 ∷ getD s 3 0 ∷ []) ≡ s
+first-four [] h = refl
+first-four (a ∷ []) h = refl
+first-four (a ∷ b ∷ []) h = refl
+first-four (a ∷ b ∷ c ∷ []) h = refl
+first-four (a ∷ b ∷ c ∷ d ∷ []) h = refl
+first-four (a ∷ b ∷ c ∷ d ∷ e ∷ s) h = absurd (omega arith)
 
-  row-spelling : take (r .len) (r .bytes) ≡ spelling g
-  row-spelling = rw e (take-append-seam (spelling g) (replicate (4 - length (spelling g)) 0))
+-- the code at the row r of a sign g
+module _ (g : Row) (r : TableRow) (e : r ≡ row g) (short : length (spelling g) ≤ 4) where
+  row-len : r .len ≤ 4
+  row-len = rw e short
+
+  row-spelling : take (r .len) (bytesOf r) ≡ spelling g
+  row-spelling = rw e (first-four (spelling g) short)
 
   module _ (s : List ℕ) (m number n : ℕ) (l : Bool) where
-    longer-taken : n < r .len → startsWith (take (r .len) (r .bytes)) s ≡ true →
+    longer-taken : n < r .len → startsWith (take (r .len) (bytesOf r)) s ≡ true →
         longer s m (found number n l) g ≡ found m (r .len) (r .legal)
     longer-taken h t =
         rw (size-found number n l, lt-ltb n (length (spelling g)) (rw e at h), rw row-spelling at t, e)
         (sym (found-some m (length (spelling g)) (isTaken g) (omega (arith, rw e at h))))
 
-    longer-other : startsWith (take (r .len) (r .bytes)) s ≡ false → longer s m (found number n l) g ≡ found number n l
+    longer-other : startsWith (take (r .len) (bytesOf r)) s ≡ false → longer s m (found number n l) g ≡ found number n l
     longer-other t = rw (rw row-spelling at t, and-false)
 
     longer-short : r .len ≤ n → longer s m (found number n l) g ≡ found number n l
@@ -56,15 +67,19 @@ map-at (g ∷ gs) (suc k) d f h = map-at gs k d f (omega arith)
 
 -- the code's row past the table's end
 abbrev pub noTableRow : TableRow
-noTableRow = record { bytes = []; len = 0; legal = false }
+noTableRow = record { a = 0; b = 0; c = 0; d = 0; len = 0; legal = false }
 
 -- the scan at the table's row k
 module _ (table : List TableRow) (whole : table ≡ map row signs) (k : ℕ) (h : k < 48) where
   at-row : getD table k noTableRow ≡ row (getD signs k noRow)
   at-row = rw whole (map-at signs k noTableRow noRow h)
 
-  pub table-len : getD table k noTableRow .len ≤ length (getD table k noTableRow .bytes)
-  table-len = row-len (getD signs k noRow) (getD table k noTableRow) at-row
+  short : length (spelling (getD signs k noRow)) ≤ 4
+  unfolding rowAt
+  short = leb→le (length (spelling (getD signs k noRow))) 4 (row-passes (λ number g. leb (length (spelling g)) 4) signs tt (suc k) tt)
+
+  pub table-len : getD table k noTableRow .len ≤ 4
+  table-len = row-len (getD signs k noRow) (getD table k noTableRow) at-row short
 
   module _ (s : List ℕ) (number n : ℕ) (l : Bool) where
     step : (best : Longest) → longer s (k + 1) (found number n l) (getD signs k noRow) ≡ best →
@@ -72,18 +87,18 @@ module _ (table : List TableRow) (whole : table ≡ map row signs) (k : ℕ) (h 
     unfolding longestOf
     step best e = rw (← e, add-one k, drop-cons signs k noRow h)
 
-    pub scan-taken : n < getD table k noTableRow .len → startsWith (take (getD table k noTableRow .len) (getD table k noTableRow .bytes)) s ≡ true →
+    pub scan-taken : n < getD table k noTableRow .len → startsWith (take (getD table k noTableRow .len) (bytesOf (getD table k noTableRow))) s ≡ true →
         longestOf s (k + 1) (found number n l) (drop k signs)
         ≡ longestOf s (k + 1 + 1) (found (k + 1) (getD table k noTableRow .len) (getD table k noTableRow .legal)) (drop (k + 1) signs)
-    scan-taken f t = step _ (longer-taken (getD signs k noRow) (getD table k noTableRow) at-row s (k + 1) number n l f t)
+    scan-taken f t = step _ (longer-taken (getD signs k noRow) (getD table k noTableRow) at-row short s (k + 1) number n l f t)
 
-    pub scan-other : startsWith (take (getD table k noTableRow .len) (getD table k noTableRow .bytes)) s ≡ false →
+    pub scan-other : startsWith (take (getD table k noTableRow .len) (bytesOf (getD table k noTableRow))) s ≡ false →
         longestOf s (k + 1) (found number n l) (drop k signs) ≡ longestOf s (k + 1 + 1) (found number n l) (drop (k + 1) signs)
-    scan-other t = step _ (longer-other (getD signs k noRow) (getD table k noTableRow) at-row s (k + 1) number n l t)
+    scan-other t = step _ (longer-other (getD signs k noRow) (getD table k noTableRow) at-row short s (k + 1) number n l t)
 
     pub scan-short : getD table k noTableRow .len ≤ n →
         longestOf s (k + 1) (found number n l) (drop k signs) ≡ longestOf s (k + 1 + 1) (found number n l) (drop (k + 1) signs)
-    scan-short f = step _ (longer-short (getD signs k noRow) (getD table k noTableRow) at-row s (k + 1) number n l f)
+    scan-short f = step _ (longer-short (getD signs k noRow) (getD table k noTableRow) at-row short s (k + 1) number n l f)
 
 pub scan-end : (s : List ℕ) (best : Longest) (k : ℕ) → 48 ≤ k → longestOf s (k + 1) best (drop k signs) ≡ best
 unfolding longestOf

@@ -1,2 +1,2 @@
 pub mod Signs
-pub mod Rows
+pub mod Machinery

@@ -6,7 +6,7 @@ ghost use Prim.Native.Nat.{ℕ, _≤_};
 ghost use lib.ListN.{drop, getD, length, take};
 ghost use Rattle.signs.specs.declared.Longest.the-variants.{Sign};
 ghost use Rattle.signs.specs.Signs.{longestSign, signs, startsWith};
-ghost use Rattle.signs.specs.Rows.{row};
+ghost use Rattle.signs.specs.Machinery.Rows.{row, bytesOf};
 
 // The numbers of the signs that are legal here: their places among the 48, from 1.
 pub const OPEN_BRACE: u32 = 1;
@@ -29,9 +29,13 @@ pub const ASSIGN: u32 = 36;
 
 pub const SLASH: u32 = 47;
 
-// A sign: its bytes, with 0 after the last; its length; whether it is legal here.
+// A sign: its bytes, with 0 after the last; its length; whether it is legal here. Each byte is a field: an array in each row would be
+// one more step of the proof for each.
 pub struct Row {
-    pub bytes: [u8; 4],
+    pub a: u8,
+    pub b: u8,
+    pub c: u8,
+    pub d: u8,
     pub len: usize,
     pub legal: bool,
 }
@@ -39,54 +43,54 @@ pub struct Row {
 // The 48 signs, in the order of ES5.1 section 7.7.
 #[rattlefmt::skip]
 const SIGNS: [Row; 48] = [
-    Row { bytes: *b"{\0\0\0", len: 1, legal: true },
-    Row { bytes: *b"}\0\0\0", len: 1, legal: true },
-    Row { bytes: *b"(\0\0\0", len: 1, legal: true },
-    Row { bytes: *b")\0\0\0", len: 1, legal: true },
-    Row { bytes: *b"[\0\0\0", len: 1, legal: false },
-    Row { bytes: *b"]\0\0\0", len: 1, legal: false },
-    Row { bytes: *b".\0\0\0", len: 1, legal: true },
-    Row { bytes: *b";\0\0\0", len: 1, legal: true },
-    Row { bytes: *b",\0\0\0", len: 1, legal: false },
-    Row { bytes: *b"<\0\0\0", len: 1, legal: false },
-    Row { bytes: *b">\0\0\0", len: 1, legal: false },
-    Row { bytes: *b"<=\0\0", len: 2, legal: false },
-    Row { bytes: *b">=\0\0", len: 2, legal: false },
-    Row { bytes: *b"==\0\0", len: 2, legal: false },
-    Row { bytes: *b"!=\0\0", len: 2, legal: false },
-    Row { bytes: *b"===\0", len: 3, legal: false },
-    Row { bytes: *b"!==\0", len: 3, legal: false },
-    Row { bytes: *b"+\0\0\0", len: 1, legal: true },
-    Row { bytes: *b"-\0\0\0", len: 1, legal: false },
-    Row { bytes: *b"*\0\0\0", len: 1, legal: false },
-    Row { bytes: *b"%\0\0\0", len: 1, legal: false },
-    Row { bytes: *b"++\0\0", len: 2, legal: false },
-    Row { bytes: *b"--\0\0", len: 2, legal: false },
-    Row { bytes: *b"<<\0\0", len: 2, legal: false },
-    Row { bytes: *b">>\0\0", len: 2, legal: false },
-    Row { bytes: *b">>>\0", len: 3, legal: false },
-    Row { bytes: *b"&\0\0\0", len: 1, legal: false },
-    Row { bytes: *b"|\0\0\0", len: 1, legal: false },
-    Row { bytes: *b"^\0\0\0", len: 1, legal: false },
-    Row { bytes: *b"!\0\0\0", len: 1, legal: false },
-    Row { bytes: *b"~\0\0\0", len: 1, legal: false },
-    Row { bytes: *b"&&\0\0", len: 2, legal: false },
-    Row { bytes: *b"||\0\0", len: 2, legal: false },
-    Row { bytes: *b"?\0\0\0", len: 1, legal: false },
-    Row { bytes: *b":\0\0\0", len: 1, legal: true },
-    Row { bytes: *b"=\0\0\0", len: 1, legal: true },
-    Row { bytes: *b"+=\0\0", len: 2, legal: false },
-    Row { bytes: *b"-=\0\0", len: 2, legal: false },
-    Row { bytes: *b"*=\0\0", len: 2, legal: false },
-    Row { bytes: *b"%=\0\0", len: 2, legal: false },
-    Row { bytes: *b"<<=\0", len: 3, legal: false },
-    Row { bytes: *b">>=\0", len: 3, legal: false },
-    Row { bytes: *b">>>=", len: 4, legal: false },
-    Row { bytes: *b"&=\0\0", len: 2, legal: false },
-    Row { bytes: *b"|=\0\0", len: 2, legal: false },
-    Row { bytes: *b"^=\0\0", len: 2, legal: false },
-    Row { bytes: *b"/\0\0\0", len: 1, legal: true },
-    Row { bytes: *b"/=\0\0", len: 2, legal: false },
+    Row { a: b'{', b: 0, c: 0, d: 0, len: 1, legal: true },
+    Row { a: b'}', b: 0, c: 0, d: 0, len: 1, legal: true },
+    Row { a: b'(', b: 0, c: 0, d: 0, len: 1, legal: true },
+    Row { a: b')', b: 0, c: 0, d: 0, len: 1, legal: true },
+    Row { a: b'[', b: 0, c: 0, d: 0, len: 1, legal: false },
+    Row { a: b']', b: 0, c: 0, d: 0, len: 1, legal: false },
+    Row { a: b'.', b: 0, c: 0, d: 0, len: 1, legal: true },
+    Row { a: b';', b: 0, c: 0, d: 0, len: 1, legal: true },
+    Row { a: b',', b: 0, c: 0, d: 0, len: 1, legal: false },
+    Row { a: b'<', b: 0, c: 0, d: 0, len: 1, legal: false },
+    Row { a: b'>', b: 0, c: 0, d: 0, len: 1, legal: false },
+    Row { a: b'<', b: b'=', c: 0, d: 0, len: 2, legal: false },
+    Row { a: b'>', b: b'=', c: 0, d: 0, len: 2, legal: false },
+    Row { a: b'=', b: b'=', c: 0, d: 0, len: 2, legal: false },
+    Row { a: b'!', b: b'=', c: 0, d: 0, len: 2, legal: false },
+    Row { a: b'=', b: b'=', c: b'=', d: 0, len: 3, legal: false },
+    Row { a: b'!', b: b'=', c: b'=', d: 0, len: 3, legal: false },
+    Row { a: b'+', b: 0, c: 0, d: 0, len: 1, legal: true },
+    Row { a: b'-', b: 0, c: 0, d: 0, len: 1, legal: false },
+    Row { a: b'*', b: 0, c: 0, d: 0, len: 1, legal: false },
+    Row { a: b'%', b: 0, c: 0, d: 0, len: 1, legal: false },
+    Row { a: b'+', b: b'+', c: 0, d: 0, len: 2, legal: false },
+    Row { a: b'-', b: b'-', c: 0, d: 0, len: 2, legal: false },
+    Row { a: b'<', b: b'<', c: 0, d: 0, len: 2, legal: false },
+    Row { a: b'>', b: b'>', c: 0, d: 0, len: 2, legal: false },
+    Row { a: b'>', b: b'>', c: b'>', d: 0, len: 3, legal: false },
+    Row { a: b'&', b: 0, c: 0, d: 0, len: 1, legal: false },
+    Row { a: b'|', b: 0, c: 0, d: 0, len: 1, legal: false },
+    Row { a: b'^', b: 0, c: 0, d: 0, len: 1, legal: false },
+    Row { a: b'!', b: 0, c: 0, d: 0, len: 1, legal: false },
+    Row { a: b'~', b: 0, c: 0, d: 0, len: 1, legal: false },
+    Row { a: b'&', b: b'&', c: 0, d: 0, len: 2, legal: false },
+    Row { a: b'|', b: b'|', c: 0, d: 0, len: 2, legal: false },
+    Row { a: b'?', b: 0, c: 0, d: 0, len: 1, legal: false },
+    Row { a: b':', b: 0, c: 0, d: 0, len: 1, legal: true },
+    Row { a: b'=', b: 0, c: 0, d: 0, len: 1, legal: true },
+    Row { a: b'+', b: b'=', c: 0, d: 0, len: 2, legal: false },
+    Row { a: b'-', b: b'=', c: 0, d: 0, len: 2, legal: false },
+    Row { a: b'*', b: b'=', c: 0, d: 0, len: 2, legal: false },
+    Row { a: b'%', b: b'=', c: 0, d: 0, len: 2, legal: false },
+    Row { a: b'<', b: b'<', c: b'=', d: 0, len: 3, legal: false },
+    Row { a: b'>', b: b'>', c: b'=', d: 0, len: 3, legal: false },
+    Row { a: b'>', b: b'>', c: b'>', d: b'=', len: 4, legal: false },
+    Row { a: b'&', b: b'=', c: 0, d: 0, len: 2, legal: false },
+    Row { a: b'|', b: b'=', c: 0, d: 0, len: 2, legal: false },
+    Row { a: b'^', b: b'=', c: 0, d: 0, len: 2, legal: false },
+    Row { a: b'/', b: 0, c: 0, d: 0, len: 1, legal: true },
+    Row { a: b'/', b: b'=', c: 0, d: 0, len: 2, legal: false },
 ];
 
 // The longest sign at a place, by its number, length and legality; or that none starts there.
@@ -97,10 +101,10 @@ pub enum Longest {
 
 // Whether the text has the row's sign at a place.
 fn starts_at(row: Row, text: &[u8], at: usize) -> bool
-    requires { ⌜ (row .len ≤ length (row .bytes)) × (at ≤ length (now text)) ⌝ }
-    ensures { λ r. ⌜ r ≡ startsWith (take (row .len) (row .bytes)) (drop at (now (text .entry))) ⌝ }
+    requires { ⌜ (row .len ≤ 4) × (at ≤ length (now text)) ⌝ }
+    ensures { λ r. ⌜ r ≡ startsWith (take (row .len) (bytesOf row)) (drop at (now (text .entry))) ⌝ }
 {
-    let bytes = row.bytes;
+    let bytes = [row.a, row.b, row.c, row.d];
     let len = row.len;
     if text.len() - at < len {
         return false;
@@ -134,6 +138,14 @@ fn longest_in(table: [Row; 48], text: &[u8], at: usize) -> Longest
     } else {
         Longest::Sign(number, len, legal)
     }
+}
+
+// The longest sign at a place, by the table alone: what has the table in it is the dear part of the proof, and has nothing else in it.
+fn by_table(text: &[u8], at: usize) -> Longest
+    requires { ⌜ at ≤ length (now text) ⌝ }
+    ensures { λ r. ⌜ r ≡ longestSign (drop at (now (text .entry))) ⌝ }
+{
+    longest_in(SIGNS, text, at)
 }
 
 // The number of the legal sign that the byte `b` is where `next` follows, if no longer sign can stand there: seven of
@@ -172,7 +184,7 @@ pub fn sign_at(text: &[u8], at: usize) -> Longest
     let next = if at + 1 < text.len() { text[at + 1] } else { 0 };
     let number = alone(b, next);
     if number == 0 {
-        longest_in(SIGNS, text, at)
+        by_table(text, at)
     } else {
         Longest::Sign(number, 1, true)
     }

@@ -13,7 +13,7 @@ abbrev pub mostTrees : ℕ
 mostTrees = 16384
 
 abbrev pub treeRecord : ℕ → ℕ → ℕ → ℕ → Bool → List ℕ
-treeRecord kind first end number line = kind ∷ first ∷ end ∷ number ∷ cond line 1 0 ∷ []
+treeRecord kind first end number newline = kind ∷ first ∷ end ∷ number ∷ cond newline 1 0 ∷ []
 
 -- the tree records that a table of so many numbers has room for
 abbrev pub roomFor : ℕ → ℕ

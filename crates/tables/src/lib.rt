@@ -11,7 +11,7 @@ pub struct TreeRecord {
     pub first: u32,
     pub end: u32,
     pub number: u32,
-    pub line: bool,
+    pub newline: bool,
 }
 
 impl TreeRecord {
@@ -20,24 +20,24 @@ impl TreeRecord {
 
     pub const MOST: usize = 16384;
 
-    pub fn new(kind: u32, first: u32, end: u32, number: u32, line: bool) -> TreeRecord
-        ensures { λ r. ⌜ r ≡ record { kind = kind; first = first; end = end; number = number; line = line } ⌝ }
+    pub fn new(kind: u32, first: u32, end: u32, number: u32, newline: bool) -> TreeRecord
+        ensures { λ r. ⌜ r ≡ record { kind = kind; first = first; end = end; number = number; newline = newline } ⌝ }
     {
         TreeRecord {
             kind,
             first,
             end,
             number,
-            line,
+            newline,
         }
     }
 }
 
 // The fifth number of a record.
-pub fn line_mark(line: bool) -> u32
-    ensures { λ r. ⌜ r ≡ cond line 1 0 ⌝ }
+pub fn newline_cell(newline: bool) -> u32
+    ensures { λ r. ⌜ r ≡ cond newline 1 0 ⌝ }
 {
-    if line { 1 } else { 0 }
+    if newline { 1 } else { 0 }
 }
 
 // A syntax record: its kind, the index of the tree record that marks it, and the syntax records in it with itself.

@@ -9,7 +9,7 @@ use borrow.Author.Tests.{eq-eqb, ne-eqb}
 use lib.Dec.{T, eqb, eqb→eq}
 use lib.ListN.{length, getD, take, drop, drop-of-length-le, length-drop}
 use Rattle.text.specs.Bytes.{lineEnd, illegal}
-use Rattle.text.specs.Inside.{insideOf}
+use Rattle.text.specs.Machinery.Inside.{insideOf}
 use Rattle.text.specs.Runs.{run, same}
 use Rattle.text.proofs.Lists.{drop-at}
 use Rattle.text.proofs.Range.{and-left, and-right}
@@ -104,9 +104,9 @@ module _ (b : ℕ) where
       go false true n m = absurd (m refl)
       go false false n m = (refl, refl)
 
-  pub inside-line : insideOf b ≡ 1 → lineEnd b ≡ true
+  pub inside-newline : insideOf b ≡ 1 → lineEnd b ≡ true
   unfolding insideOf
-  inside-line e = go (lineEnd b) (illegal b) e
+  inside-newline e = go (lineEnd b) (illegal b) e
     where
       go : (l i : Bool) → _≡_ {A = ℕ} (cond l 1 (cond i 2 0)) 1 → l ≡ true
       go true i z = refl

@@ -1,4 +1,4 @@
 pub mod Quoted
 pub mod Bytes
 pub mod Runs
-pub mod Inside
+pub mod Machinery

@@ -3,7 +3,7 @@ ghost use mathlib.Core.Path.{_≡_};
 ghost use Prim.Native.Nat.{_+_};
 ghost use lib.ListN.{drop};
 ghost use Rattle.text.specs.Bytes.{blank, lineEnd, letter, digit, nameByte};
-ghost use Rattle.text.specs.Inside.{insideOf};
+ghost use Rattle.text.specs.Machinery.Inside.{insideOf};
 ghost use Rattle.text.specs.Runs.{run, same};
 
 // A blank: 09, 0B, 0C or 20.

@@ -7,16 +7,16 @@ use borrow.Author.Tests.{le-leb, lt-leb}
 use lib.ListN.{length, getD}
 use Rattle.tables.specs.Records.{mostTrees, mostSyntax}
 use Rattle.grammar.specs.Syntax.{Syntax, node}
-use Rattle.grammar.specs.Machine.{Pending, pending}
-use Rattle.waiting.specs.Written.{putRecord}
-use Rattle.waiting.specs.Waiting.{width, binding, close, Holds, Held, HoldsShut}
+use Rattle.grammar.specs.Machinery.Machine.{Pending, pending}
+use Rattle.waiting.specs.Machinery.Written.{putRecord}
+use Rattle.waiting.specs.Machinery.Waiting.{width, binding, close, Holds, Backed, HoldsShut}
 use Rattle.waiting.specs.declared.Level.{Level}
-use Rattle.waiting.proofs.HoldLaws.{uppermost, bottom-top, held, unstacked-held}
+use Rattle.waiting.proofs.HoldLaws.{uppermost, bottom-top, backed, unstacked-held}
 use Rattle.waiting.proofs.PutLaws.{made-both}
 
 -- the level and its records once the uppermost part is closed, by what stands on the stack
 abbrev pub closedOne : Level → List ℕ → Level
-closedOne l stack = record { count = l .count + 1; top = l .top - 1; floor = l .floor; start = getD stack ((l .top - 1) * width + 2) 0; word = l .word }
+closedOne l stack = record { count = l .count + 1; top = l .top - 1; floor = l .floor; start = getD stack ((l .top - 1) * width + 2) 0; held = l .held }
 
 abbrev pub cellsOne : Level → List ℕ → List ℕ → List ℕ
 cellsOne l stack cells =
@@ -52,7 +52,7 @@ pub record Usable (l : Level) (stack : List ℕ) : Type 0 where
   pub behind : getD stack ((l .top - 1) * width + 2) 0 ≤ l .count
 
 module _ {l : Level} {stack cells : List ℕ} where
-  pub usable : Held l stack cells → l .floor < l .top → Usable l stack
+  pub usable : Backed l stack cells → l .floor < l .top → Usable l stack
   usable h more =
       let k = (closable (h .ps) (h .holds) more) .holds in
       let u = uppermost k in
@@ -63,8 +63,8 @@ module _ {l : Level} {stack cells : List ℕ} where
         behind = omega (arith, u .start-is, k .counts, k .starts);
       }
 
-  pub held-one : Held l stack cells → l .floor < l .top → Held (closedOne l stack) stack (cellsOne l stack cells)
-  held-one h more = held (close-one ((closable (h .ps) (h .holds) more) .holds))
+  pub held-one : Backed l stack cells → l .floor < l .top → Backed (closedOne l stack) stack (cellsOne l stack cells)
+  held-one h more = backed (close-one ((closable (h .ps) (h .holds) more) .holds))
 
 -- closing is under way: what is left to close gives what the whole gives
 pub record Closing (least : ℕ) (table : List ℕ) (first : ℕ) (done : Syntax) (ps : List Pending) (operand : Syntax) (l : Level) (stack cells : List ℕ) : Type 0 where

@@ -6,9 +6,9 @@ use native.Mathlib.Omega.{arith}
 use lib.ListN.{length, getD}
 use Rattle.tables.specs.Records.{mostTrees, mostSyntax}
 use Rattle.grammar.specs.Syntax.{Syntax, nil, snoc, size}
-use Rattle.grammar.specs.Machine.{Pending, pending}
-use Rattle.waiting.specs.Written.{putSyntax}
-use Rattle.waiting.specs.Waiting.{width, lefts, Stacked, bare, above, Holds, Held, withWord, restarted}
+use Rattle.grammar.specs.Machinery.Machine.{Pending, pending}
+use Rattle.waiting.specs.Machinery.Written.{putSyntax}
+use Rattle.waiting.specs.Machinery.Waiting.{width, lefts, Stacked, bare, above, Holds, Backed, withHeld, restarted}
 use Rattle.waiting.specs.declared.Level.{Level}
 
 -- what waits uppermost, as it stands on the stack
@@ -69,8 +69,8 @@ module _ (table : List ℕ) (first : ℕ) where
       ap (λ i. putSyntax (putSyntax table first a) i b) e
 
 module _ {table : List ℕ} {first : ℕ} {done : Syntax} {ps : List Pending} {operand : Syntax} {l : Level} {stack cells : List ℕ} where
-  pub held : Holds table first done ps operand l stack cells → Held l stack cells
-  held h = record { table = table; first = first; done = done; ps = ps; operand = operand; holds = h }
+  pub backed : Holds table first done ps operand l stack cells → Backed l stack cells
+  backed h = record { table = table; first = first; done = done; ps = ps; operand = operand; holds = h }
 
   -- what putting a record and letting a part wait ask for
   pub start-le : Holds table first done ps operand l stack cells → l .start ≤ l .count
@@ -86,7 +86,7 @@ module _ {table : List ℕ} {first : ℕ} {done : Syntax} {ps : List Pending} {o
   floor-le h = stacked-up (h .stacked)
 
   -- the word that is held is none of this
-  pub word-held : (word : ℕ) → Holds table first done ps operand l stack cells → Holds table first done ps operand (withWord word l) stack cells
+  pub word-held : (word : ℕ) → Holds table first done ps operand l stack cells → Holds table first done ps operand (withHeld word l) stack cells
   word-held word h = record { stacked = h .stacked; starts = h .starts; counts = h .counts; written = h .written; few = h .few }
 
   -- one part alone is that part
@@ -134,7 +134,7 @@ module _ {table : List ℕ} {first : ℕ} {done : Syntax} {l : Level} {stack cel
 
   -- what waits uppermost waits no more: its left side stands before the operand
   pub unstacked-held : {kind mark : ℕ} {left operand : Syntax} {ps : List Pending} → Holds table first done (pending kind mark left ∷ ps) operand l stack cells
-      → Holds table first done ps (snoc left operand) (record { count = l .count; top = l .top - 1; floor = l .floor; start = getD stack ((l .top - 1) * width + 2) 0; word = l .word }) stack cells
+      → Holds table first done ps (snoc left operand) (record { count = l .count; top = l .top - 1; floor = l .floor; start = getD stack ((l .top - 1) * width + 2) 0; held = l .held }) stack cells
   unstacked-held {left = left} {operand = operand} {ps = ps} h =
       let u = uppermost h in
       record {
@@ -147,7 +147,7 @@ module _ {table : List ℕ} {first : ℕ} {done : Syntax} {l : Level} {stack cel
 
   -- what waits with a left side alone is no more, and its left side the operand
   pub left-held : {kind mark : ℕ} {value : Syntax} {ps : List Pending} → Holds table first done (pending kind mark (snoc nil value) ∷ ps) nil l stack cells
-      → Holds table first done ps value (record { count = l .count; top = l .top - 1; floor = l .floor; start = getD stack ((l .top - 1) * width + 2) 0; word = l .word }) stack cells
+      → Holds table first done ps value (record { count = l .count; top = l .top - 1; floor = l .floor; start = getD stack ((l .top - 1) * width + 2) 0; held = l .held }) stack cells
   unfolding putSyntax
   left-held {value = value} {ps = ps} h =
       let u = uppermost h in
@@ -161,7 +161,7 @@ module _ {table : List ℕ} {first : ℕ} {done : Syntax} {l : Level} {stack cel
 
   -- what waits with no side is taken back
   pub taken-back-held : {kind mark : ℕ} {ps : List Pending} → Holds table first done (pending kind mark nil ∷ ps) nil l stack cells
-      → Holds table first done ps nil (record { count = l .count; top = l .top - 1; floor = l .floor; start = l .count; word = l .word }) stack cells
+      → Holds table first done ps nil (record { count = l .count; top = l .top - 1; floor = l .floor; start = l .count; held = l .held }) stack cells
   unfolding putSyntax
   taken-back-held h =
       let u = uppermost h in

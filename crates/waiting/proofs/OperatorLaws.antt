@@ -8,7 +8,7 @@ use borrow.Author.Tests.{leb-true, eqb-true, ne-eqb, le-leb, lt-leb}
 use lib.Dec.{eqb, leb}
 use Rattle.grammar.specs.Grammar.{Operator, operator, operators, precedence, precedenceAmong}
 use Rattle.grammar.specs.Tokens.{assign}
-use Rattle.waiting.specs.Waiting.{nestKind, binding}
+use Rattle.waiting.specs.Machinery.Waiting.{nestKind, binding}
 
 -- whether all classes and precedences of a list are at most so much
 areUpTo : ℕ → ℕ → List Operator → Bool

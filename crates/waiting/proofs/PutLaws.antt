@@ -7,9 +7,9 @@ use lib.ListN.{length, getD, set, length-set}
 use lib.Seq.{getD-set-same, getD-set-other}
 use Rattle.tables.specs.Records.{mostTrees}
 use Rattle.grammar.specs.Syntax.{Syntax, nil, snoc, node, size}
-use Rattle.grammar.specs.Machine.{Pending, pending}
-use Rattle.waiting.specs.Written.{putRecord, putSyntax}
-use Rattle.waiting.specs.Waiting.{width, lefts, Stacked, bare, above, Holds, stackWith, waitingOne, madeOne}
+use Rattle.grammar.specs.Machinery.Machine.{Pending, pending}
+use Rattle.waiting.specs.Machinery.Written.{putRecord, putSyntax}
+use Rattle.waiting.specs.Machinery.Waiting.{width, lefts, Stacked, bare, above, Holds, stackWith, waitingOne, madeOne}
 use Rattle.waiting.specs.declared.Level.{Level}
 use Rattle.waiting.proofs.HoldLaws.{alone-held}
 
@@ -73,7 +73,7 @@ module _ {table : List ℕ} {first : ℕ} {done : Syntax} {ps : List Pending} {l
   pub valued-held : {operand : Syntax} {after cells′ : List ℕ} {count : ℕ} (value : Syntax) → Holds table first done ps operand l stack cells → length after ≡ length stack
       → ((k : ℕ) → k < l .top * width → getD after k 0 ≡ getD stack k 0) → count ≡ l .count + size value → cells′ ≡ putSyntax cells (l .count) value
       → count + l .top ≤ mostTrees
-      → Holds table first done ps (snoc operand value) (record { count = count; top = l .top; floor = l .floor; start = l .start; word = l .word }) after cells′
+      → Holds table first done ps (snoc operand value) (record { count = count; top = l .top; floor = l .floor; start = l .start; held = l .held }) after cells′
   unfolding putSyntax
   valued-held {operand = operand} value h long same n e room =
       let a : l .count ≡ first + size (lefts done ps) + size operand = omega (arith, h .counts, h .starts) in

@@ -5,8 +5,8 @@ ghost use mathlib.Core.Path.{_≡_};
 ghost use Prim.Native.Nat.{_+_, _-_, _*_, _≤_, _<_};
 ghost use lib.ListN.{length};
 ghost use Rattle.tables.specs.Records.{mostTrees, mostSyntax};
-ghost use Rattle.waiting.specs.Written.{putRecord};
-ghost use Rattle.waiting.specs.Waiting.{width, binding, Held, Closes, Completes, stackWith, waitingOne, madeOne};
+ghost use Rattle.waiting.specs.Machinery.Written.{putRecord};
+ghost use Rattle.waiting.specs.Machinery.Waiting.{width, binding, Backed, Closes, Completes, stackWith, waitingOne, madeOne};
 use controls::classes;
 
 pub mod records;
@@ -24,7 +24,7 @@ pub struct Level {
     pub top: usize,
     pub floor: usize,
     pub start: usize,
-    pub word: usize,
+    pub held: usize,
 }
 
 // How tight what waits binds: operators by precedence, `=` less, beginnings of statements 1, a nest 0.
@@ -46,8 +46,8 @@ fn binding(kind: u32) -> u32
 
 // Closes what waits above the floor and binds at least so tight.
 pub fn closed(l: Level, least: u32, waiting: &[u16], syntax: &mut [u32]) -> Level
-    requires { ⌜ Held l (now waiting) (now syntax) ⌝ }
-    ensures { λ r. ⌜ (r .floor ≡ l .floor) × (r .word ≡ l .word) × Closes least l (now (waiting .entry)) (now (syntax .entry)) r (now (syntax .exit)) ⌝ }
+    requires { ⌜ Backed l (now waiting) (now syntax) ⌝ }
+    ensures { λ r. ⌜ (r .floor ≡ l .floor) × (r .held ≡ l .held) × Closes least l (now (waiting .entry)) (now (syntax .entry)) r (now (syntax .exit)) ⌝ }
 {
     let floor = l.floor;
     let mut count = l.count;
@@ -62,7 +62,7 @@ pub fn closed(l: Level, least: u32, waiting: &[u16], syntax: &mut [u32]) -> Leve
                 top: top,
                 floor: floor,
                 start: start,
-                word: l.word,
+                held: l.held,
             };
         }
         start = waiting[at + 2] as usize;
@@ -74,7 +74,7 @@ pub fn closed(l: Level, least: u32, waiting: &[u16], syntax: &mut [u32]) -> Leve
         top: top,
         floor: floor,
         start: start,
-        word: l.word,
+        held: l.held,
     }
 }
 
@@ -92,7 +92,7 @@ pub fn wait(l: Level, kind: u32, mark: usize, waiting: &mut [u16]) -> Level
         top: l.top + 1,
         floor: l.floor,
         start: l.count,
-        word: l.word,
+        held: l.held,
     }
 }
 
@@ -108,13 +108,13 @@ pub fn made(l: Level, kind: u32, mark: usize, syntax: &mut [u32]) -> Level
         top: l.top,
         floor: l.floor,
         start: start,
-        word: l.word,
+        held: l.held,
     }
 }
 
 // A statement is complete, and so are those that it ends.
 pub fn completed(l: Level, waiting: &[u16], syntax: &mut [u32]) -> Level
-    requires { ⌜ Held l (now waiting) (now syntax) ⌝ }
+    requires { ⌜ Backed l (now waiting) (now syntax) ⌝ }
     ensures { λ r. ⌜ Completes l (now (waiting .entry)) (now (syntax .entry)) r (now (syntax .exit)) ⌝ }
 {
     let all = closed(l, 1, waiting, syntax);
@@ -123,6 +123,6 @@ pub fn completed(l: Level, waiting: &[u16], syntax: &mut [u32]) -> Level
         top: all.top,
         floor: all.floor,
         start: all.count,
-        word: all.word,
+        held: all.held,
     }
 }

@@ -2,7 +2,7 @@
 ghost use mathlib.Core.Path.{_≡_};
 ghost use Prim.Native.Nat.{_+_, _-_, _≤_, _<_};
 ghost use Rattle.tables.specs.Records.{mostTrees, mostSyntax};
-ghost use Rattle.waiting.specs.Written.{putRecord};
+ghost use Rattle.waiting.specs.Machinery.Written.{putRecord};
 use tables::SyntaxRecord;
 
 // Kinds of syntax records, as document 01 numbers them, that no class of tokens has the number of.

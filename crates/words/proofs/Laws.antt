@@ -9,7 +9,7 @@ use Rattle.text.specs.Runs.{same}
 use Rattle.text.proofs.Laws.{same-length}
 use Rattle.vocabulary.specs.Vocabulary.{Row, spelling, words}
 use Rattle.words.specs.Words.{placeIn, wordNumber}
-use Rattle.words.specs.Lengths.{placeAmong, wordOf}
+use Rattle.words.specs.Machinery.Lengths.{placeAmong, wordOf}
 
 -- a word that the test does not keep has another length than the name, so it is another text
 other : (keep : ℕ → Bool) (name w : List ℕ) → keep (length name) ≡ true → keep (length w) ≡ false → same name w ≡ false
@@ -30,6 +30,6 @@ place-kept keep name kept n (w ∷ ws) = go (keep (length (spelling w))) refl (p
     go false e rest = rw (e, placeAmong) (rw (other keep name (spelling w) kept e, placeIn) rest)
 
 -- the number of a name among all words is that among the words whose length passes a test that its own passes
-pub number-kept : (keep : ℕ → Bool) (name : List ℕ) → keep (length name) ≡ true → wordNumber name ≡ wordOf keep name
+pub count-kept : (keep : ℕ → Bool) (name : List ℕ) → keep (length name) ≡ true → wordNumber name ≡ wordOf keep name
 unfolding wordNumber wordOf
-number-kept keep name kept = place-kept keep name kept 1 words
+count-kept keep name kept = place-kept keep name kept 1 words

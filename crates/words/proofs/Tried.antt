@@ -3,7 +3,7 @@ use mathlib.Core.Path.{_≡_, ap, _∙_}
 use mathlib.Core.List.{List}
 use Prim.Native.Nat.{ℕ}
 use Rattle.text.specs.Quoted.{bytes}
-use Rattle.words.specs.Lengths.{chosen, placeAmong, wordOf, short, four, five, six, long}
+use Rattle.words.specs.Machinery.Lengths.{chosen, placeAmong, wordOf, short, four, five, six, long}
 
 module _ (name : List ℕ) where
   -- an answer falls back on another, which is known

@@ -1,7 +1,7 @@
 // The 36 reserved words of ES5.1 section 7.6.1, compared byte for byte with a name.
 ghost use mathlib.Core.Path.{_≡_};
 ghost use Rattle.words.specs.Words.{wordNumber, taken};
-ghost use Rattle.words.specs.Lengths.{chosen, wordOf, short, four, five, six, long};
+ghost use Rattle.words.specs.Machinery.Lengths.{chosen, wordOf, short, four, five, six, long};
 
 // The numbers of the words that are taken here.
 pub const RETURN: u32 = 11;

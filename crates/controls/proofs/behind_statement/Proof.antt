@@ -1,7 +1,7 @@
 -- `behind_statement` is `behindStatement`, by the number of the setting.
 use borrow.Author.Needs.{needs}
 use mathlib.Core.Path.{_∙_}
-use Rattle.controls.specs.Numbers.{controlBy}
+use Rattle.controls.specs.Machinery.Numbers.{controlBy}
 use Rattle.controls.proofs.NumberLaws.{scope-setting, nest-setting}
 use Rattle.controls.proofs.behind_statement.Statement.{statement}
 use Rattle.controls.proofs.behind_statement.Tie as tie

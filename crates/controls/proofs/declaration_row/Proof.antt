@@ -1,8 +1,8 @@
 -- `declaration_row` is the entry of a place that needs no statement, at `function`.
 use borrow.Author.Needs.{needs}
 use lib.Dec.{eqb}
-use Rattle.controls.specs.Numbers.{settingBy, controlBy, effectBy}
-use Rattle.controls.specs.Steps.{to-declaration, means-fail}
+use Rattle.controls.specs.Machinery.Numbers.{settingBy, controlBy, effectBy}
+use Rattle.controls.specs.Machinery.Steps.{to-declaration, means-fail}
 use Rattle.controls.proofs.StepLaws.{goes}
 use Rattle.controls.proofs.RowLaws.{function-nowhere}
 use Rattle.controls.proofs.NumberLaws.{no-body}

@@ -5,9 +5,9 @@ use mathlib.Core.Path.{_≡_}
 use mathlib.Core.Bool.{false}
 use lib.Dec.{eqb}
 use Rattle.grammar.specs.Tokens.{closeParen, closeBrace}
-use Rattle.grammar.specs.Machine.{objectOpened, parameterNamed, look, row}
-use Rattle.controls.specs.Numbers.{controlBy, controlOf}
-use Rattle.controls.specs.Steps.{Ends, ends-object, ends-parameter, goes-on}
+use Rattle.grammar.specs.Machinery.Machine.{objectOpened, parameterNamed, look, row}
+use Rattle.controls.specs.Machinery.Numbers.{controlBy, controlOf}
+use Rattle.controls.specs.Machinery.Steps.{Ends, ends-object, ends-parameter, goes-on}
 use Rattle.controls.proofs.EndLaws.{at-closers}
 use Rattle.controls.proofs.StepLaws.{at-place}
 use Rattle.controls.proofs.LevelEnds.{elsewhere}

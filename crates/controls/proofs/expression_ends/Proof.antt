@@ -5,9 +5,9 @@ use mathlib.Core.Bool.{false}
 use borrow.Author.Tests.{ne-eqb}
 use lib.Dec.{eqb}
 use Rattle.grammar.specs.Tokens.{closeParen, closeBrace}
-use Rattle.grammar.specs.Machine.{byParen, byBrace, operandDone, look, row}
-use Rattle.controls.specs.Numbers.{settingBy, endingBy}
-use Rattle.controls.specs.Steps.{Ends, ends-expression, goes-on}
+use Rattle.grammar.specs.Machinery.Machine.{byParen, byBrace, operandDone, look, row}
+use Rattle.controls.specs.Machinery.Numbers.{settingBy, endingBy}
+use Rattle.controls.specs.Machinery.Steps.{Ends, ends-expression, goes-on}
 use Rattle.controls.proofs.EndLaws.{at-closers}
 use Rattle.controls.proofs.NumberLaws.{group-ending, statement-ending}
 use Rattle.controls.proofs.LevelEnds.{in-statement}

@@ -4,9 +4,9 @@ use Prim.Native.Nat.{ℕ}
 use mathlib.Core.Path.{_≡_, refl}
 use mathlib.Core.List.{[], _∷_}
 use Rattle.grammar.specs.Tokens.{name, colon, openParen}
-use Rattle.grammar.specs.Machine.{goto, on, look, keep, fail, propertyNamed}
-use Rattle.controls.specs.Numbers.{settingBy, endingBy, controlBy, effectBy, closingBy, insideBy}
-use Rattle.controls.specs.Steps.{to-member, to-label, to-property, to-value, to-parameter, past-condition}
+use Rattle.grammar.specs.Machinery.Machine.{goto, on, look, keep, fail, propertyNamed}
+use Rattle.controls.specs.Machinery.Numbers.{settingBy, endingBy, controlBy, effectBy, closingBy, insideBy}
+use Rattle.controls.specs.Machinery.Steps.{to-member, to-label, to-property, to-value, to-parameter, past-condition}
 use Rattle.controls.proofs.EndLaws.{at-closers, besides-closers, only-closers}
 use Rattle.controls.proofs.StepLaws.{at-place, only-to, opens-to}
 use Rattle.controls.proofs.RowLaws.{label-row}
@@ -55,26 +55,26 @@ function-row-requires c κs = search needs
 
 returns : tie.Need-returns
 unfolding controlBy effectBy
-returns c = λ h settled line.
+returns c = λ h settled newline.
     rw (at-place (c .before .before .before .args .at) 7 (c .before .before .match .keys1))
     (only-to (c .before .stand .result) name 2 (c .before .stand .ensures) (c .only .ensures) tt to-member)
 
 returns-2 : tie.Need-returns-2
 unfolding controlBy effectBy
-returns-2 c = λ h settled line.
+returns-2 c = λ h settled newline.
     let a = c .before .before .before .args in
-    rw (at-place (a .at) 5 (c .before .before .match .keys2), label-row (a .class) (settingBy (a .at .setting)) line (settled .no-name (c .before .before .match .keys2)))
+    rw (at-place (a .at) 5 (c .before .before .match .keys2), label-row (a .class) (settingBy (a .at .setting)) newline (settled .no-name (c .before .before .match .keys2)))
     (only-to (c .before .stand2 .result) colon 4 (c .before .stand2 .ensures) (c .only2 .ensures) tt to-label)
 
 returns-3 : tie.Need-returns-3
 unfolding controlBy settingBy closingBy insideBy
-returns-3 c = λ h settled line.
+returns-3 c = λ h settled newline.
     rw (at-place (c .before .before .before .args .at) 6 (c .before .before .match .keys3))
     (opens-to (c .before .stand3 .result) openParen 3 (c .before .stand3 .ensures) (c .opens .ensures) tt past-condition)
 
 returns-4 : tie.Need-returns-4
 unfolding controlBy effectBy
-returns-4 c = λ h settled line.
+returns-4 c = λ h settled newline.
     rw (at-place (c .before .before .before .args .at) 8 (c .before .before .match .keys4))
     (besides-closers (only-to (c .before .stand4 .result) name 0 (c .before .stand4 .ensures) (c .only3 .ensures) tt to-property)
     (at-closers (λ (k : ℕ). look k (on name (goto propertyNamed keep) ∷ []) ≡ fail) refl refl refl (c .before .before .before .args .class))
@@ -82,28 +82,28 @@ returns-4 c = λ h settled line.
 
 returns-5 : tie.Need-returns-5
 unfolding controlBy endingBy effectBy
-returns-5 c = λ h settled line.
+returns-5 c = λ h settled newline.
     rw (at-place (c .before .before .before .args .at) 9 (c .before .before .match .keys5))
     (only-to (c .before .stand5 .result) colon 0 (c .before .stand5 .ensures) (c .only4 .ensures) tt to-value)
 
 returns-6 : tie.Need-returns-6
 unfolding controlBy effectBy
-returns-6 c = λ h settled line.
+returns-6 c = λ h settled newline.
     rw (at-place (c .before .before .before .args .at) 10 (c .before .before .match .keys6))
     (only-to (c .before .stand6 .result) name 0 (c .before .stand6 .ensures) (c .only5 .ensures) tt to-parameter)
 
 returns-7 : tie.Need-returns-7
 unfolding controlBy
-returns-7 c = λ h settled line. rw (at-place (c .before .args .at) 11 (c .match .keys7)) (only-closers (λ none. rw (none .no-paren)))
+returns-7 c = λ h settled newline. rw (at-place (c .before .args .at) 11 (c .match .keys7)) (only-closers (λ none. rw (none .no-paren)))
 
 returns-8 : tie.Need-returns-8
-returns-8 c = λ h settled line. absurd (settled .no-nest (c .match .keys8))
+returns-8 c = λ h settled newline. absurd (settled .no-nest (c .match .keys8))
 
 returns-9 : tie.Need-returns-9
-returns-9 c = λ h settled line.
+returns-9 c = λ h settled newline.
     let rest = c .before .match .rest in
     let place = c .before .before .args .at .place in
-    c .function-row .ensures (beyond 11 place (beyond 10 place (beyond 9 place (beyond 8 place (beyond 7 place (beyond 6 place (beyond 5 place (beyond 4 place h (rest .1)) (rest .0 .0 .0 .0 .0 .0 .1)) (rest .0 .0 .0 .0 .0 .1)) (rest .0 .0 .0 .0 .0 .0 .0 .1)) (rest .0 .0 .0 .0 .1)) (rest .0 .0 .0 .1)) (rest .0 .0 .1)) (rest .0 .1)) line
+    c .function-row .ensures (beyond 11 place (beyond 10 place (beyond 9 place (beyond 8 place (beyond 7 place (beyond 6 place (beyond 5 place (beyond 4 place h (rest .1)) (rest .0 .0 .0 .0 .0 .0 .1)) (rest .0 .0 .0 .0 .0 .1)) (rest .0 .0 .0 .0 .0 .0 .0 .1)) (rest .0 .0 .0 .0 .1)) (rest .0 .0 .0 .1)) (rest .0 .0 .1)) (rest .0 .1)) newline
 
 pub form-row-spec : {M : Type 1} → statement M
 form-row-spec =

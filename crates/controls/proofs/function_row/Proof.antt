@@ -3,8 +3,8 @@ use borrow.Author.Needs.{needs}
 use Prim.Native.Nat.{_≤_}
 use native.Mathlib.Omega.{arith}
 use Rattle.grammar.specs.Tokens.{name, openParen, openBrace}
-use Rattle.controls.specs.Numbers.{settingBy, controlBy, controlOf, effectBy, closingBy, insideBy}
-use Rattle.controls.specs.Steps.{to-function-name, past-parameter, past-function, past-declaration, means-fail}
+use Rattle.controls.specs.Machinery.Numbers.{settingBy, controlBy, controlOf, effectBy, closingBy, insideBy}
+use Rattle.controls.specs.Machinery.Steps.{to-function-name, past-parameter, past-function, past-declaration, means-fail}
 use Rattle.controls.proofs.StepLaws.{at-place, only-to, opens-to}
 use Rattle.controls.proofs.NumberLaws.{past-places}
 use Rattle.controls.proofs.function_row.Statement.{statement}
@@ -48,43 +48,43 @@ opens-requires-4 c κs = search needs
 
 returns : tie.Need-returns
 unfolding controlBy effectBy
-returns c = λ h line.
+returns c = λ h newline.
     rw (at-place (c .before .before .before .args .at) 12 (c .before .before .match .keys1))
     (only-to (c .before .stand .result) name 0 (c .before .stand .ensures) (c .only .ensures) tt to-function-name)
 
 returns-2 : tie.Need-returns-2
 unfolding controlBy closingBy insideBy
-returns-2 c = λ h line.
+returns-2 c = λ h newline.
     rw (at-place (c .before .before .before .args .at) 13 (c .before .before .match .keys2))
     (opens-to (c .before .stand2 .result) openParen 4 (c .before .stand2 .ensures) (c .opens .ensures) tt past-parameter)
 
 returns-3 : tie.Need-returns-3
 unfolding controlBy closingBy insideBy
-returns-3 c = λ h line.
+returns-3 c = λ h newline.
     rw (at-place (c .before .before .before .args .at) 14 (c .before .before .match .keys3))
     (opens-to (c .before .stand3 .result) openBrace 7 (c .before .stand3 .ensures) (c .opens2 .ensures) tt past-function)
 
 returns-4 : tie.Need-returns-4
 unfolding controlBy effectBy
-returns-4 c = λ h line.
+returns-4 c = λ h newline.
     rw (at-place (c .before .before .before .args .at) 15 (c .before .before .match .keys4))
     (only-to (c .before .stand4 .result) name 0 (c .before .stand4 .ensures) (c .only2 .ensures) tt to-function-name)
 
 returns-5 : tie.Need-returns-5
 unfolding controlBy closingBy insideBy
-returns-5 c = λ h line.
+returns-5 c = λ h newline.
     rw (at-place (c .before .before .before .args .at) 16 (c .before .before .match .keys5))
     (opens-to (c .before .stand5 .result) openParen 4 (c .before .stand5 .ensures) (c .opens3 .ensures) tt past-parameter)
 
 returns-6 : tie.Need-returns-6
 unfolding controlBy settingBy closingBy insideBy
-returns-6 c = λ h line.
+returns-6 c = λ h newline.
     rw (at-place (c .before .before .before .args .at) 17 (c .before .before .match .keys6))
     (opens-to (c .before .stand6 .result) openBrace 6 (c .before .stand6 .ensures) (c .opens4 .ensures) tt past-declaration)
 
 returns-7 : tie.Need-returns-7
 unfolding controlOf
-returns-7 c = λ h line.
+returns-7 c = λ h newline.
     let at = c .before .args .at in
     let rest = c .match .rest in
     let past : 18 ≤ at .place = omega (arith, rest .0 .0 .0 .0 .0 .1, rest .0 .0 .0 .0 .1, rest .0 .0 .0 .1, rest .0 .0 .1, rest .0 .1, rest .1) in

@@ -2,7 +2,7 @@
 use borrow.Author.Needs.{needs}
 use mathlib.Core.Path.{_∙_}
 use borrow.Author.Tests.{ne-eqb}
-use Rattle.controls.specs.Numbers.{settingBy, endingBy, controlBy, insideBy}
+use Rattle.controls.specs.Machinery.Numbers.{settingBy, endingBy, controlBy, insideBy}
 use Rattle.controls.proofs.inside_of.Statement.{statement}
 use Rattle.controls.proofs.inside_of.Tie as tie
 

@@ -1,7 +1,7 @@
 -- `only` is a row of one entry.
 use mathlib.Core.Path.{refl}
 use borrow.Author.Tests.{eq-eqb, ne-eqb}
-use Rattle.controls.specs.Steps.{means-goto, means-fail}
+use Rattle.controls.specs.Machinery.Steps.{means-goto, means-fail}
 use Rattle.controls.proofs.only.Statement.{statement}
 use Rattle.controls.proofs.only.Tie as tie
 

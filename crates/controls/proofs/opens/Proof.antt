@@ -1,7 +1,7 @@
 -- `opens` is a row of one entry.
 use mathlib.Core.Path.{refl}
 use borrow.Author.Tests.{eq-eqb, ne-eqb}
-use Rattle.controls.specs.Steps.{means-push, means-fail}
+use Rattle.controls.specs.Machinery.Steps.{means-push, means-fail}
 use Rattle.controls.proofs.opens.Statement.{statement}
 use Rattle.controls.proofs.opens.Tie as tie
 

@@ -1,8 +1,8 @@
 -- `operand_row` is the machine's row, entry by entry.
 use borrow.Author.Needs.{needs}
 use mathlib.Core.Path.{sym, _∙_}
-use Rattle.controls.specs.Numbers.{endingBy, controlBy, effectBy, closingBy, insideBy}
-use Rattle.controls.specs.Steps.{to-leaf, to-function, past-parens, past-object, means-fail}
+use Rattle.controls.specs.Machinery.Numbers.{endingBy, controlBy, effectBy, closingBy, insideBy}
+use Rattle.controls.specs.Machinery.Steps.{to-leaf, to-function, past-parens, past-object, means-fail}
 use Rattle.controls.proofs.StepLaws.{goes, opens-group}
 use Rattle.controls.proofs.RowLaws.{leaf-row, no-operand}
 use Rattle.controls.proofs.operand_row.Statement.{statement}

@@ -4,8 +4,8 @@ use Prim.Native.Nat.{_≤_}
 use native.Mathlib.Omega.{arith}
 use mathlib.Core.Path.{_≡_}
 use Rattle.grammar.specs.Grammar.{precedence}
-use Rattle.controls.specs.Numbers.{endingBy, controlBy, effectBy, closingBy, insideBy}
-use Rattle.controls.specs.Steps.{to-dot, to-assign, to-operator, past-call, means-fail}
+use Rattle.controls.specs.Machinery.Numbers.{endingBy, controlBy, effectBy, closingBy, insideBy}
+use Rattle.controls.specs.Machinery.Steps.{to-dot, to-assign, to-operator, past-call, means-fail}
 use Rattle.controls.proofs.StepLaws.{goes, opens-group}
 use Rattle.controls.proofs.EndLaws.{only-closers}
 use Rattle.controls.proofs.RowLaws.{operator-next, none-next}

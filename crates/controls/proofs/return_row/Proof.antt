@@ -2,9 +2,9 @@
 use borrow.Author.Needs.{needs}
 use borrow.Author.Tests.{ne-eqb}
 use Rattle.grammar.specs.Tokens.{semicolon}
-use Rattle.grammar.specs.Machine.{returnFirst}
-use Rattle.controls.specs.Numbers.{settingBy, endingBy, effectBy}
-use Rattle.controls.specs.Steps.{due-value, to-bare-end, means-fail}
+use Rattle.grammar.specs.Machinery.Machine.{returnFirst}
+use Rattle.controls.specs.Machinery.Numbers.{settingBy, endingBy, effectBy}
+use Rattle.controls.specs.Machinery.Steps.{due-value, to-bare-end, means-fail}
 use Rattle.controls.proofs.StepLaws.{goes}
 use Rattle.controls.proofs.return_row.Statement.{statement}
 use Rattle.controls.proofs.return_row.Tie as tie

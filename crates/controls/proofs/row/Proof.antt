@@ -2,9 +2,9 @@
 use borrow.Author.Needs.{needs}
 use Prim.Native.Nat.{_≤_}
 use native.Mathlib.Omega.{arith}
-use Rattle.grammar.specs.Machine.{operandDue}
-use Rattle.controls.specs.Numbers.{endingBy, controlBy}
-use Rattle.controls.specs.Steps.{due-operand}
+use Rattle.grammar.specs.Machinery.Machine.{operandDue}
+use Rattle.controls.specs.Machinery.Numbers.{endingBy, controlBy}
+use Rattle.controls.specs.Machinery.Steps.{due-operand}
 use Rattle.controls.proofs.StepLaws.{at-place}
 use Rattle.controls.proofs.row.Statement.{statement}
 use Rattle.controls.proofs.row.Tie as tie
@@ -26,7 +26,7 @@ form-row-requires c κs = search needs
 
 returns : tie.Need-returns
 unfolding controlBy
-returns c = λ settled. rw (at-place (c .before .before .args .at) 0 (c .before .match .keys1)) (c .statement-row .ensures (c .before .before .args .line))
+returns c = λ settled. rw (at-place (c .before .before .args .at) 0 (c .before .match .keys1)) (c .statement-row .ensures (c .before .before .args .newline))
 
 returns-2 : tie.Need-returns-2
 unfolding controlBy
@@ -46,7 +46,7 @@ returns-5 : tie.Need-returns-5
 returns-5 c = λ settled.
     let rest = c .before .match .rest in
     let past : 4 ≤ c .before .before .args .at .place = omega (arith, rest .0 .0 .0 .1, rest .0 .0 .1, rest .0 .1, rest .1) in
-    c .form-row .ensures past settled (c .before .before .args .line)
+    c .form-row .ensures past settled (c .before .before .args .newline)
 
 pub row-spec : {M : Type 1} → statement M
 row-spec =

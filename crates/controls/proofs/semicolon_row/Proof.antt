@@ -1,8 +1,8 @@
 -- `semicolon_row` is the entry of an ending, at `;`.
 use borrow.Author.Needs.{needs}
 use lib.Dec.{eqb}
-use Rattle.controls.specs.Numbers.{endingBy, effectBy}
-use Rattle.controls.specs.Steps.{to-end, to-return-end, means-fail}
+use Rattle.controls.specs.Machinery.Numbers.{endingBy, effectBy}
+use Rattle.controls.specs.Machinery.Steps.{to-end, to-return-end, means-fail}
 use Rattle.controls.proofs.StepLaws.{goes}
 use Rattle.controls.proofs.RowLaws.{semicolon-group}
 use Rattle.controls.proofs.NumberLaws.{group-ending}

@@ -1,6 +1,6 @@
 -- `stand` is the record of its parts.
 use mathlib.Core.Path.{refl}
-use Rattle.controls.specs.Numbers.{controlOf}
+use Rattle.controls.specs.Machinery.Numbers.{controlOf}
 use Rattle.controls.proofs.stand.Statement.{statement}
 use Rattle.controls.proofs.stand.Tie as tie
 

@@ -6,9 +6,9 @@ use mathlib.Core.Bool.{true, false}
 use lib.Dec.{eqb}
 use Rattle.grammar.specs.Grammar.{body, block}
 use Rattle.grammar.specs.Tokens.{closeBrace}
-use Rattle.grammar.specs.Machine.{endOfText, ifNest, among, inNest, statementDue, look, row}
-use Rattle.controls.specs.Numbers.{settingBy}
-use Rattle.controls.specs.Steps.{Ends, ends-statements, ends-text, goes-on}
+use Rattle.grammar.specs.Machinery.Machine.{endOfText, ifNest, among, inNest, statementDue, look, row}
+use Rattle.controls.specs.Machinery.Numbers.{settingBy}
+use Rattle.controls.specs.Machinery.Steps.{Ends, ends-statements, ends-text, goes-on}
 use Rattle.controls.proofs.EndLaws.{at-closers}
 use Rattle.controls.proofs.NumberLaws.{nest-setting}
 use Rattle.controls.proofs.LevelEnds.{no-closer-at}

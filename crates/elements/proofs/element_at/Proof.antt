@@ -1,6 +1,7 @@
 -- The gap first, then the element behind it.
 use borrow.Author.Needs.{needs}
 use mathlib.Core.Path.{sym, ap, _∙_}
+use Rattle.answers.proofs.AnswerLaws.{same-tells}
 use Rattle.elements.specs.Elements.{elementAt, afterGap}
 use borrow.Author.Needs.{needs}
 use Rattle.elements.proofs.element_at.Statement.{statement}
@@ -22,13 +23,15 @@ returns : tie.Need-returns
 unfolding elementAt
 returns c =
     let g = c .before .before .before .before in
-    sym (ap (afterGap _ _) (sym (g .gap-from .ensures) ∙ c .before .before .first .given .1) ∙ sym (c .element-from .ensures))
+    let e = sym (ap (afterGap _ _) (sym (g .gap-from .ensures) ∙ c .before .before .first .given .1) ∙ sym (c .element-from .ensures)) in
+    (e, same-tells e)
 
 returns-2 : tie.Need-returns-2
 unfolding elementAt
 returns-2 c =
     let g = c .before .before .before in
-    sym (ap (afterGap _ _) (sym (g .gap-from .ensures) ∙ c .before .number .given .1))
+    let e = sym (ap (afterGap _ _) (sym (g .gap-from .ensures) ∙ c .before .number .given .1)) in
+    (e, same-tells e)
 
 pub element-at-spec : {M : Type 1} → statement M
 element-at-spec =

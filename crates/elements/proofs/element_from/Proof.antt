@@ -2,7 +2,7 @@
 use borrow.Author.Needs.{needs}
 use native.Mathlib.Omega.{arith}
 use mathlib.Core.Path.{sym, ap, _∙_}
-use Rattle.elements.specs.Elements.{literal}
+use Rattle.elements.specs.Elements.{literalElement}
 use Rattle.elements.proofs.ElementLaws.{from-past, from-letter, from-digit, from-quote, from-pattern, from-dot, from-sign}
 use borrow.Author.Needs.{needs}
 use Rattle.elements.proofs.element_from.Statement.{statement}
@@ -36,7 +36,7 @@ literal-element-requires c κs = search needs
 returns-3 : tie.Need-returns-3
 returns-3 c =
     let l = sym (c .before .before .before .before .before .is-letter .ensures) ∙ c .before .before .before .before .if2 .left in
-    c .literal-element .ensures ∙ ap (literal _ _ _) (c .before .number-at .ensures)
+    c .literal-element .ensures ∙ ap (literalElement _ _ _) (c .before .number-at .ensures)
     ∙ sym (from-digit _ _ _ _ (omega arith) l (sym (c .before .before .before .is-digit .ensures) ∙ c .before .before .if3 .taken))
 
 is-quote-requires : tie.Need-is-quote-requires
@@ -55,7 +55,7 @@ returns-4 : tie.Need-returns-4
 returns-4 c =
     let l = sym (c .before .before .before .before .before .before .before .is-letter .ensures) ∙ c .before .before .before .before .before .before .if2 .left in
     let d = sym (c .before .before .before .before .before .is-digit .ensures) ∙ c .before .before .before .before .if3 .left in
-    c .literal-element2 .ensures ∙ ap (literal _ _ _) (c .before .string-rest .ensures)
+    c .literal-element2 .ensures ∙ ap (literalElement _ _ _) (c .before .string-rest .ensures)
     ∙ sym (from-quote _ _ _ _ (omega arith) l d (sym (c .before .before .before .is-quote .ensures) ∙ c .before .before .if4 .taken))
 
 is-pattern-slash-requires : tie.Need-is-pattern-slash-requires
@@ -75,7 +75,7 @@ returns-5 c =
     let l = sym (c .before .before .before .before .before .before .before .before .before .is-letter .ensures) ∙ c .before .before .before .before .before .before .before .before .if2 .left in
     let d = sym (c .before .before .before .before .before .before .before .is-digit .ensures) ∙ c .before .before .before .before .before .before .if3 .left in
     let q = sym (c .before .before .before .before .before .is-quote .ensures) ∙ c .before .before .before .before .if4 .left in
-    c .literal-element3 .ensures ∙ ap (literal _ _ _) (c .before .pattern-rest .ensures)
+    c .literal-element3 .ensures ∙ ap (literalElement _ _ _) (c .before .pattern-rest .ensures)
     ∙ sym (from-pattern _ _ _ _ (omega arith) l d q (sym (c .before .before .before .is-pattern-slash .ensures) ∙ c .before .before .if5 .taken))
 
 is-dot-before-digit-requires : tie.Need-is-dot-before-digit-requires

@@ -6,10 +6,10 @@ use Rattle.elements_cases.proofs.answer_all.Statement.{statement}
 use Rattle.elements_cases.proofs.answer_all.Tie as tie
 
 abbrev Inv-loop : tie.InvT-loop
-Inv-loop input at₀ at = Unit {0}
+Inv-loop input text₀ at₀ text at = Unit {0}
 
 abbrev μ-loop : tie.MeasureT-loop
-μ-loop input at₀ at = length input - at
+μ-loop input text₀ at₀ text at = length input - at
 
 loop-holds : tie.Need-loop-holds Inv-loop μ-loop
 loop-holds c = search needs

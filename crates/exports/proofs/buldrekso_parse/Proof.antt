@@ -1,8 +1,6 @@
 -- `parser::parse`, with its answer packed.
 use borrow.Author.Needs.{needs}
-use mathlib.Core.Path.{ap, _∙_}
 use lib.ListN.{length}
-use Rattle.exports.specs.Packed.{packed}
 use Rattle.exports.proofs.Laws.{parts-small}
 use Rattle.exports.proofs.buldrekso_parse.Statement.{statement}
 use Rattle.exports.proofs.buldrekso_parse.Tie as tie
@@ -22,9 +20,7 @@ same-length-2 : tie.Need-same-length-2
 same-length-2 c = search needs
 
 returns : tie.Need-returns
-returns c =
-    let p = c .before .before .before .before .before .parse .ensures in
-    (c .pack .ensures ∙ ap packed (p .0), p .1, p .2)
+returns c = (_, c .before .before .before .before .before .parse .ensures, c .pack .ensures)
 
 pub buldrekso-parse-spec : {M : Type 1} → statement M
 buldrekso-parse-spec = tie.close (tie.spec parse-requires pack-requires same-length same-length-2 returns)

@@ -1,8 +1,6 @@
 -- `reader::read`, with its answer packed.
 use borrow.Author.Needs.{needs}
-use mathlib.Core.Path.{ap, _∙_}
 use lib.ListN.{length}
-use Rattle.exports.specs.Packed.{packed}
 use Rattle.exports.proofs.Laws.{count-small}
 use borrow.Author.Needs.{needs}
 use Rattle.exports.proofs.buldrekso_read.Statement.{statement}
@@ -20,7 +18,7 @@ same-length : tie.Need-same-length
 same-length c = search needs
 
 returns : tie.Need-returns
-returns c = (c .pack .ensures ∙ ap packed (c .before .before .before .read .ensures .0), c .before .before .before .read .ensures .1)
+returns c = (_, c .before .before .before .read .ensures, c .pack .ensures)
 
 pub buldrekso-read-spec : {M : Type 1} → statement M
 buldrekso-read-spec = tie.close (tie.spec read-requires pack-requires same-length returns)

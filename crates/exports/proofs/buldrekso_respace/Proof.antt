@@ -1,8 +1,6 @@
 -- `respacer::respace`, with its answer packed.
 use borrow.Author.Needs.{needs}
-use mathlib.Core.Path.{ap, _∙_}
 use lib.ListN.{length}
-use Rattle.exports.specs.Packed.{packed}
 use Rattle.exports.proofs.Laws.{bytes-small}
 use Rattle.exports.proofs.buldrekso_respace.Statement.{statement}
 use Rattle.exports.proofs.buldrekso_respace.Tie as tie
@@ -19,7 +17,7 @@ same-length : tie.Need-same-length
 same-length c = search needs
 
 returns : tie.Need-returns
-returns c = (c .pack .ensures ∙ ap packed (c .before .before .before .respace .ensures .0), c .before .before .before .respace .ensures .1)
+returns c = (_, c .before .before .before .respace .ensures, c .pack .ensures)
 
 pub buldrekso-respace-spec : {M : Type 1} → statement M
 buldrekso-respace-spec = tie.close (tie.spec respace-requires pack-requires same-length returns)

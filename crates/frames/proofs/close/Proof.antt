@@ -39,7 +39,7 @@ made-requires-5 : tie.Need-made-requires-5
 made-requires-5 c κs = search needs
 
 completed-requires-2 : tie.Need-completed-requires-2
-completed-requires-2 c κs = group-held declarationSyntax (c .before .before .before .before .before .before .before .before .before .args .l .word) (c .before .before .before .before .before .before .before .before .before .pre) (c .before .before .before .before .made5 .ensures)
+completed-requires-2 c κs = group-held declarationSyntax (c .before .before .before .before .before .before .before .before .before .args .l .held) (c .before .before .before .before .before .before .before .before .before .pre) (c .before .before .before .before .made5 .ensures)
 
 made-requires-6 : tie.Need-made-requires-6
 made-requires-6 c κs = search needs

@@ -2,7 +2,7 @@
 use borrow.Author.Needs.{needs}
 use mathlib.Core.Path.{refl}
 use native.Mathlib.Omega.{arith}
-use Rattle.waiting.proofs.HoldLaws.{held}
+use Rattle.waiting.proofs.HoldLaws.{backed}
 use Rattle.frames.proofs.NestLaws.{nest-around, nest-leaves}
 use Rattle.frames.proofs.left.Statement.{statement}
 use Rattle.frames.proofs.left.Tie as tie
@@ -41,7 +41,7 @@ cast-t14 : tie.Need-cast-t14
 cast-t14 c = omega (arith, (nest-around (c .before .before .before .before .before .pre .stands)) .started)
 
 completed-requires : tie.Need-completed-requires
-completed-requires c κs = held ((nest-around (c .before .before .before .before .before .before .pre .stands)) .carries .holds)
+completed-requires c κs = backed ((nest-around (c .before .before .before .before .before .before .pre .stands)) .carries .holds)
 
 behind-statement-requires : tie.Need-behind-statement-requires
 behind-statement-requires c κs = search needs

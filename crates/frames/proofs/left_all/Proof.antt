@@ -1,30 +1,29 @@
 -- While the control is behind a nest that is done, the nest is left: what stands then takes any token as what stood first. Less waits each time.
 use mathlib.Core.Path.{_≡_, refl, _∙_}
-use native.Mathlib.Omega.{arith}
 use lib.ListN.{length}
-use Rattle.controls.specs.Numbers.{controlOf}
-use Rattle.frames.specs.Effects.{StandsSomewhere, Moves}
+use Rattle.controls.specs.Machinery.Numbers.{controlOf}
+use Rattle.frames.specs.Machinery.Effects.{StandsSomewhere, Moves}
 use Rattle.frames.proofs.NestLaws.{control-done, moves-none, moves-on, leaves-somewhere, moves-settled}
 use Rattle.frames.proofs.left_all.Statement.{statement}
 use Rattle.frames.proofs.left_all.Tie as tie
 
 abbrev Inv-loop : tie.InvT-loop
-Inv-loop waiting syntax₀ control₀ level₀ syntax control level = StandsSomewhere (controlOf control) level waiting syntax × (control .place ≡ 5 → ⊥) × Moves (controlOf control₀) level₀ waiting syntax₀ (record { control = control; level = level }) syntax × (length syntax ≡ length syntax₀)
+Inv-loop waiting syntax₀ s₀ syntax s = StandsSomewhere (controlOf (s .control)) (s .level) waiting syntax × (s .control .place ≡ 5 → ⊥) × Moves (controlOf (s₀ .control)) (s₀ .level) waiting syntax₀ s syntax × (length syntax ≡ length syntax₀)
 
 abbrev μ-loop : tie.MeasureT-loop
-μ-loop waiting syntax₀ control₀ level₀ syntax control level = level .top
+μ-loop waiting syntax₀ s₀ syntax s = s .level .top
 
 loop-holds : tie.Need-loop-holds Inv-loop μ-loop
-loop-holds c = (c .before .before .pre .somewhere, (λ e. absurd (omega (arith, e, c .before .before .pre .place-is))), moves-none (c .before .before .args .at), refl)
+loop-holds c = (c .before .before .pre .somewhere, c .before .before .pre .no-name, moves-none (c .before .before .args .at), refl)
 
 left-requires : tie.Need-left-requires Inv-loop μ-loop
-left-requires c κs = rw (control-done (c .before .before .before .loop .control) (c .before .if1 .taken)) at (c .before .before .before .loop .inv .0)
+left-requires c κs = rw (control-done (c .before .before .before .loop .s .control) (c .before .if1 .taken)) at (c .before .before .before .loop .inv .0)
 
 loop-less : tie.Need-loop-less Inv-loop μ-loop
-loop-less c = c .before .before .before .before .left .ensures .lower
+loop-less c = c .before .before .left .ensures .lower
 
 loop-again : tie.Need-loop-again Inv-loop μ-loop
-loop-again c = (leaves-somewhere (rw (control-done (c .before .before .before .before .before .before .before .before .loop .control) (c .before .before .before .before .before .before .if1 .taken)) at (c .before .before .before .before .before .before .before .before .loop .inv .0)) (c .before .before .before .before .left .ensures), c .before .before .before .before .left .ensures .no-name, moves-on (c .before .before .before .before .before .before .if1 .taken) (c .before .before .before .before .before .before .before .before .loop .inv .2) (c .before .before .before .before .left .ensures), c .before .before .before .syntax .given ∙ c .before .before .before .before .before .before .before .before .loop .inv .3)
+loop-again c = (leaves-somewhere (rw (control-done (c .before .before .before .before .before .before .loop .s .control) (c .before .before .before .before .if1 .taken)) at (c .before .before .before .before .before .before .loop .inv .0)) (c .before .before .left .ensures), c .before .before .left .ensures .no-name, moves-on (c .before .before .before .before .if1 .taken) (c .before .before .before .before .before .before .loop .inv .2) (c .before .before .left .ensures), c .before .syntax .given ∙ c .before .before .before .before .before .before .loop .inv .3)
 
 same-length : tie.Need-same-length Inv-loop μ-loop
 same-length c = c .before .before .loop .inv .3

@@ -18,26 +18,15 @@ returns-2 : tie.Need-returns-2
 returns-2 c = c .before .before .named .ensures (c .before .before .before .before .before .before .before .before .before .args .class) (c .before .before .before .before .before .before .before .before .before .args .waiting .now) (c .before .before .before .before .if2 .left)
 
 left-all-requires : tie.Need-left-all-requires
-left-all-requires c κs = search needs
+left-all-requires c κs = record { no-name = c .before .if1 .left; somewhere = c .before .before .before .before .before .pre }
 
 same-length-2 : tie.Need-same-length-2
 same-length-2 c = search needs
 
 returns-3 : tie.Need-returns-3
-returns-3 c = c .before .before .left-all .ensures (c .before .before .before .before .before .before .before .before .before .before .args .class)
-
-returns-4 : tie.Need-returns-4
-returns-4 c = moves-settled (moves-none (c .before .before .before .before .before .before .args .at)) (c .before .before .before .before .before .before .args .class) (record { no-name = λ e. absurd (c .before .before .if1 .left e); no-nest = c .if3 .left })
+returns-3 c = c .before .before .left-all .ensures (c .before .before .before .before .before .before .before .before .args .class)
 
 pub ready-spec : {M : Type 1} → statement M
 ready-spec =
     tie.close
-    (tie.spec
-    returns
-    named-requires
-    same-length
-    returns-2
-    left-all-requires
-    same-length-2
-    returns-3
-    returns-4)
+    (tie.spec returns named-requires same-length returns-2 left-all-requires same-length-2 returns-3)

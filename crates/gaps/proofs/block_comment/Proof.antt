@@ -14,7 +14,7 @@ use Rattle.gaps.proofs.block_comment.Tie as tie
 abbrev Inv-loop : tie.InvT-loop
 Inv-loop text slash lined₀ i₀ lined i =
     (slash + 2 ≤ i)
-    × ((line : Bool) → inBlock slash (slash + 2) line false (drop (slash + 2) text) ≡ inBlock slash i (line || lined) false (drop i text))
+    × ((newline : Bool) → inBlock slash (slash + 2) newline false (drop (slash + 2) text) ≡ inBlock slash i (newline || lined) false (drop i text))
 
 abbrev μ-loop : tie.MeasureT-loop
 μ-loop text slash lined₀ i₀ lined i = length text - i
@@ -23,7 +23,7 @@ add-i : tie.Need-add-i Inv-loop μ-loop
 add-i c = search needs
 
 loop-holds : tie.Need-loop-holds Inv-loop μ-loop
-loop-holds c = (omega arith, λ line. rw (or-false line))
+loop-holds c = (omega arith, λ newline. rw (or-false newline))
 
 shared-slice-read-b : tie.Need-shared-slice-read-b Inv-loop μ-loop
 shared-slice-read-b c = search needs
@@ -40,12 +40,12 @@ loop-less c = search needs
 loop-again : tie.Need-loop-again Inv-loop μ-loop
 loop-again c =
     let l = c .before .before .before .before in
-    (omega arith, λ line. rw (or-true line) (l .loop .inv .1 line ∙ block-line-end _ _ _ _ (omega arith) (omega arith)))
+    (omega arith, λ newline. rw (or-true newline) (l .loop .inv .1 newline ∙ block-line-end _ _ _ _ (omega arith) (omega arith)))
 
 returns : tie.Need-returns Inv-loop μ-loop
 returns c =
     let l = c .before .before .before .before .before in
-    (λ line. l .loop .inv .1 line ∙ block-stray _ _ _ _ (omega arith) (omega arith), tt)
+    (λ newline. l .loop .inv .1 newline ∙ block-stray _ _ _ _ (omega arith) (omega arith), tt)
 
 add-i-3 : tie.Need-add-i-3 Inv-loop μ-loop
 add-i-3 c = search needs
@@ -56,7 +56,7 @@ loop-less-2 c = search needs
 loop-again-2 : tie.Need-loop-again-2 Inv-loop μ-loop
 loop-again-2 c =
     let l = c .before .before .before .before .before .before in
-    (omega arith, λ line. l .loop .inv .1 line ∙ block-more _ _ _ _ (omega arith) (omega arith) (omega arith) (omega arith))
+    (omega arith, λ newline. l .loop .inv .1 newline ∙ block-more _ _ _ _ (omega arith) (omega arith) (omega arith) (omega arith))
 
 add-if4 : tie.Need-add-if4 Inv-loop μ-loop
 add-if4 c = search needs
@@ -70,7 +70,7 @@ loop-less-3 c = search needs
 loop-again-3 : tie.Need-loop-again-3 Inv-loop μ-loop
 loop-again-3 c =
     let l = c .before .before .before .before .before .before .before in
-    (omega arith, λ line. l .loop .inv .1 line ∙ block-star-last _ _ _ _ (omega arith) (omega arith) (omega arith) (omega arith) (omega arith))
+    (omega arith, λ newline. l .loop .inv .1 newline ∙ block-star-last _ _ _ _ (omega arith) (omega arith) (omega arith) (omega arith) (omega arith))
 
 add-if5 : tie.Need-add-if5 Inv-loop μ-loop
 add-if5 c = search needs
@@ -87,7 +87,7 @@ loop-less-4 c = search needs
 loop-again-4 : tie.Need-loop-again-4 Inv-loop μ-loop
 loop-again-4 c =
     let l = c .before .before .before .before .before .before .before .before .before in
-    (omega arith, λ line. l .loop .inv .1 line ∙ block-star _ _ _ _ (omega arith) (omega arith) (omega arith) (omega arith) (omega arith))
+    (omega arith, λ newline. l .loop .inv .1 newline ∙ block-star _ _ _ _ (omega arith) (omega arith) (omega arith) (omega arith) (omega arith))
 
 add-t11 : tie.Need-add-t11 Inv-loop μ-loop
 add-t11 c = search needs
@@ -95,10 +95,10 @@ add-t11 c = search needs
 returns-2 : tie.Need-returns-2 Inv-loop μ-loop
 returns-2 c =
     let l = c .before .before .before .before .before .before .before .before .before in
-    (λ line. l .loop .inv .1 line ∙ block-close _ _ _ _ (omega arith) (omega arith) (omega arith) (omega arith) (omega arith) (omega arith), omega arith)
+    (λ newline. l .loop .inv .1 newline ∙ block-close _ _ _ _ (omega arith) (omega arith) (omega arith) (omega arith) (omega arith) (omega arith), omega arith)
 
 returns-3 : tie.Need-returns-3 Inv-loop μ-loop
-returns-3 c = (λ line. c .before .loop .inv .1 line ∙ block-past _ _ _ _ (c .loop-test .left), tt)
+returns-3 c = (λ newline. c .before .loop .inv .1 newline ∙ block-past _ _ _ _ (c .loop-test .left), tt)
 
 pub block-comment-spec : {M : Type 1} → statement M
 block-comment-spec =

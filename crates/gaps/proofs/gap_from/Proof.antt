@@ -11,10 +11,10 @@ use Rattle.gaps.proofs.gap_from.Statement.{statement}
 use Rattle.gaps.proofs.gap_from.Tie as tie
 
 abbrev Inv-loop : tie.InvT-loop
-Inv-loop text from line₀ i₀ line i = gap from false (drop from text) ≡ gap i line (drop i text)
+Inv-loop text from newline₀ i₀ newline i = gap from false (drop from text) ≡ gap i newline (drop i text)
 
 abbrev μ-loop : tie.MeasureT-loop
-μ-loop text from line₀ i₀ line i = length text - i
+μ-loop text from newline₀ i₀ newline i = length text - i
 
 loop-holds : tie.Need-loop-holds Inv-loop μ-loop
 loop-holds c = refl
@@ -69,7 +69,7 @@ enum-told c = search needs
 returns-2 : tie.Need-returns-2 Inv-loop μ-loop
 returns-2 c =
     let l = c .before .before .before .before .before .before .before .before .before .before in
-    sym (l .loop .inv ∙ gap-no-comment _ _ _ _ (c .before .before .comment-at .ensures .0 (l .loop .line)) (c .enum-told .given .1))
+    sym (l .loop .inv ∙ gap-no-comment _ _ _ _ (c .before .before .comment-at .ensures .0 (l .loop .newline)) (c .enum-told .given .1))
 
 enum-known-comment : tie.Need-enum-known-comment Inv-loop μ-loop
 enum-known-comment c = search needs
@@ -82,7 +82,7 @@ loop-less-3 c =
 loop-again-3 : tie.Need-loop-again-3 Inv-loop μ-loop
 loop-again-3 c =
     let l = c .before .before .before .before .before .before .before .before .before .before .before .before in
-    let known = c .before .before .before .before .comment-at .ensures .0 (l .loop .line) in
+    let known = c .before .before .before .before .comment-at .ensures .0 (l .loop .newline) in
     rw (c .if4 .taken) (rw (c .if4 .taken) at (l .loop .inv ∙ gap-comment _ _ _ _ known _ _ (c .before .before .comment .given .1)))
 
 loop-less-4 : tie.Need-loop-less-4 Inv-loop μ-loop
@@ -93,7 +93,7 @@ loop-less-4 c =
 loop-again-4 : tie.Need-loop-again-4 Inv-loop μ-loop
 loop-again-4 c =
     let l = c .before .before .before .before .before .before .before .before .before .before .before .before in
-    let known = c .before .before .before .before .comment-at .ensures .0 (l .loop .line) in
+    let known = c .before .before .before .before .comment-at .ensures .0 (l .loop .newline) in
     rw (c .if4 .left) at (l .loop .inv ∙ gap-comment _ _ _ _ known _ _ (c .before .before .comment .given .1))
 
 enum-known-comment-2 : tie.Need-enum-known-comment-2 Inv-loop μ-loop
@@ -102,7 +102,7 @@ enum-known-comment-2 c = search needs
 returns-3 : tie.Need-returns-3 Inv-loop μ-loop
 returns-3 c =
     let l = c .before .before .before .before .before .before .before .before .before .before .before in
-    let known = c .before .before .before .comment-at .ensures .0 (l .loop .line) in
+    let known = c .before .before .before .comment-at .ensures .0 (l .loop .newline) in
     sym (l .loop .inv ∙ gap-fault _ _ _ _ known _ _ (c .before .comment2 .given .1))
 
 returns-4 : tie.Need-returns-4 Inv-loop μ-loop

@@ -7,12 +7,12 @@ use mathlib.Core.Bool.{Bool, or-false}
 use Prim.Native.Nat.{_+_, _-_, _≤_}
 use lib.ListN.{length, drop}
 use Rattle.gaps.specs.Gaps.{inLine}
-use Rattle.gaps.proofs.GapLaws.{gap-past, line-past, line-ends, line-stray, line-more}
+use Rattle.gaps.proofs.GapLaws.{gap-past, newline-past, line-ends, newline-stray, newline-more}
 use Rattle.gaps.proofs.line_comment.Statement.{statement}
 use Rattle.gaps.proofs.line_comment.Tie as tie
 
 abbrev Inv-loop : tie.InvT-loop
-Inv-loop text slash i₀ i = (slash + 2 ≤ i) × ((line : Bool) → inLine (slash + 2) line (drop (slash + 2) text) ≡ inLine i line (drop i text))
+Inv-loop text slash i₀ i = (slash + 2 ≤ i) × ((newline : Bool) → inLine (slash + 2) newline (drop (slash + 2) text) ≡ inLine i newline (drop i text))
 
 abbrev μ-loop : tie.MeasureT-loop
 μ-loop text slash i₀ i = length text - i
@@ -21,7 +21,7 @@ add-i : tie.Need-add-i Inv-loop μ-loop
 add-i c = search needs
 
 loop-holds : tie.Need-loop-holds Inv-loop μ-loop
-loop-holds c = (omega arith, λ line. refl)
+loop-holds c = (omega arith, λ newline. refl)
 
 shared-slice-read-b : tie.Need-shared-slice-read-b Inv-loop μ-loop
 shared-slice-read-b c = search needs
@@ -32,12 +32,12 @@ inside-requires c κs = search needs
 returns : tie.Need-returns Inv-loop μ-loop
 returns c =
     let l = c .before .before .before .before in
-    (λ line. rw (or-false line) (l .loop .inv .1 line ∙ line-ends _ _ line (omega arith) (omega arith)), l .loop .inv .0)
+    (λ newline. rw (or-false newline) (l .loop .inv .1 newline ∙ line-ends _ _ newline (omega arith) (omega arith)), l .loop .inv .0)
 
 returns-2 : tie.Need-returns-2 Inv-loop μ-loop
 returns-2 c =
     let l = c .before .before .before .before .before in
-    (λ line. l .loop .inv .1 line ∙ line-stray _ _ line (omega arith) (omega arith), tt)
+    (λ newline. l .loop .inv .1 newline ∙ newline-stray _ _ newline (omega arith) (omega arith), tt)
 
 add-i-2 : tie.Need-add-i-2 Inv-loop μ-loop
 add-i-2 c = search needs
@@ -48,12 +48,12 @@ loop-less c = search needs
 loop-again : tie.Need-loop-again Inv-loop μ-loop
 loop-again c =
     let l = c .before .before .before .before .before in
-    (omega arith, λ line. l .loop .inv .1 line ∙ line-more _ _ line (omega arith) (omega arith) (omega arith))
+    (omega arith, λ newline. l .loop .inv .1 newline ∙ newline-more _ _ newline (omega arith) (omega arith) (omega arith))
 
 returns-3 : tie.Need-returns-3 Inv-loop μ-loop
 returns-3 c =
     let past = c .loop-test .left in (
-      λ line. rw (or-false line) (c .before .loop .inv .1 line ∙ line-past _ _ line past ∙ sym (gap-past _ _ line past)),
+      λ newline. rw (or-false newline) (c .before .loop .inv .1 newline ∙ newline-past _ _ newline past ∙ sym (gap-past _ _ newline past)),
       c .before .loop .inv .0,
     )
 

@@ -5,10 +5,10 @@ use mathlib.Core.Path.{_≡_, refl, _∙_}
 use native.Mathlib.Omega.{arith}
 use borrow.Author.Needs.{needs}
 use lib.ListN.{length}
-use Rattle.controls.specs.Numbers.{controlOf}
-use Rattle.parts.specs.Parts.{part, countOf}
+use Rattle.controls.specs.Machinery.Numbers.{controlOf}
+use Rattle.segments.specs.Machinery.Segments.{segment, countOf}
 use Rattle.levels.proofs.RunLaws.{Underway, starts-underway, ready-at-end, end-settled}
-use Rattle.levels.proofs.StepLaws.{Turn, fails, may-affect, affected, may-enter, entered, class-small, may-open, inner-dies, may-close, closed, may-end, ends, dies, open-any, may-run, fewer-inside, as-inside, begins-inside, statements-start, begins-scope, body-scope, body-inside, block-inside, ran-as}
+use Rattle.levels.proofs.StepLaws.{Arrival, fails, may-affect, affected, may-enter, entered, class-small, may-open, inner-dies, may-close, closed, may-end, ends, dies, open-any, may-run, fewer-inside, as-inside, begins-inside, statements-start, begins-scope, body-scope, body-inside, block-inside, ran-as}
 use borrow.Fn.Kinds.{In}
 use borrow.Fn.PlainCycle.{Measures, is, falls, and}
 use Rattle.levels.proofs.expression.Reads as expression
@@ -36,12 +36,12 @@ use Rattle.frames.proofs.empty.Reads as empty-reads
 use Rattle.frames.proofs.ended.Reads as ended-reads
 use Rattle.frames.proofs.entered.Reads as entered-reads
 use Rattle.frames.proofs.ready.Reads as ready-reads
-use Rattle.parts.proofs.class_at.Reads as class-at-reads
-use Rattle.parts.proofs.closer_at.Reads as closer-at-reads
-use Rattle.parts.proofs.inside.Reads as inside-reads
-use Rattle.parts.proofs.line_at.Reads as line-at-reads
-use Rattle.parts.proofs.place_at.Reads as place-at-reads
-use Rattle.parts.proofs.size_at.Reads as size-at-reads
+use Rattle.segments.proofs.class_at.Reads as class-at-reads
+use Rattle.segments.proofs.closer_at.Reads as closer-at-reads
+use Rattle.segments.proofs.inside.Reads as inside-reads
+use Rattle.segments.proofs.newline_at.Reads as newline-at-reads
+use Rattle.segments.proofs.place_at.Reads as place-at-reads
+use Rattle.segments.proofs.size_at.Reads as size-at-reads
 use Rattle.levels.proofs.+expression+function+group+level+statements.{statement}
 use Rattle.levels.proofs.+expression+function+group+level+statements.Tie.{close}
 
@@ -105,7 +105,7 @@ abbrev group-claims : ℕ → group-lts.Claims
 group-claims t = (inside-reads.Asked, inside-reads.Learnt, closer-at-reads.Asked, closer-at-reads.Learnt, statements-below t, statements.Post, function-below t, function.Post, expression-below t, expression.Post)
 
 abbrev level-claims : ℕ → level-lts.Claims
-level-claims t = (empty-reads.Asked, empty-reads.Learnt, class-at-reads.Asked, class-at-reads.Learnt, line-at-reads.Asked, line-at-reads.Learnt, ready-reads.Asked, ready-reads.Learnt, row-reads.Asked, row-reads.Learnt, place-at-reads.Asked, place-at-reads.Learnt, affect-reads.Asked, affect-reads.Learnt, entered-reads.Asked, entered-reads.Learnt, group-below t, group.Post, close-reads.Asked, close-reads.Learnt, size-at-reads.Asked, size-at-reads.Learnt, ends-reads.Asked, ends-reads.Learnt, ended-reads.Asked, ended-reads.Learnt)
+level-claims t = (empty-reads.Asked, empty-reads.Learnt, class-at-reads.Asked, class-at-reads.Learnt, newline-at-reads.Asked, newline-at-reads.Learnt, ready-reads.Asked, ready-reads.Learnt, row-reads.Asked, row-reads.Learnt, place-at-reads.Asked, place-at-reads.Learnt, affect-reads.Asked, affect-reads.Learnt, entered-reads.Asked, entered-reads.Learnt, group-below t, group.Post, close-reads.Asked, close-reads.Learnt, size-at-reads.Asked, size-at-reads.Learnt, ends-reads.Asked, ends-reads.Learnt, ended-reads.Asked, ended-reads.Learnt)
 
 abbrev statements-claims : ℕ → statements-lts.Claims
 statements-claims t = (stand-reads.Asked, stand-reads.Learnt, level-below t, level.Post)
@@ -190,24 +190,24 @@ group-returns-3 t c = as-inside ((c .before .before .before .before .before .bef
 abbrev level-Inv-loop : level-lts.InvT-loop
 level-Inv-loop text trees base close closer waiting₀ top syntax₀ count number control₀ l₀ at₀ waiting syntax control l at =
     (length syntax ≡ length syntax₀) × (length waiting ≡ length waiting₀)
-    × Underway (part text trees base close) (controlOf control₀) count top syntax₀ waiting₀ (controlOf control) l at syntax waiting
+    × Underway (segment text trees base close) (controlOf control₀) count top syntax₀ waiting₀ (controlOf control) l at syntax waiting
 
 abbrev level-μ-loop : level-lts.MeasureT-loop
 level-μ-loop text trees base close closer waiting₀ top syntax₀ count number control₀ l₀ at₀ waiting syntax control l at = number - at
 
 -- a turn of the loop, up to its step
-turn : (t : ℕ) (c : level-lts.After-row (level-claims t) (level-at t) level.Post level-Inv-loop level-μ-loop) → Turn
-    (part (c .before .before .before .before .before .before .before .before .before .before .before .before .before .before .before .before .before .args .text .now) (c .before .before .before .before .before .before .before .before .before .before .before .before .before .before .before .before .before .args .trees .now) (c .before .before .before .before .before .before .before .before .before .before .before .before .before .before .before .before .before .args .base) (c .before .before .before .before .before .before .before .before .before .before .before .before .before .before .before .before .before .args .close))
-    (controlOf (c .before .before .before .before .before .before .before .before .before .before .before .before .before .before .before .before .before .args .from)) (c .before .before .before .before .before .before .before .before .before .before .before .before .before .before .before .before .before .args .count) (c .before .before .before .before .before .before .before .before .before .before .before .before .before .before .before .before .before .args .top) (c .before .before .before .before .before .before .before .before .before .before .before .before .before .before .before .before .before .args .syntax .now) (c .before .before .before .before .before .before .before .before .before .before .before .before .before .before .before .before .before .args .waiting .now)
-    (c .before .before .before .before .before .before .before .before .before .before .before .loop .control) (c .before .before .before .before .before .before .before .before .before .before .before .loop .l) (c .before .before .before .before .before .before .before .before .before .before .before .loop .at) (c .before .before .before .before .before .before .before .before .before .before .before .loop .syntax) (c .before .before .before .before .before .before .before .before .before .before .before .loop .waiting)
-    (c .before .before .before .before .before .before .before .before .before .class-at .result) (c .before .before .before .before .before .before .before .before .line-at .result) (c .before .before .before .before .before .ready .result) (c .before .before .before .before .before .ready .last .1 .1 .1 .1 .0) (c .row .result)
+turn : (t : ℕ) (c : level-lts.After-row (level-claims t) (level-at t) level.Post level-Inv-loop level-μ-loop) → Arrival
+    (segment (c .before .before .before .before .before .before .before .before .before .before .before .before .before .before .before .args .text .now) (c .before .before .before .before .before .before .before .before .before .before .before .before .before .before .before .args .trees .now) (c .before .before .before .before .before .before .before .before .before .before .before .before .before .before .before .args .base) (c .before .before .before .before .before .before .before .before .before .before .before .before .before .before .before .args .close))
+    (controlOf (c .before .before .before .before .before .before .before .before .before .before .before .before .before .before .before .args .from)) (c .before .before .before .before .before .before .before .before .before .before .before .before .before .before .before .args .count) (c .before .before .before .before .before .before .before .before .before .before .before .before .before .before .before .args .top) (c .before .before .before .before .before .before .before .before .before .before .before .before .before .before .before .args .syntax .now) (c .before .before .before .before .before .before .before .before .before .before .before .before .before .before .before .args .waiting .now)
+    (c .before .before .before .before .before .before .before .before .before .loop .control) (c .before .before .before .before .before .before .before .before .before .loop .l) (c .before .before .before .before .before .before .before .before .before .loop .at) (c .before .before .before .before .before .before .before .before .before .loop .syntax) (c .before .before .before .before .before .before .before .before .before .loop .waiting)
+    (c .before .before .before .before .before .before .before .class-at .result) (c .before .before .before .before .before .before .newline-at .result) (c .before .before .before .ready .result) (c .before .before .before .ready .last .1 .1 .1 .1 .0) (c .row .result)
 turn t c = record {
-  fine = c .before .before .before .before .before .before .before .before .before .before .before .before .before .before .before .before .before .pre .1 .0 .fine;
-  underway = c .before .before .before .before .before .before .before .before .before .before .before .loop .inv .2;
-  here = c .before .before .before .before .before .before .before .before .before .before .loop-test .taken;
-  is = c .before .before .before .before .before .before .before .before .before .class-at .ensures;
-  lined = c .before .before .before .before .before .before .before .before .line-at .ensures;
-  readies = c .before .before .before .before .before .ready .ensures;
+  fine = c .before .before .before .before .before .before .before .before .before .before .before .before .before .before .before .pre .1 .0 .fine;
+  underway = c .before .before .before .before .before .before .before .before .before .loop .inv .2;
+  here = c .before .before .before .before .before .before .before .before .loop-test .taken;
+  is = c .before .before .before .before .before .before .before .class-at .ensures;
+  lined = c .before .before .before .before .before .before .newline-at .ensures;
+  readies = c .before .before .before .ready .ensures;
   steps = c .row .ensures;
 }
 
@@ -220,8 +220,8 @@ level-loop-holds t c = (refl, refl, starts-underway ((c .before .before .before 
 level-class-at-requires : (t : ℕ) → level-lts.Need-class-at-requires (level-claims t) (level-at t) level.Post level-Inv-loop level-μ-loop
 level-class-at-requires t c κs = tt
 
-level-line-at-requires : (t : ℕ) → level-lts.Need-line-at-requires (level-claims t) (level-at t) level.Post level-Inv-loop level-μ-loop
-level-line-at-requires t c κs = tt
+level-newline-at-requires : (t : ℕ) → level-lts.Need-newline-at-requires (level-claims t) (level-at t) level.Post level-Inv-loop level-μ-loop
+level-newline-at-requires t c κs = tt
 
 level-ready-requires : (t : ℕ) → level-lts.Need-ready-requires (level-claims t) (level-at t) level.Post level-Inv-loop level-μ-loop
 level-ready-requires t c κs = search needs
@@ -236,10 +236,10 @@ level-place-at-requires : (t : ℕ) → level-lts.Need-place-at-requires (level-
 level-place-at-requires t c κs = tt
 
 level-same-length : (t : ℕ) → level-lts.Need-same-length (level-claims t) (level-at t) level.Post level-Inv-loop level-μ-loop
-level-same-length t c = c .before .before .before .before .before .before .before .before .before .before .before .before .before .before .loop .inv .1
+level-same-length t c = c .before .before .before .before .before .before .before .before .before .before .before .before .loop .inv .1
 
 level-same-length-2 : (t : ℕ) → level-lts.Need-same-length-2 (level-claims t) (level-at t) level.Post level-Inv-loop level-μ-loop
-level-same-length-2 t c = c .before .before .before .before .before .before .before .syntax .given ∙ c .before .before .before .before .before .before .before .before .before .before .before .before .before .before .loop .inv .0
+level-same-length-2 t c = c .before .before .before .before .before .syntax .given ∙ c .before .before .before .before .before .before .before .before .before .before .before .before .loop .inv .0
 
 level-returns : (t : ℕ) → level-lts.Need-returns (level-claims t) (level-at t) level.Post level-Inv-loop level-μ-loop
 level-returns t c = fails (turn t (c .before .before .before)) ((c .before .enum-told) .given .1) ((c .place-at) .ensures)
@@ -248,37 +248,37 @@ level-enum-known-step : (t : ℕ) → level-lts.Need-enum-known-step (level-clai
 level-enum-known-step t c = search needs
 
 level-add-affect : (t : ℕ) → level-lts.Need-add-affect (level-claims t) (level-at t) level.Post level-Inv-loop level-μ-loop
-level-add-affect t c = omega (arith, (c .before .before .before .before .before .before .before .before .before .before .before .before .before .loop-test) .taken, (c .before .before .before .before .before .before .before .before .before .before .before .before .before .before .before .before .before .before .before .before) .pre .1 .0 .fine .few)
+level-add-affect t c = omega (arith, (c .before .before .before .before .before .before .before .before .before .before .before .loop-test) .taken, (c .before .before .before .before .before .before .before .before .before .before .before .before .before .before .before .before .before .before) .pre .1 .0 .fine .few)
 
 level-affect-requires : (t : ℕ) → level-lts.Need-affect-requires (level-claims t) (level-at t) level.Post level-Inv-loop level-μ-loop
 level-affect-requires t c κs = may-affect (turn t (c .before .before .before .before .before)) ((c .before .before .before .step) .given .1)
 
 level-add-at : (t : ℕ) → level-lts.Need-add-at (level-claims t) (level-at t) level.Post level-Inv-loop level-μ-loop
-level-add-at t c = omega (arith, (c .before .before .before .before .before .before .before .before .before .before .before .before .before .before .before .before .before .before .before .before .loop-test) .taken, (c .before .before .before .before .before .before .before .before .before .before .before .before .before .before .before .before .before .before .before .before .before .before .before .before .before .before .before) .pre .1 .0 .fine .few)
+level-add-at t c = omega (arith, (c .before .before .before .before .before .before .before .before .before .before .before .before .before .before .before .before .before .before .loop-test) .taken, (c .before .before .before .before .before .before .before .before .before .before .before .before .before .before .before .before .before .before .before .before .before .before .before .before .before) .pre .1 .0 .fine .few)
 
 level-loop-less : (t : ℕ) → level-lts.Need-loop-less (level-claims t) (level-at t) level.Post level-Inv-loop level-μ-loop
 level-loop-less t c = search needs
 
 level-loop-again : (t : ℕ) → level-lts.Need-loop-again (level-claims t) (level-at t) level.Post level-Inv-loop level-μ-loop
-level-loop-again t c = ((c .before .syntax2) .given ∙ (c .before .before .before .before .before .before .before .before .before .before .before .before .before .before .syntax) .given ∙ (c .before .before .before .before .before .before .before .before .before .before .before .before .before .before .before .before .before .before .before .before .before .loop) .inv .0, (c .before .before .before .waiting) .given ∙ (c .before .before .before .before .before .before .before .before .before .before .before .before .before .before .before .before .before .before .before .before .before .loop) .inv .1, affected (turn t (c .before .before .before .before .before .before .before .before .before .before)) ((c .before .before .before .before .before .before .before .before .step) .given .1) ((c .before .before .before .before .affect) .ensures) ((c .before .before .before .waiting) .given))
+level-loop-again t c = ((c .before .syntax2) .given ∙ (c .before .before .before .before .before .before .before .before .before .before .before .before .syntax) .given ∙ (c .before .before .before .before .before .before .before .before .before .before .before .before .before .before .before .before .before .before .before .loop) .inv .0, (c .before .before .before .waiting) .given ∙ (c .before .before .before .before .before .before .before .before .before .before .before .before .before .before .before .before .before .before .before .loop) .inv .1, affected (turn t (c .before .before .before .before .before .before .before .before .before .before)) ((c .before .before .before .before .before .before .before .before .step) .given .1) ((c .before .before .before .before .affect) .ensures) ((c .before .before .before .waiting) .given))
 
 level-enum-known-step-2 : (t : ℕ) → level-lts.Need-enum-known-step-2 (level-claims t) (level-at t) level.Post level-Inv-loop level-μ-loop
 level-enum-known-step-2 t c = search needs
 
 level-add-entered : (t : ℕ) → level-lts.Need-add-entered (level-claims t) (level-at t) level.Post level-Inv-loop level-μ-loop
-level-add-entered t c = omega (arith, (c .before .before .before .before .before .before .before .before .before .before .before .before .before .loop-test) .taken, (c .before .before .before .before .before .before .before .before .before .before .before .before .before .before .before .before .before .before .before .before) .pre .1 .0 .fine .few)
+level-add-entered t c = omega (arith, (c .before .before .before .before .before .before .before .before .before .before .before .loop-test) .taken, (c .before .before .before .before .before .before .before .before .before .before .before .before .before .before .before .before .before .before) .pre .1 .0 .fine .few)
 
 level-entered-requires : (t : ℕ) → level-lts.Need-entered-requires (level-claims t) (level-at t) level.Post level-Inv-loop level-μ-loop
 level-entered-requires t c κs = may-enter (turn t (c .before .before .before .before .before)) ((c .before .before .before .step2) .given .1)
 
 level-add-at-2 : (t : ℕ) → level-lts.Need-add-at-2 (level-claims t) (level-at t) level.Post level-Inv-loop level-μ-loop
-level-add-at-2 t c = omega (arith, (c .before .before .before .before .before .before .before .before .before .before .before .before .before .before .before .before .before .before .loop-test) .taken, (c .before .before .before .before .before .before .before .before .before .before .before .before .before .before .before .before .before .before .before .before .before .before .before .before .before) .pre .1 .0 .fine .few)
+level-add-at-2 t c = omega (arith, (c .before .before .before .before .before .before .before .before .before .before .before .before .before .before .before .before .loop-test) .taken, (c .before .before .before .before .before .before .before .before .before .before .before .before .before .before .before .before .before .before .before .before .before .before .before) .pre .1 .0 .fine .few)
 
 level-loop-less-2 : (t : ℕ) → level-lts.Need-loop-less-2 (level-claims t) (level-at t) level.Post level-Inv-loop level-μ-loop
 level-loop-less-2 t c = search needs
 
 level-loop-again-2 : (t : ℕ) → level-lts.Need-loop-again-2 (level-claims t) (level-at t) level.Post level-Inv-loop level-μ-loop
-level-loop-again-2 t c = ((c .before .before .before .before .before .before .before .before .before .before .before .before .syntax) .given ∙ (c .before .before .before .before .before .before .before .before .before .before .before .before .before .before .before .before .before .before .before .loop) .inv .0, (c .before .waiting2) .given ∙ (c .before .before .before .before .before .before .before .before .before .before .before .before .before .before .before .before .before .before .before .loop) .inv .1, entered (turn t (c .before .before .before .before .before .before .before .before)) ((c .before .before .before .before .before .before .step2) .given .1) ((c .before .before .entered) .ensures) ((c .before .waiting2) .given))
+level-loop-again-2 t c = ((c .before .before .before .before .before .before .before .before .before .before .syntax) .given ∙ (c .before .before .before .before .before .before .before .before .before .before .before .before .before .before .before .before .before .loop) .inv .0, (c .before .waiting2) .given ∙ (c .before .before .before .before .before .before .before .before .before .before .before .before .before .before .before .before .before .loop) .inv .1, entered (turn t (c .before .before .before .before .before .before .before .before)) ((c .before .before .before .before .before .before .step2) .given .1) ((c .before .before .entered) .ensures) ((c .before .waiting2) .given))
 
 level-enum-known-step-3 : (t : ℕ) → level-lts.Need-enum-known-step-3 (level-claims t) (level-at t) level.Post level-Inv-loop level-μ-loop
 level-enum-known-step-3 t c = search needs
@@ -287,16 +287,16 @@ level-add-group : (t : ℕ) → level-lts.Need-add-group (level-claims t) (level
 level-add-group t c = omega (arith, class-small (turn t (c .before .before .before)) ((c .before .step3) .given .1))
 
 level-group-requires : (t : ℕ) → level-lts.Need-group-requires (level-claims t) (level-at t) level.Post level-Inv-loop level-μ-loop
-level-group-requires t c κs = (omega (arith, (c .before .before .before .before .before .before .before .before .before .before .before .before .before .before .before .before .before .before .before .before .before .before) .pre .0), open-any (may-open (turn t (c .before .before .before .before .before)) ((c .before .before .before .step3) .given .1) refl refl))
+level-group-requires t c κs = (omega (arith, (c .before .before .before .before .before .before .before .before .before .before .before .before .before .before .before .before .before .before .before .before) .pre .0), open-any (may-open (turn t (c .before .before .before .before .before)) ((c .before .before .before .step3) .given .1) refl refl))
 
 level-enum-known-inner : (t : ℕ) → level-lts.Need-enum-known-inner (level-claims t) (level-at t) level.Post level-Inv-loop level-μ-loop
 level-enum-known-inner t c = search needs
 
 level-same-length-3 : (t : ℕ) → level-lts.Need-same-length-3 (level-claims t) (level-at t) level.Post level-Inv-loop level-μ-loop
-level-same-length-3 t c = (c .before .before .before .before .before .before .waiting3) .given ∙ (c .before .before .before .before .before .before .before .before .before .before .before .before .before .before .before .before .before .before .before .before .before .before .before .before .loop) .inv .1
+level-same-length-3 t c = (c .before .before .before .before .before .before .waiting3) .given ∙ (c .before .before .before .before .before .before .before .before .before .before .before .before .before .before .before .before .before .before .before .before .before .before .loop) .inv .1
 
 level-same-length-4 : (t : ℕ) → level-lts.Need-same-length-4 (level-claims t) (level-at t) level.Post level-Inv-loop level-μ-loop
-level-same-length-4 t c = (c .before .before .before .before .syntax3) .given ∙ (c .before .before .before .before .before .before .before .before .before .before .before .before .before .before .before .before .before .syntax) .given ∙ (c .before .before .before .before .before .before .before .before .before .before .before .before .before .before .before .before .before .before .before .before .before .before .before .before .loop) .inv .0
+level-same-length-4 t c = (c .before .before .before .before .syntax3) .given ∙ (c .before .before .before .before .before .before .before .before .before .before .before .before .before .before .before .syntax) .given ∙ (c .before .before .before .before .before .before .before .before .before .before .before .before .before .before .before .before .before .before .before .before .before .before .loop) .inv .0
 
 level-returns-2 : (t : ℕ) → level-lts.Need-returns-2 (level-claims t) (level-at t) level.Post level-Inv-loop level-μ-loop
 level-returns-2 t c = inner-dies (turn t (c .before .before .before .before .before .before .before .before .before .before .before .before .before)) ((c .before .before .before .before .before .before .before .before .before .before .before .step3) .given .1) ((c .before .before .before .before .before .before .before .group) .ensures) ((c .before .inner) .given .1)
@@ -305,7 +305,7 @@ level-enum-known-inner-2 : (t : ℕ) → level-lts.Need-enum-known-inner-2 (leve
 level-enum-known-inner-2 t c = search needs
 
 level-add-close : (t : ℕ) → level-lts.Need-add-close (level-claims t) (level-at t) level.Post level-Inv-loop level-μ-loop
-level-add-close t c = omega (arith, (c .before .before .before .before .before .before .before .before .before .before .before .before .before .before .before .before .before .before .before .before .before .before .before .loop-test) .taken, (c .before .before .before .before .before .before .before .before .before .before .before .before .before .before .before .before .before .before .before .before .before .before .before .before .before .before .before .before .before .before) .pre .1 .0 .fine .few)
+level-add-close t c = omega (arith, (c .before .before .before .before .before .before .before .before .before .before .before .before .before .before .before .before .before .before .before .before .before .loop-test) .taken, (c .before .before .before .before .before .before .before .before .before .before .before .before .before .before .before .before .before .before .before .before .before .before .before .before .before .before .before .before) .pre .1 .0 .fine .few)
 
 level-close-requires : (t : ℕ) → level-lts.Need-close-requires (level-claims t) (level-at t) level.Post level-Inv-loop level-μ-loop
 level-close-requires t c κs = may-close (turn t (c .before .before .before .before .before .before .before .before .before .before .before .before .before .before .before)) ((c .before .before .before .before .before .before .before .before .before .before .before .before .before .step3) .given .1) ((c .before .before .before .before .before .before .before .before .before .group) .ensures) ((c .before .before .before .inner2) .given .1)
@@ -314,13 +314,13 @@ level-size-at-requires : (t : ℕ) → level-lts.Need-size-at-requires (level-cl
 level-size-at-requires t c κs = tt
 
 level-add-at-3 : (t : ℕ) → level-lts.Need-add-at-3 (level-claims t) (level-at t) level.Post level-Inv-loop level-μ-loop
-level-add-at-3 t c = omega (arith, (c .size-at) .ensures, (c .before .before .before .before .before .before .before .before .before .before .before .before .before .before .before .before .before .before .before .before .before .before .before .before .before .before .before .before .before .before .before .before .before .before .before .before .before .before) .pre .1 .0 .fine .at ((c .before .before .before .before .before .before .before .before .before .before .before .before .before .before .before .before .before .before .before .before .before .before .before .before .before .before .before .before .before .before .before .before .loop) .at) ((c .before .before .before .before .before .before .before .before .before .before .before .before .before .before .before .before .before .before .before .before .before .before .before .before .before .before .before .before .before .before .before .loop-test) .taken) .fits, (c .before .before .before .before .before .before .before .before .before .before .before .before .before .before .before .before .before .before .before .before .before .before .before .before .before .before .before .before .before .before .before .before .before .before .before .before .before .before) .pre .1 .0 .fine .few)
+level-add-at-3 t c = omega (arith, (c .size-at) .ensures, (c .before .before .before .before .before .before .before .before .before .before .before .before .before .before .before .before .before .before .before .before .before .before .before .before .before .before .before .before .before .before .before .before .before .before .before .before) .pre .1 .0 .fine .at ((c .before .before .before .before .before .before .before .before .before .before .before .before .before .before .before .before .before .before .before .before .before .before .before .before .before .before .before .before .before .before .loop) .at) ((c .before .before .before .before .before .before .before .before .before .before .before .before .before .before .before .before .before .before .before .before .before .before .before .before .before .before .before .before .before .loop-test) .taken) .fits, (c .before .before .before .before .before .before .before .before .before .before .before .before .before .before .before .before .before .before .before .before .before .before .before .before .before .before .before .before .before .before .before .before .before .before .before .before) .pre .1 .0 .fine .few)
 
 level-loop-less-3 : (t : ℕ) → level-lts.Need-loop-less-3 (level-claims t) (level-at t) level.Post level-Inv-loop level-μ-loop
-level-loop-less-3 t c = omega (arith, (c .before .before .before .before .before .before .before .before .before .before .before .before .before .before .before .before .before .before .before .before .before .before .before .before .before .before .before .before .before .before .before .loop-test) .taken, (c .size-at) .ensures, (c .before .before .before .before .before .before .before .before .before .before .before .before .before .before .before .before .before .before .before .before .before .before .before .before .before .before .before .before .before .before .before .before .before .before .before .before .before .before) .pre .1 .0 .fine .at ((c .before .before .before .before .before .before .before .before .before .before .before .before .before .before .before .before .before .before .before .before .before .before .before .before .before .before .before .before .before .before .before .before .loop) .at) ((c .before .before .before .before .before .before .before .before .before .before .before .before .before .before .before .before .before .before .before .before .before .before .before .before .before .before .before .before .before .before .before .loop-test) .taken) .some)
+level-loop-less-3 t c = omega (arith, (c .before .before .before .before .before .before .before .before .before .before .before .before .before .before .before .before .before .before .before .before .before .before .before .before .before .before .before .before .before .loop-test) .taken, (c .size-at) .ensures, (c .before .before .before .before .before .before .before .before .before .before .before .before .before .before .before .before .before .before .before .before .before .before .before .before .before .before .before .before .before .before .before .before .before .before .before .before) .pre .1 .0 .fine .at ((c .before .before .before .before .before .before .before .before .before .before .before .before .before .before .before .before .before .before .before .before .before .before .before .before .before .before .before .before .before .before .loop) .at) ((c .before .before .before .before .before .before .before .before .before .before .before .before .before .before .before .before .before .before .before .before .before .before .before .before .before .before .before .before .before .loop-test) .taken) .some)
 
 level-loop-again-3 : (t : ℕ) → level-lts.Need-loop-again-3 (level-claims t) (level-at t) level.Post level-Inv-loop level-μ-loop
-level-loop-again-3 t c = ((c .before .before .syntax4) .given ∙ (c .before .before .before .before .before .before .before .before .before .before .before .before .syntax3) .given ∙ (c .before .before .before .before .before .before .before .before .before .before .before .before .before .before .before .before .before .before .before .before .before .before .before .before .before .syntax) .given ∙ (c .before .before .before .before .before .before .before .before .before .before .before .before .before .before .before .before .before .before .before .before .before .before .before .before .before .before .before .before .before .before .before .before .loop) .inv .0, (c .before .before .before .before .waiting4) .given ∙ (c .before .before .before .before .before .before .before .before .before .before .before .before .before .before .waiting3) .given ∙ (c .before .before .before .before .before .before .before .before .before .before .before .before .before .before .before .before .before .before .before .before .before .before .before .before .before .before .before .before .before .before .before .before .loop) .inv .1, rw ((c .size-at) .ensures) (closed (turn t (c .before .before .before .before .before .before .before .before .before .before .before .before .before .before .before .before .before .before .before .before .before)) ((c .before .before .before .before .before .before .before .before .before .before .before .before .before .before .before .before .before .before .before .step3) .given .1) ((c .before .before .before .before .before .before .before .before .before .before .before .before .before .before .before .group) .ensures) ((c .before .before .before .before .before .before .before .before .before .inner2) .given .1) ((c .before .before .before .before .before .close) .ensures) ((c .before .before .before .before .waiting4) .given)))
+level-loop-again-3 t c = ((c .before .before .syntax4) .given ∙ (c .before .before .before .before .before .before .before .before .before .before .before .before .syntax3) .given ∙ (c .before .before .before .before .before .before .before .before .before .before .before .before .before .before .before .before .before .before .before .before .before .before .before .syntax) .given ∙ (c .before .before .before .before .before .before .before .before .before .before .before .before .before .before .before .before .before .before .before .before .before .before .before .before .before .before .before .before .before .before .loop) .inv .0, (c .before .before .before .before .waiting4) .given ∙ (c .before .before .before .before .before .before .before .before .before .before .before .before .before .before .waiting3) .given ∙ (c .before .before .before .before .before .before .before .before .before .before .before .before .before .before .before .before .before .before .before .before .before .before .before .before .before .before .before .before .before .before .loop) .inv .1, rw ((c .size-at) .ensures) (closed (turn t (c .before .before .before .before .before .before .before .before .before .before .before .before .before .before .before .before .before .before .before .before .before)) ((c .before .before .before .before .before .before .before .before .before .before .before .before .before .before .before .before .before .before .before .step3) .given .1) ((c .before .before .before .before .before .before .before .before .before .before .before .before .before .before .before .group) .ensures) ((c .before .before .before .before .before .before .before .before .before .inner2) .given .1) ((c .before .before .before .before .before .close) .ensures) ((c .before .before .before .before .waiting4) .given)))
 
 level-ready-requires-2 : (t : ℕ) → level-lts.Need-ready-requires-2 (level-claims t) (level-at t) level.Post level-Inv-loop level-μ-loop
 level-ready-requires-2 t c κs = search needs
@@ -329,7 +329,7 @@ level-ends-requires : (t : ℕ) → level-lts.Need-ends-requires (level-claims t
 level-ends-requires t c κs = tt
 
 level-ended-requires : (t : ℕ) → level-lts.Need-ended-requires (level-claims t) (level-at t) level.Post level-Inv-loop level-μ-loop
-level-ended-requires t c κs = may-end (ready-at-end ((c .before .before .before .before .before .before .before .before .before .before .before .before .loop) .inv .2) ((c .before .before .before .before .before .before .before .before .before .before .before .loop-test) .left) ((c .before .before .before .before .before .before .before .before .before .before .before .before .before .before .before .before .before .before) .args .closer) ((c .before .before .before .before .before .before .before .before .ready2) .ensures))
+level-ended-requires t c κs = may-end (ready-at-end ((c .before .before .before .before .before .before .before .before .before .before .loop) .inv .2) ((c .before .before .before .before .before .before .before .before .before .loop-test) .left) ((c .before .before .before .before .before .before .before .before .before .before .before .before .before .before .before .before) .args .closer) ((c .before .before .before .before .before .before .ready2) .ensures))
 
 level-same-length-5 : (t : ℕ) → level-lts.Need-same-length-5 (level-claims t) (level-at t) level.Post level-Inv-loop level-μ-loop
 level-same-length-5 t c = search needs
@@ -338,16 +338,16 @@ level-same-length-6 : (t : ℕ) → level-lts.Need-same-length-6 (level-claims t
 level-same-length-6 t c = search needs
 
 level-returns-3 : (t : ℕ) → level-lts.Need-returns-3 (level-claims t) (level-at t) level.Post level-Inv-loop level-μ-loop
-level-returns-3 t c = ends (ready-at-end ((c .before .before .before .before .before .before .before .before .before .before .before .before .before .before .before .loop) .inv .2) ((c .before .before .before .before .before .before .before .before .before .before .before .before .before .before .loop-test) .left) ((c .before .before .before .before .before .before .before .before .before .before .before .before .before .before .before .before .before .before .before .before .before) .args .closer) ((c .before .before .before .before .before .before .before .before .before .before .before .ready2) .ensures)) ((c .before .before .before .before .before .before .before .ends) .ensures (end-settled ((c .before .before .before .before .before .before .before .before .before .before .before .before .before .before .before .loop) .inv .2) ((c .before .before .before .before .before .before .before .before .before .before .before .before .before .before .before .before .before .before .before .before .before) .args .closer) ((c .before .before .before .before .before .before .before .before .before .before .before .ready2) .ensures)) ((c .before .before .before .before .before .before .before .before .before .before .before .before .before .before .before .before .before .before .before .before .before) .pre .1 .0 .closes)) ((c .before .before .before .before .before .before .if1) .taken) ((c .before .before .ended) .ensures)
+level-returns-3 t c = ends (ready-at-end ((c .before .before .before .before .before .before .before .before .before .before .before .before .before .loop) .inv .2) ((c .before .before .before .before .before .before .before .before .before .before .before .before .loop-test) .left) ((c .before .before .before .before .before .before .before .before .before .before .before .before .before .before .before .before .before .before .before) .args .closer) ((c .before .before .before .before .before .before .before .before .before .ready2) .ensures)) ((c .before .before .before .before .before .before .ends) .ensures (end-settled ((c .before .before .before .before .before .before .before .before .before .before .before .before .before .loop) .inv .2) ((c .before .before .before .before .before .before .before .before .before .before .before .before .before .before .before .before .before .before .before) .args .closer) ((c .before .before .before .before .before .before .before .before .before .ready2) .ensures)) ((c .before .before .before .before .before .before .before .before .before .before .before .before .before .before .before .before .before .before .before) .pre .1 .0 .closes)) ((c .before .before .before .before .before .if1) .taken) ((c .before .before .ended) .ensures)
 
 level-same-length-7 : (t : ℕ) → level-lts.Need-same-length-7 (level-claims t) (level-at t) level.Post level-Inv-loop level-μ-loop
-level-same-length-7 t c = c .before .before .before .before .before .before .before .before .before .loop .inv .1
+level-same-length-7 t c = c .before .before .before .before .before .before .before .before .loop .inv .1
 
 level-same-length-8 : (t : ℕ) → level-lts.Need-same-length-8 (level-claims t) (level-at t) level.Post level-Inv-loop level-μ-loop
-level-same-length-8 t c = c .before .before .before .before .syntax5 .given ∙ c .before .before .before .before .before .before .before .before .before .loop .inv .0
+level-same-length-8 t c = c .before .before .before .syntax5 .given ∙ c .before .before .before .before .before .before .before .before .loop .inv .0
 
 level-returns-4 : (t : ℕ) → level-lts.Need-returns-4 (level-claims t) (level-at t) level.Post level-Inv-loop level-μ-loop
-level-returns-4 t c = dies (ready-at-end ((c .before .before .before .before .before .before .before .before .before .loop) .inv .2) ((c .before .before .before .before .before .before .before .before .loop-test) .left) ((c .before .before .before .before .before .before .before .before .before .before .before .before .before .before .before) .args .closer) ((c .before .before .before .before .before .ready2) .ensures)) ((c .before .ends) .ensures (end-settled ((c .before .before .before .before .before .before .before .before .before .loop) .inv .2) ((c .before .before .before .before .before .before .before .before .before .before .before .before .before .before .before) .args .closer) ((c .before .before .before .before .before .ready2) .ensures)) ((c .before .before .before .before .before .before .before .before .before .before .before .before .before .before .before) .pre .1 .0 .closes)) ((c .if1) .left)
+level-returns-4 t c = dies (ready-at-end ((c .before .before .before .before .before .before .before .before .loop) .inv .2) ((c .before .before .before .before .before .before .before .loop-test) .left) ((c .before .before .before .before .before .before .before .before .before .before .before .before .before .before) .args .closer) ((c .before .before .before .before .ready2) .ensures)) ((c .before .ends) .ensures (end-settled ((c .before .before .before .before .before .before .before .before .loop) .inv .2) ((c .before .before .before .before .before .before .before .before .before .before .before .before .before .before) .args .closer) ((c .before .before .before .before .ready2) .ensures)) ((c .before .before .before .before .before .before .before .before .before .before .before .before .before .before) .pre .1 .0 .closes)) ((c .if1) .left)
 
 statements-stand-requires : (t : ℕ) → statements-lts.Need-stand-requires (statements-claims t) (statements-at t) statements.Post
 statements-stand-requires t c κs = tt
@@ -422,8 +422,8 @@ pub +expression+function+group+level+statements-spec : {M : Type 1} → statemen
       empty-reads.Learnt,
       class-at-reads.Asked,
       class-at-reads.Learnt,
-      line-at-reads.Asked,
-      line-at-reads.Learnt,
+      newline-at-reads.Asked,
+      newline-at-reads.Learnt,
       ready-reads.Asked,
       ready-reads.Learnt,
       row-reads.Asked,
@@ -452,7 +452,7 @@ pub +expression+function+group+level+statements-spec : {M : Type 1} → statemen
     (level-empty-requires t)
     (level-loop-holds t)
     (level-class-at-requires t)
-    (level-line-at-requires t)
+    (level-newline-at-requires t)
     (level-ready-requires t)
     (level-row-requires t)
     (level-enum-told t)

@@ -1,75 +1,34 @@
--- What is read is listed.
+-- What was read of the front is printed whole.
 use borrow.Author.Needs.{needs}
-use mathlib.Core.Path.{sym, _∙_}
+use native.Mathlib.Omega.{arith}
 use lib.ListN.{length}
-use Rattle.listing.specs.Listing.{listedReading, listing}
-use Rattle.listing.proofs.WritingLaws.{all-written}
-use Rattle.listing.proofs.ListingLaws.{accepted-fits, accepted-listing, refused-listing}
+use Rattle.reader.specs.Read.{readingFor}
+use Rattle.listing.proofs.ListingLaws.{trees-within, whole-printed}
 use Rattle.listing.proofs.list_trees.Statement.{statement}
 use Rattle.listing.proofs.list_trees.Tie as tie
 
-read-listed-requires : tie.Need-read-listed-requires
-read-listed-requires c κs = search needs
+front-requires : tie.Need-front-requires
+front-requires c κs = search needs
 
-enum-known-answer : tie.Need-enum-known-answer
-enum-known-answer c = search needs
+read-requires : tie.Need-read-requires
+read-requires c κs = search needs
 
-put-trees-requires : tie.Need-put-trees-requires
-put-trees-requires c κs =
-    let p = c .before .before .before .before .before .before .before in
-    let a = p .before .before .before .before .before .args in
-    let e = sym (c .before .before .before .answer .given .1) ∙ p .read-listed .ensures .0 in
-    let kept = c .before .before .before .before .before .before .trees .given in
-    accepted-fits (listedReading (a .text .now) (length (a .trees .now))) (a .trees .now) _ _ e (p .read-listed .ensures .1) kept
+slice-aggregate-put-answer : tie.Need-slice-aggregate-put-answer
+slice-aggregate-put-answer c = search needs
 
-enum-known-answer-2 : tie.Need-enum-known-answer-2
-enum-known-answer-2 c = search needs
-
-put-refused-requires : tie.Need-put-refused-requires
-put-refused-requires c κs = search needs
-
-same-length : tie.Need-same-length
-same-length c = search needs
-
-same-length-2 : tie.Need-same-length-2
-same-length-2 c = search needs
+put-answer-requires : tie.Need-put-answer-requires
+put-answer-requires c κs =
+    let r = c .before .before .before .before .read .ensures in
+    let t = c .before .before .before .before .before .before .before .before .args .trees .now in
+    trees-within (readingFor _ (length t)) _ t _ (r .0) (r .1)
 
 returns : tie.Need-returns
 returns c =
-    let p = c .before .before .before .before .before .before .before .before .before .before in
-    let a = p .before .before .before .before .before .args in
-    let e = sym (c .before .before .before .before .before .before .answer .given .1) ∙ p .read-listed .ensures .0 in
-    let l = accepted-listing (listedReading (a .text .now) (length (a .trees .now))) (a .trees .now) _ _ e (p .read-listed .ensures .1) in
-    let w = all-written (listing (a .text .now) (length (a .trees .now))) _ (a .output .now) _ _ l (c .before .before .put-trees .ensures) in
-    (w .0, (w .1, p .read-listed .ensures .1))
-
-same-length-3 : tie.Need-same-length-3
-same-length-3 c = search needs
-
-same-length-4 : tie.Need-same-length-4
-same-length-4 c = search needs
-
-returns-2 : tie.Need-returns-2
-returns-2 c =
-    let p = c .before .before .before .before .before .before .before .before .before in
-    let a = p .before .before .before .before .before .args in
-    let e = sym (c .before .before .before .before .before .answer2 .given .1) ∙ p .read-listed .ensures .0 in
-    let l = refused-listing (listedReading (a .text .now) (length (a .trees .now))) _ _ e in
-    let w = all-written (listing (a .text .now) (length (a .trees .now))) _ (a .output .now) _ _ l (c .before .before .put-refused .ensures) in
-    (w .0, (w .1, p .read-listed .ensures .1))
+    let a = c .before .before .before .before .before .before .before .before .before .args in
+    let r = c .before .before .before .before .before .read .ensures in
+    whole-printed (a .input .now) (a .count) _ (c .before .before .before .before .before .before .before .front .ensures) (a .output .now) _ _ _ (a .trees .now) _ (omega arith) (r .0) (r .1) (c .put-answer .ensures) (omega arith) (omega arith)
 
 pub list-trees-spec : {M : Type 1} → statement M
 list-trees-spec =
     tie.close
-    (tie.spec
-    read-listed-requires
-    enum-known-answer
-    put-trees-requires
-    enum-known-answer-2
-    put-refused-requires
-    same-length
-    same-length-2
-    returns
-    same-length-3
-    same-length-4
-    returns-2)
+    (tie.spec front-requires read-requires slice-aggregate-put-answer put-answer-requires returns)

@@ -1,5 +1,6 @@
 -- A reading that is refused answers; one that is accepted is judged over the records in front of the table.
 use borrow.Author.Needs.{needs}
+use Rattle.answers.proofs.AnswerLaws.{same-tells}
 use Rattle.parser.proofs.parse.Statement.{statement}
 use Rattle.parser.proofs.parse.Tie as tie
 use mathlib.Core.Path.{ap, _∙_}
@@ -61,7 +62,9 @@ returns : tie.Need-returns
 returns c =
     let a = c .before .before .before .before .before .before .before .before .before .before .before .before .before .before .args in
     let r = not-read (a .text .now) (a .trees .now) (a .syntax .now) (c .before .before .before .before .before .before .before .before .before .read .ensures .0) (c .before .before .before .before .before .before .before .before .before .read .ensures .1) (c .before .before .before .before .before .read2 .given .1) in
-    answers-refused (a .text .now) (a .trees .now) (a .syntax .now) (r .0) (r .1) (c .before .before .clear .ensures)
+    let p =
+    answers-refused (a .text .now) (a .trees .now) (a .syntax .now) (r .0) (r .1) (c .before .before .clear .ensures) in
+    (p .0, p .1, p .2, same-tells (p .0))
 
 same-length-3 : tie.Need-same-length-3
 same-length-3 c = search needs
@@ -73,7 +76,9 @@ returns-2 : tie.Need-returns-2
 returns-2 c =
     let a = c .before .before .before .before .before .before .before .before .before .before .before .before .before .before .before .before .before .before .before .args in
     let d = read-done _ ((c .before .before .before .before .before .before .before .before .before .before .before .before .before .before .before .before .before .before .before .args) .trees .now) _ _ _ (c .before .before .before .before .before .before .before .before .before .before .before .before .before .before .read .ensures .0) (c .before .before .before .before .before .before .before .before .before .before .before .before .before .before .read .ensures .1) (c .before .before .before .before .before .before .before .before .before .before .read3 .given .1) in
-    judged-accepted (a .text .now) (a .trees .now) (a .syntax .now) d (c .before .before .before .before .before .program-of .ensures) (c .before .answer .given .1)
+    let p =
+    judged-accepted (a .text .now) (a .trees .now) (a .syntax .now) d (c .before .before .before .before .before .program-of .ensures) (c .before .answer .given .1) in
+    (p .0, p .1, p .2, same-tells (p .0))
 
 same-length-5 : tie.Need-same-length-5
 same-length-5 c = search needs
@@ -86,9 +91,11 @@ returns-3 c =
     let a = c .before .before .before .before .before .before .before .before .before .before .before .before .before .before .before .before .before .before .before .before .before .before .before .before .before .before .before .args in
     let d = read-done _ ((c .before .before .before .before .before .before .before .before .before .before .before .before .before .before .before .before .before .before .before .before .before .before .before .before .before .before .before .args) .trees .now) _ _ _ (c .before .before .before .before .before .before .before .before .before .before .before .before .before .before .before .before .before .before .before .before .before .before .read .ensures .0) (c .before .before .before .before .before .before .before .before .before .before .before .before .before .before .before .before .before .before .before .before .before .before .read .ensures .1) (c .before .before .before .before .before .before .before .before .before .before .before .before .before .before .before .before .before .before .read3 .given .1) in
     let e = judged-refused (a .text .now) (a .trees .now) (a .syntax .now) d (c .before .before .before .before .before .before .before .before .before .before .before .before .before .program-of .ensures) (c .before .before .before .before .before .before .before .before .before .answer2 .given .1) in
+    let p =
     answers-refused (a .text .now) (a .trees .now) (a .syntax .now) e
     (c .before .before .before .before .before .before .clear2 .ensures ∙ ap (λ n. replicate n 0) (c .before .before .before .before .before .before .before .before .before .before .before .before .before .before .before .before .before .before .before .before .before .trees .given))
-    (c .before .before .clear3 .ensures ∙ ap (λ n. replicate n 0) (c .before .before .before .before .before .before .before .before .before .before .before .before .syntax2 .given))
+    (c .before .before .clear3 .ensures ∙ ap (λ n. replicate n 0) (c .before .before .before .before .before .before .before .before .before .before .before .before .syntax2 .given)) in
+    (p .0, p .1, p .2, same-tells (p .0))
 
 pub parse-spec : {M : Type 1} → statement M
 parse-spec =

@@ -7,7 +7,7 @@ use Rattle.prefix.proofs.add_leaf.Tie as tie
 
 returns : tie.Need-returns
 returns c =
-    λ mark stack groups levels h. leaf-full mark stack (c .before .args .state) levels h (record { groups = groups; room = c .before .args .room }) (c .before .args .e) (c .if1 .taken)
+    λ tag stack groups levels h. leaf-full tag stack (c .before .args .state) levels h (record { groups = groups; room = c .before .args .room }) (c .before .args .e) (c .if1 .taken)
 
 after-leaf-requires : tie.Need-after-leaf-requires
 after-leaf-requires c κs = search needs
@@ -17,7 +17,7 @@ add-t7 c = search needs
 
 returns-2 : tie.Need-returns-2
 returns-2 c =
-    λ mark stack groups levels h. leaf-done mark stack (c .before .before .args .state) levels h (record { groups = groups; room = c .before .before .args .room }) (c .before .before .args .e) _ (c .after-leaf .ensures) (c .before .if1 .left)
+    λ tag stack groups levels h. leaf-done tag stack (c .before .before .args .state) levels h (record { groups = groups; room = c .before .before .args .room }) (c .before .before .args .e) _ (c .after-leaf .ensures) (c .before .if1 .left)
 
 pub add-leaf-spec : {M : Type 1} → statement M
 add-leaf-spec = tie.close (tie.spec returns after-leaf-requires add-t7 returns-2)

@@ -4,7 +4,7 @@ use mathlib.Core.Path.{sym, _∙_}
 use Prim.Native.Nat.{_/_}
 use lib.ListN.{length}
 use Rattle.prefix.specs.Reading.{Limits}
-use Rattle.prefix.proofs.StateLaws.{held-brace}
+use Rattle.prefix.proofs.StateLaws.{represented-brace}
 use Rattle.prefix.proofs.StepLaws.{step-leaf, step-parens, step-object, step-block, step-close}
 use borrow.Author.Needs.{needs}
 use Rattle.prefix.proofs.advance.Statement.{statement}
@@ -17,7 +17,7 @@ returns : tie.Need-returns
 returns c =
     let a = c .before .before .before .before .args in
     let limits : Limits = record { groups = length (a .stack .now) / 2; room = a .room } in
-    λ marks levels h m. rw (step-leaf limits levels (a .e) (c .before .if1 .taken)) (c .add-leaf .ensures marks _ (limits .groups) levels h)
+    λ tags levels h m. rw (step-leaf limits levels (a .e) (c .before .if1 .taken)) (c .add-leaf .ensures tags _ (limits .groups) levels h)
 
 open-group-requires : tie.Need-open-group-requires
 open-group-requires c κs = search needs
@@ -29,7 +29,7 @@ returns-2 : tie.Need-returns-2
 returns-2 c =
     let a = c .before .before .before .before .before .before .before .before .before .args in
     let limits : Limits = record { groups = length (a .stack .now) / 2; room = a .room } in
-    λ marks levels h m. rw (step-parens limits levels (a .e) (c .before .before .before .before .before .before .if1 .left) (c .before .before .before .before .if2 .taken)) (c .before .before .open-group .ensures marks levels h m)
+    λ tags levels h m. rw (step-parens limits levels (a .e) (c .before .before .before .before .before .before .if1 .left) (c .before .before .before .before .if2 .taken)) (c .before .before .open-group .ensures tags levels h m)
 
 brace-opens-requires : tie.Need-brace-opens-requires
 brace-opens-requires c κs = search needs
@@ -44,9 +44,9 @@ returns-3 : tie.Need-returns-3
 returns-3 c =
     let a = c .before .before .before .before .before .before .before .before .before .before .before .before .before .args in
     let limits : Limits = record { groups = length (a .stack .now) / 2; room = a .room } in
-    λ marks levels h m.
-    let brace = held-brace marks _ (a .state) levels h _ _ (sym (c .before .before .before .before .before .brace-opens .ensures) ∙ c .before .before .before .before .if4 .taken) in
-    rw (step-object limits levels (a .e) (c .before .before .before .before .before .before .before .before .before .before .if1 .left) (c .before .before .before .before .before .before .before .before .if2 .left) (c .before .before .before .before .before .before .if3 .taken) brace) (c .before .before .open-group2 .ensures marks levels h m)
+    λ tags levels h m.
+    let brace = represented-brace tags _ (a .state) levels h _ _ (sym (c .before .before .before .before .before .brace-opens .ensures) ∙ c .before .before .before .before .if4 .taken) in
+    rw (step-object limits levels (a .e) (c .before .before .before .before .before .before .before .before .before .before .if1 .left) (c .before .before .before .before .before .before .before .before .if2 .left) (c .before .before .before .before .before .before .if3 .taken) brace) (c .before .before .open-group2 .ensures tags levels h m)
 
 open-group-requires-3 : tie.Need-open-group-requires-3
 open-group-requires-3 c κs = search needs
@@ -58,9 +58,9 @@ returns-4 : tie.Need-returns-4
 returns-4 c =
     let a = c .before .before .before .before .before .before .before .before .before .before .before .before .before .args in
     let limits : Limits = record { groups = length (a .stack .now) / 2; room = a .room } in
-    λ marks levels h m.
-    let brace = held-brace marks _ (a .state) levels h _ _ (sym (c .before .before .before .before .before .brace-opens .ensures) ∙ c .before .before .before .before .if4 .left) in
-    rw (step-block limits levels (a .e) (c .before .before .before .before .before .before .before .before .before .before .if1 .left) (c .before .before .before .before .before .before .before .before .if2 .left) (c .before .before .before .before .before .before .if3 .taken) brace) (c .before .before .open-group3 .ensures marks levels h m)
+    λ tags levels h m.
+    let brace = represented-brace tags _ (a .state) levels h _ _ (sym (c .before .before .before .before .before .brace-opens .ensures) ∙ c .before .before .before .before .if4 .left) in
+    rw (step-block limits levels (a .e) (c .before .before .before .before .before .before .before .before .before .before .if1 .left) (c .before .before .before .before .before .before .before .before .if2 .left) (c .before .before .before .before .before .before .if3 .taken) brace) (c .before .before .open-group3 .ensures tags levels h m)
 
 close-group-requires : tie.Need-close-group-requires
 close-group-requires c κs = search needs
@@ -72,7 +72,7 @@ returns-5 : tie.Need-returns-5
 returns-5 c =
     let a = c .before .before .before .before .before .before .before .before .before .args in
     let limits : Limits = record { groups = length (a .stack .now) / 2; room = a .room } in
-    λ marks levels h m. rw (step-close limits levels (a .e) (c .before .before .before .before .before .before .if1 .left) (c .before .before .before .before .if2 .left) (c .before .before .if3 .left)) (c .close-group .ensures (limits .room) marks levels h)
+    λ tags levels h m. rw (step-close limits levels (a .e) (c .before .before .before .before .before .before .if1 .left) (c .before .before .before .before .if2 .left) (c .before .before .if3 .left)) (c .close-group .ensures (limits .room) tags levels h)
 
 pub advance-spec : {M : Type 1} → statement M
 advance-spec =

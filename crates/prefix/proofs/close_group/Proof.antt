@@ -8,16 +8,16 @@ use Rattle.prefix.proofs.close_group.Statement.{statement}
 use Rattle.prefix.proofs.close_group.Tie as tie
 
 returns : tie.Need-returns
-returns c = λ room marks levels h. close-none marks _ _ levels h room _ (c .if1 .taken)
+returns c = λ room tags levels h. close-none tags _ _ levels h room _ (c .if1 .taken)
 
 returns-2 : tie.Need-returns-2
-returns-2 c = λ room marks levels h. absurd (not-deeper marks _ _ levels h (c .if2 .taken))
+returns-2 c = λ room tags levels h. absurd (not-deeper tags _ _ levels h (c .if2 .taken))
 
 is-closed-by-requires : tie.Need-is-closed-by-requires
 is-closed-by-requires c κs = search needs
 
 returns-3 : tie.Need-returns-3
-returns-3 c = λ room marks levels h. close-other marks _ _ levels h room _ (c .before .before .before .before .if1 .left) (sym (c .before .is-closed-by .ensures) ∙ not-true _ (c .if3 .taken))
+returns-3 c = λ room tags levels h. close-other tags _ _ levels h room _ (c .before .before .before .before .if1 .left) (sym (c .before .is-closed-by .ensures) ∙ not-true _ (c .if3 .taken))
 
 sub-around : tie.Need-sub-around
 sub-around c = search needs
@@ -31,20 +31,20 @@ mul-around-2 c = search needs
 shared-slice-read-around : tie.Need-shared-slice-read-around
 shared-slice-read-around c = search needs
 
-sub-mark : tie.Need-sub-mark
-sub-mark c = search needs
+sub-tag : tie.Need-sub-tag
+sub-tag c = search needs
 
-mul-mark : tie.Need-mul-mark
-mul-mark c = search needs
+mul-tag : tie.Need-mul-tag
+mul-tag c = search needs
 
-add-mark : tie.Need-add-mark
-add-mark c = search needs
+add-tag : tie.Need-add-tag
+add-tag c = search needs
 
-mul-mark-2 : tie.Need-mul-mark-2
-mul-mark-2 c = search needs
+mul-tag-2 : tie.Need-mul-tag-2
+mul-tag-2 c = search needs
 
-shared-slice-read-mark : tie.Need-shared-slice-read-mark
-shared-slice-read-mark c = search needs
+shared-slice-read-tag : tie.Need-shared-slice-read-tag
+shared-slice-read-tag c = search needs
 
 after-group-requires : tie.Need-after-group-requires
 after-group-requires c κs = search needs
@@ -55,7 +55,7 @@ sub-t9 c = search needs
 returns-4 : tie.Need-returns-4
 returns-4 c =
     let t = c .before .before .before in
-    λ room marks levels h. close-done marks _ (c .before .before .before .before .before .before .before .before .before .args .state) levels h room _ (t .before .before .before .before .if1 .left) (sym (t .before .is-closed-by .ensures) ∙ not-false _ (t .if3 .left)) _ (c .after-group .ensures)
+    λ room tags levels h. close-done tags _ (c .before .before .before .before .before .before .before .before .before .args .state) levels h room _ (t .before .before .before .before .if1 .left) (sym (t .before .is-closed-by .ensures) ∙ not-false _ (t .if3 .left)) _ (c .after-group .ensures)
 
 pub close-group-spec : {M : Type 1} → statement M
 close-group-spec =
@@ -69,11 +69,11 @@ close-group-spec =
     mul-around
     mul-around-2
     shared-slice-read-around
-    sub-mark
-    mul-mark
-    add-mark
-    mul-mark-2
-    shared-slice-read-mark
+    sub-tag
+    mul-tag
+    add-tag
+    mul-tag-2
+    shared-slice-read-tag
     after-group-requires
     sub-t9
     returns-4)

@@ -9,10 +9,10 @@ use Rattle.prefix.proofs.open_group.Statement.{statement}
 use Rattle.prefix.proofs.open_group.Tie as tie
 
 returns : tie.Need-returns
-returns c = λ marks levels h m. open-deep marks _ _ levels h _ _ _ _ (c .if1 .taken)
+returns c = λ tags levels h m. open-deep tags _ _ levels h _ _ _ _ (c .if1 .taken)
 
 returns-2 : tie.Need-returns-2
-returns-2 c = λ marks levels h m. open-full marks _ _ levels h _ _ _ _ (c .before .if1 .left) (c .if2 .taken)
+returns-2 c = λ tags levels h m. open-full tags _ _ levels h _ _ _ _ (c .before .if1 .left) (c .if2 .taken)
 
 mul-stack : tie.Need-mul-stack
 mul-stack c = search needs
@@ -51,7 +51,7 @@ same-length : tie.Need-same-length
 same-length c = search needs
 
 returns-3 : tie.Need-returns-3
-returns-3 c = λ marks levels h m. open-done marks _ (c .before .before .args .state) levels h _ _ _ _ m (c .before .if1 .left) (c .if2 .left) refl
+returns-3 c = λ tags levels h m. open-done tags _ (c .before .before .args .state) levels h _ _ _ _ m (c .before .if1 .left) (c .if2 .left) refl
 
 pub open-group-spec : {M : Type 1} → statement M
 open-group-spec =

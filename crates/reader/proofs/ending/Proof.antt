@@ -29,27 +29,27 @@ shared-slice-read-index c = search needs
 cast-index : tie.Need-cast-index
 cast-index c =
     let h = c .before .before .pre .1 .holds in
-    omega (arith, index-small _ _ _ _ _ _ h (omega arith), h .some, h .room-fits, h .room-small, h .length-is, h .held .number-is)
+    omega (arith, index-small _ _ _ _ _ _ h (omega arith), h .some, h .room-fits, h .room-small, h .length-is, h .represented .records-is)
 
 mul-first : tie.Need-mul-first
 mul-first c =
     let h = c .before .before .pre .1 .holds in
-    omega (arith, index-small _ _ _ _ _ _ h (omega arith), h .some, h .room-fits, h .room-small, h .length-is, h .held .number-is)
+    omega (arith, index-small _ _ _ _ _ _ h (omega arith), h .some, h .room-fits, h .room-small, h .length-is, h .represented .records-is)
 
 add-first : tie.Need-add-first
 add-first c =
     let h = c .before .before .pre .1 .holds in
-    omega (arith, index-small _ _ _ _ _ _ h (omega arith), h .some, h .room-fits, h .room-small, h .length-is, h .held .number-is)
+    omega (arith, index-small _ _ _ _ _ _ h (omega arith), h .some, h .room-fits, h .room-small, h .length-is, h .represented .records-is)
 
 mul-first-2 : tie.Need-mul-first-2
 mul-first-2 c =
     let h = c .before .before .pre .1 .holds in
-    omega (arith, index-small _ _ _ _ _ _ h (omega arith), h .some, h .room-fits, h .room-small, h .length-is, h .held .number-is)
+    omega (arith, index-small _ _ _ _ _ _ h (omega arith), h .some, h .room-fits, h .room-small, h .length-is, h .represented .records-is)
 
 shared-slice-read-first : tie.Need-shared-slice-read-first
 shared-slice-read-first c =
     let h = c .before .before .before .pre .1 .holds in
-    omega (arith, index-small _ _ _ _ _ _ h (omega arith), h .some, h .room-fits, h .room-small, h .length-is, h .held .number-is)
+    omega (arith, index-small _ _ _ _ _ _ h (omega arith), h .some, h .room-fits, h .room-small, h .length-is, h .represented .records-is)
 
 cast-first : tie.Need-cast-first
 cast-first c =

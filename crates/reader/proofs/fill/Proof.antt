@@ -1,7 +1,7 @@
 -- What reading to the end comes to, with the answer at the text's end.
 use borrow.Author.Needs.{needs}
 use mathlib.Core.Path.{refl}
-use Rattle.reader.specs.Table.{recordIndex}
+use Rattle.storing.specs.Machinery.Table.{recordIndex}
 use Rattle.reader.proofs.ReadLaws.{ran-some, ran-answered, halted-answered, none-taken}
 use Rattle.reader.proofs.fill.Statement.{statement}
 use Rattle.reader.proofs.fill.Tie as tie
@@ -14,7 +14,7 @@ start-requires c κs = search needs
 
 read-on-requires : tie.Need-read-on-requires
 read-on-requires c κs =
-    (c .before .before .before .before .before .before .before .pre .0, λ n. record { room-is = c .before .before .before .room-for .ensures; stack-is = c .before .before .before .before .before .before .before .pre .1; held = c .start .ensures recordIndex _; first = refl })
+    (c .before .before .before .before .before .before .before .pre .0, λ n. record { room-is = c .before .before .before .room-for .ensures; stack-is = c .before .before .before .before .before .before .before .pre .1; represented = c .start .ensures recordIndex _; first = refl })
 
 enum-known-turn : tie.Need-enum-known-turn
 enum-known-turn c = search needs

@@ -1,5 +1,6 @@
 -- Length first; then what `fill` answers, with the table cleared where it is refused.
 use borrow.Author.Needs.{needs}
+use Rattle.answers.proofs.AnswerLaws.{same-tells}
 use mathlib.Core.Path.{sym, ap, _∙_}
 use lib.ListN.{length, replicate}
 use Rattle.reader.specs.Read.{readingFor}
@@ -17,7 +18,9 @@ same-length c = search needs
 returns : tie.Need-returns
 returns c =
     let a = c .before .before .before .before .before .before .before .args in
-    read-long (a .text .now) (a .trees .now) _ (c .before .before .before .before .if1 .taken) (c .before .before .clear .ensures)
+    let p =
+    read-long (a .text .now) (a .trees .now) _ (c .before .before .before .before .if1 .taken) (c .before .before .clear .ensures) in
+    (p .0, p .1, same-tells (p .0))
 
 slice-aggregate-fill : tie.Need-slice-aggregate-fill
 slice-aggregate-fill c = search needs
@@ -41,7 +44,9 @@ returns-2 : tie.Need-returns-2
 returns-2 c =
     let f = c .before .before .before .before .before .before .fill .ensures in
     let a = c .before .before .before .before .before .before .before .before .before .before .before .before .args in
-    read-accepted (readingFor (a .text .now) (length (a .trees .now))) (a .trees .now) _ _ (sym (c .before .answer .given .1) ∙ f .0) (f .1)
+    let p =
+    read-accepted (readingFor (a .text .now) (length (a .trees .now))) (a .trees .now) _ _ (sym (c .before .answer .given .1) ∙ f .0) (f .1) in
+    (p .0, p .1, same-tells (p .0))
 
 same-length-3 : tie.Need-same-length-3
 same-length-3 c = search needs
@@ -51,7 +56,9 @@ returns-3 c =
     let f = c .before .before .before .before .before .before .before .before .before .before .fill .ensures in
     let same = c .before .before .before .before .before .before .before .before .before .trees2 .given in
     let a = c .before .before .before .before .before .before .before .before .before .before .before .before .before .before .before .before .args in
-    read-refused (readingFor (a .text .now) (length (a .trees .now))) (a .trees .now) _ _ _ (sym (c .before .before .before .before .before .answer2 .given .1) ∙ f .0) (c .before .before .clear2 .ensures ∙ ap (λ n. replicate n 0) same)
+    let p =
+    read-refused (readingFor (a .text .now) (length (a .trees .now))) (a .trees .now) _ _ _ (sym (c .before .before .before .before .before .answer2 .given .1) ∙ f .0) (c .before .before .clear2 .ensures ∙ ap (λ n. replicate n 0) same) in
+    (p .0, p .1, same-tells (p .0))
 
 pub read-spec : {M : Type 1} → statement M
 read-spec =

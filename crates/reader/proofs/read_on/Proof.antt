@@ -8,7 +8,8 @@ use mathlib.Core.Path.{refl, sym, _∙_}
 use Prim.Native.Nat.{_-_}
 use lib.ListN.{length}
 use Rattle.elements.proofs.Bounds.{found-placed}
-use Rattle.reader.specs.Table.{recordIndex, openerPlace}
+use Rattle.storing.specs.Machinery.Table.{recordIndex}
+use Rattle.reader.specs.Machinery.Turns.{openerPlace}
 use Rattle.reader.proofs.ReadLaws.{start-at, at-end, at-fault, at-stop, at-more}
 use Rattle.reader.proofs.TurnLaws.{Loop, turn-end, turn-fault, turn-element}
 use Rattle.reader.proofs.read_on.Statement.{statement}
@@ -47,10 +48,10 @@ same-length-2 c = c .before .before .before .before .loop .inv .stack-length
 returns : tie.Need-returns Inv-loop μ-loop
 returns c =
     let loop = c .before .before .before .before .loop .inv in
-    let rule = c .before .before .before .slash-opens .ensures in
-    let end = sym (c .before .before .element-at .ensures) ∙ c .enum-told .given .1 in (
-      λ o levels held. turn-end _ _ _ _ _ _ _ _ (loop .first o) _ rule levels held end,
-      λ n. let at = loop .on n in at-end _ _ _ _ _ _ _ at _ (rule recordIndex _ (at .levels) (at .holds .held)) end,
+    let rule = c .before .before .before .slash-opens .ensures .1 in
+    let end = sym (c .before .before .element-at .ensures .0) ∙ c .enum-told .given .1 in (
+      λ o levels represented. turn-end _ _ _ _ _ _ _ _ (loop .first o) _ rule levels represented end,
+      λ n. let at = loop .on n in at-end _ _ _ _ _ _ _ at _ (rule recordIndex _ (at .levels) (at .holds .represented)) end,
     )
 
 enum-known-next : tie.Need-enum-known-next Inv-loop μ-loop
@@ -65,24 +66,24 @@ same-length-4 c = c .before .before .before .before .before .loop .inv .stack-le
 returns-2 : tie.Need-returns-2 Inv-loop μ-loop
 returns-2 c =
     let loop = c .before .before .before .before .before .loop .inv in
-    let rule = c .before .before .before .before .slash-opens .ensures in
-    let fault = sym (c .before .before .before .element-at .ensures) ∙ c .before .next .given .1 in (
-      λ o levels held. turn-fault _ _ _ _ _ _ _ _ (loop .first o) _ rule levels held _ _ fault,
-      λ n. let at = loop .on n in at-fault _ _ _ _ _ _ _ at _ (rule recordIndex _ (at .levels) (at .holds .held)) _ _ fault,
+    let rule = c .before .before .before .before .slash-opens .ensures .1 in
+    let fault = sym (c .before .before .before .element-at .ensures .0) ∙ c .before .next .given .1 in (
+      λ o levels represented. turn-fault _ _ _ _ _ _ _ _ (loop .first o) _ rule levels represented _ _ fault,
+      λ n. let at = loop .on n in at-fault _ _ _ _ _ _ _ at _ (rule recordIndex _ (at .levels) (at .holds .represented)) _ _ fault,
     )
 
 enum-known-next-2 : tie.Need-enum-known-next-2 Inv-loop μ-loop
 enum-known-next-2 c = search needs
 
-cast-mark : tie.Need-cast-mark Inv-loop μ-loop
-cast-mark c =
-    let placed = found-placed _ _ _ _ (sym (c .before .before .before .before .before .element-at .ensures) ∙ c .before .before .before .next2 .given .1) in
+cast-tag : tie.Need-cast-tag Inv-loop μ-loop
+cast-tag c =
+    let placed = found-placed _ _ _ _ (sym (c .before .before .before .before .before .element-at .ensures .0) ∙ c .before .before .before .next2 .given .1) in
     omega (arith, placed .some, placed .within, c .before .before .before .before .before .before .before .before .before .before .before .pre .0)
 
-cast-mark-2 : tie.Need-cast-mark-2 Inv-loop μ-loop
-cast-mark-2 c =
+cast-tag-2 : tie.Need-cast-tag-2 Inv-loop μ-loop
+cast-tag-2 c =
     let h = c .before .before .before .before .before .before .before .loop .inv .on (c .before .if1 .left) .holds in
-    omega (arith, h .some, h .room-small, h .held .number-is)
+    omega (arith, h .some, h .room-small, h .represented .records-is)
 
 advance-requires : tie.Need-advance-requires Inv-loop μ-loop
 advance-requires c κs = search needs
@@ -96,21 +97,21 @@ same-length-6 c = c .before .before .stack .given ∙ c .before .before .before 
 returns-3 : tie.Need-returns-3 Inv-loop μ-loop
 returns-3 c =
     let marked = ⊎-elim (λ w. w .2) (λ w. absurd (true≢false (sym (c .if2 .taken) ∙ w .0 .left))) (c .before .before .before .before .before .if1 .came) in (
-      λ o levels held.
-          turn-element _ _ _ _ _ _ _ _ (c .before .before .before .before .before .before .before .before .before .before .before .loop .inv .first o) _ (c .before .before .before .before .before .before .before .before .before .before .slash-opens .ensures) levels held _ _ _
-          (sym (c .before .before .before .before .before .before .before .before .before .element-at .ensures) ∙ c .before .before .before .before .before .before .before .next2 .given .1)
+      λ o levels represented.
+          turn-element _ _ _ _ _ _ _ _ (c .before .before .before .before .before .before .before .before .before .before .before .loop .inv .first o) _ (c .before .before .before .before .before .before .before .before .before .before .slash-opens .ensures .1) levels represented _ _ _
+          (sym (c .before .before .before .before .before .before .before .before .before .element-at .ensures .0) ∙ c .before .before .before .before .before .before .before .next2 .given .1)
           (λ now. c .before .before .before .advance .ensures openerPlace levels now marked),
       λ n. absurd (true≢false (sym (c .if2 .taken) ∙ n)),
     )
 
 store-requires : tie.Need-store-requires Inv-loop μ-loop
 store-requires c κs =
-    let placed = found-placed _ _ _ _ (sym (c .before .before .before .before .before .before .before .before .before .before .element-at .ensures) ∙ c .before .before .before .before .before .before .before .before .next2 .given .1) in
+    let placed = found-placed _ _ _ _ (sym (c .before .before .before .before .before .before .before .before .before .before .element-at .ensures .0) ∙ c .before .before .before .before .before .before .before .before .next2 .given .1) in
     let at = c .before .before .before .before .before .before .before .before .before .before .before .before .loop .inv .on (c .before .if2 .left) in
     let marked = ⊎-elim (λ w. absurd (true≢false (sym (w .0 .taken) ∙ c .before .if2 .left))) (λ w. w .2) (c .before .before .before .before .before .before .if1 .came) in (
       omega (arith, placed .within, c .before .before .before .before .before .before .before .before .before .before .before .before .before .before .before .before .pre .0),
       omega (arith, placed .some),
-      record { before = _; stack = _; after = _; room = _; levels = at .levels; to = _; holds = at .holds; follows = c .before .before .before .before .advance .ensures recordIndex (at .levels) (at .holds .held) (marked ∙ at .holds .held .number-is) },
+      record { before = _; stack = _; after = _; room = _; levels = at .levels; to = _; holds = at .holds; follows = c .before .before .before .before .advance .ensures recordIndex (at .levels) (at .holds .represented) (marked ∙ at .holds .represented .records-is) },
     )
 
 enum-known-stored : tie.Need-enum-known-stored Inv-loop μ-loop
@@ -118,7 +119,7 @@ enum-known-stored c = search needs
 
 loop-less : tie.Need-loop-less Inv-loop μ-loop
 loop-less c =
-    let placed = found-placed _ _ _ _ (sym (c .before .before .before .before .before .before .before .before .before .before .before .before .before .before .before .before .element-at .ensures) ∙ c .before .before .before .before .before .before .before .before .before .before .before .before .before .before .next2 .given .1) in
+    let placed = found-placed _ _ _ _ (sym (c .before .before .before .before .before .before .before .before .before .before .before .before .before .before .before .before .element-at .ensures .0) ∙ c .before .before .before .before .before .before .before .before .before .before .before .before .before .before .next2 .given .1) in
     omega (arith, placed .from, placed .some, placed .within)
 
 loop-again : tie.Need-loop-again Inv-loop μ-loop
@@ -127,14 +128,14 @@ loop-again c =
     let n = c .before .before .before .before .before .before .before .if2 .left in
     let at = loop .on n in
     let marked = ⊎-elim (λ w. absurd (true≢false (sym (w .0 .taken) ∙ c .before .before .before .before .before .before .before .if2 .left))) (λ w. w .2) (c .before .before .before .before .before .before .before .before .before .before .before .before .if1 .came) in
-    let follows = c .before .before .before .before .before .before .before .before .before .before .advance .ensures recordIndex (at .levels) (at .holds .held) (marked ∙ at .holds .held .number-is) in
+    let follows = c .before .before .before .before .before .before .before .before .before .before .advance .ensures recordIndex (at .levels) (at .holds .represented) (marked ∙ at .holds .represented .records-is) in
     record {
       length-is = c .before .before .before .before .trees .given ∙ loop .length-is;
       stack-length = c .before .before .before .before .before .before .before .before .before .stack .given ∙ loop .stack-length;
       first = λ o. absurd (true≢false (sym o ∙ n));
       on =
           λ n.
-          at-more _ _ _ _ _ _ _ at _ (c .before .before .before .before .before .before .before .before .before .before .before .before .before .before .before .before .before .slash-opens .ensures recordIndex _ (at .levels) (at .holds .held)) _ (sym (c .before .before .before .before .before .before .before .before .before .before .before .before .before .before .before .before .element-at .ensures) ∙ c .before .before .before .before .before .before .before .before .before .before .before .before .before .before .next2 .given .1) _ _ _
+          at-more _ _ _ _ _ _ _ at _ (c .before .before .before .before .before .before .before .before .before .before .before .before .before .before .before .before .before .slash-opens .ensures .1 recordIndex _ (at .levels) (at .holds .represented)) _ (sym (c .before .before .before .before .before .before .before .before .before .before .before .before .before .before .before .before .element-at .ensures .0) ∙ c .before .before .before .before .before .before .before .before .before .before .before .before .before .before .next2 .given .1) _ _ _
           (rw (c .before .stored .given .1) at (c .before .before .before .before .before .store .ensures _ _ _ _ (at .levels) _ (at .holds) (c .before .before .before .before .before .before .before .before .before .stack .given) (rw (at .holds .stack-is) at follows)));
     }
 
@@ -152,10 +153,10 @@ returns-4 c =
     let loop = c .before .before .before .before .before .before .before .before .before .before .before .before .before .before .before .before .before .before .loop .inv in
     let at = loop .on (c .before .before .before .before .before .before .before .if2 .left) in
     let marked = ⊎-elim (λ w. absurd (true≢false (sym (w .0 .taken) ∙ c .before .before .before .before .before .before .before .if2 .left))) (λ w. w .2) (c .before .before .before .before .before .before .before .before .before .before .before .before .if1 .came) in
-    let follows = c .before .before .before .before .before .before .before .before .before .before .advance .ensures recordIndex (at .levels) (at .holds .held) (marked ∙ at .holds .held .number-is) in (
+    let follows = c .before .before .before .before .before .before .before .before .before .before .advance .ensures recordIndex (at .levels) (at .holds .represented) (marked ∙ at .holds .represented .records-is) in (
       λ o. absurd (true≢false (sym o ∙ c .before .before .before .before .before .before .before .if2 .left)),
       λ n.
-          at-stop _ _ _ _ _ _ _ at _ (c .before .before .before .before .before .before .before .before .before .before .before .before .before .before .before .before .before .slash-opens .ensures recordIndex _ (at .levels) (at .holds .held)) _ (sym (c .before .before .before .before .before .before .before .before .before .before .before .before .before .before .before .before .element-at .ensures) ∙ c .before .before .before .before .before .before .before .before .before .before .before .before .before .before .next2 .given .1) _ _ _ _
+          at-stop _ _ _ _ _ _ _ at _ (c .before .before .before .before .before .before .before .before .before .before .before .before .before .before .before .before .before .slash-opens .ensures .1 recordIndex _ (at .levels) (at .holds .represented)) _ (sym (c .before .before .before .before .before .before .before .before .before .before .before .before .before .before .before .before .element-at .ensures .0) ∙ c .before .before .before .before .before .before .before .before .before .before .before .before .before .before .next2 .given .1) _ _ _ _
           (rw (c .before .stored2 .given .1) at (c .before .before .before .before .before .store .ensures _ _ _ _ (at .levels) _ (at .holds) (c .before .before .before .before .before .before .before .before .before .stack .given) (rw (at .holds .stack-is) at follows))),
     )
 
@@ -177,8 +178,8 @@ read-on-spec =
     same-length-4
     returns-2
     enum-known-next-2
-    cast-mark
-    cast-mark-2
+    cast-tag
+    cast-tag-2
     advance-requires
     same-length-5
     same-length-6

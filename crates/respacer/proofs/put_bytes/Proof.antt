@@ -5,8 +5,8 @@ use mathlib.Core.Path.{_≡_, refl, _∙_}
 use mathlib.Core.List.{List, _++_}
 use Prim.Native.Nat.{ℕ, _-_, _≤_, _+_}
 use lib.ListN.{length}
-use Rattle.elements.specs.Parts.{bytesOf}
-use Rattle.respacer.specs.Written.{over}
+use Rattle.elements.specs.Lexemes.{bytesOf}
+use Rattle.respacer.specs.Machinery.Written.{over}
 use Rattle.respacer.proofs.OverLaws.{bytes-start, bytes-step, bytes-place}
 use Rattle.respacer.proofs.put_bytes.Statement.{statement}
 use Rattle.respacer.proofs.put_bytes.Tie as tie

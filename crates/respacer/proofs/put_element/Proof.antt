@@ -5,7 +5,7 @@ use mathlib.Core.Path.{sym, _∙_}
 use mathlib.Core.List.{List, [], _∷_, _++_}
 use Prim.Native.Nat.{ℕ}
 use Rattle.respacer.specs.Respaced.{lineFeed, space}
-use Rattle.respacer.proofs.OverLaws.{byte-length, element-line, element-first, element-blank, element-put}
+use Rattle.respacer.proofs.OverLaws.{byte-length, element-newline, element-first, element-blank, element-put}
 use borrow.Author.Needs.{needs}
 use Rattle.respacer.proofs.put_element.Statement.{statement}
 use Rattle.respacer.proofs.put_element.Tie as tie
@@ -28,7 +28,7 @@ returns c =
       λ written old e o.
           let w : List ℕ = written ++ (lineFeed ∷ []) in
           let n = byte-length written lineFeed (a .at) _ e (b .0) in
-          element-put (a .text .now) (a .first) (a .end) (omega arith) (omega arith) w old _ _ _ n (p .0) (p .1 w old n (b .1 written old e o)) _ (rw (c .before .before .before .before .before .before .before .before .if1 .taken) (element-line (a .text .now) (a .first) (a .end) written)),
+          element-put (a .text .now) (a .first) (a .end) (omega arith) (omega arith) w old _ _ _ n (p .0) (p .1 w old n (b .1 written old e o)) _ (rw (c .before .before .before .before .before .before .before .before .if1 .taken) (element-newline (a .text .now) (a .first) (a .end) written)),
     )
 
 put-bytes-requires-2 : tie.Need-put-bytes-requires-2

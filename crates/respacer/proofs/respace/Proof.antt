@@ -1,5 +1,6 @@
 -- Length first; then what the whole text writes, with the output cleared where it is refused.
 use borrow.Author.Needs.{needs}
+use Rattle.answers.proofs.AnswerLaws.{same-tells}
 use native.Mathlib.Omega.{arith}
 use mathlib.Core.Path.{ap, _∙_}
 use lib.ListN.{replicate}
@@ -17,7 +18,9 @@ same-length c = search needs
 returns : tie.Need-returns
 returns c =
     let a = c .before .before .before .before .before .before .before .args in
-    respace-long (a .text .now) (a .output .now) _ (c .before .before .before .before .if1 .taken) (c .before .before .clear .ensures)
+    let p =
+    respace-long (a .text .now) (a .output .now) _ (c .before .before .before .before .if1 .taken) (c .before .before .clear .ensures) in
+    (p .0, p .1, same-tells (p .0))
 
 slice-aggregate-write-text : tie.Need-slice-aggregate-write-text
 slice-aggregate-write-text c = search needs
@@ -39,7 +42,9 @@ returns-2 c =
     let a = c .before .before .before .before .before .before .before .before .before .before .before .before .before .before .before .before .before .args in
     let t = rw (c .before .before .before .before .before .before .answer .given .1) at (c .before .before .before .before .before .before .before .before .before .before .before .write-text .ensures) in
     let same = c .before .before .before .before .before .before .before .before .before .before .output2 .given in
-    written-full (a .text .now) (a .output .now) _ _ _ t (omega arith) (c .before .before .clear2 .ensures ∙ ap (λ n. replicate n 0) same)
+    let p =
+    written-full (a .text .now) (a .output .now) _ _ _ t (omega arith) (c .before .before .clear2 .ensures ∙ ap (λ n. replicate n 0) same) in
+    (p .0, p .1, same-tells (p .0))
 
 enum-known-answer-2 : tie.Need-enum-known-answer-2
 enum-known-answer-2 c = search needs
@@ -55,7 +60,9 @@ returns-3 c =
     let a = c .before .before .before .before .before .before .before .before .before .before .before .before .before .args in
     let t = rw (c .before .before .answer .given .1) at (c .before .before .before .before .before .before .before .write-text .ensures) in
     let same = c .before .before .before .before .before .before .output2 .given in
-    written-fits (a .text .now) (a .output .now) _ _ t (omega arith)
+    let p =
+    written-fits (a .text .now) (a .output .now) _ _ t (omega arith) in
+    (p .0, p .1, same-tells (p .0))
 
 same-length-4 : tie.Need-same-length-4
 same-length-4 c = search needs
@@ -65,7 +72,9 @@ returns-4 c =
     let a = c .before .before .before .before .before .before .before .before .before .before .before .before .before .before .before .before .args in
     let t = rw (c .before .before .before .before .before .answer2 .given .1) at (c .before .before .before .before .before .before .before .before .before .before .write-text .ensures) in
     let same = c .before .before .before .before .before .before .before .before .before .output2 .given in
-    respace-denies (a .text .now) (a .output .now) _ _ _ _ t (c .before .before .clear3 .ensures ∙ ap (λ n. replicate n 0) same)
+    let p =
+    respace-denies (a .text .now) (a .output .now) _ _ _ _ t (c .before .before .clear3 .ensures ∙ ap (λ n. replicate n 0) same) in
+    (p .0, p .1, same-tells (p .0))
 
 pub respace-spec : {M : Type 1} → statement M
 respace-spec =

@@ -4,7 +4,7 @@ use native.Mathlib.Omega.{arith}
 use mathlib.Core.Path.{sym, _∙_}
 use Prim.Native.Nat.{_-_}
 use lib.ListN.{length}
-use Rattle.reader.specs.Table.{openerPlace}
+use Rattle.reader.specs.Machinery.Turns.{openerPlace}
 use Rattle.respacer.proofs.LoopLaws.{At, start-at, end-writes, end-told, fault-told, follows, placed, stop-told, more}
 use Rattle.respacer.proofs.write_text.Statement.{statement}
 use Rattle.respacer.proofs.write_text.Tie as tie
@@ -30,7 +30,7 @@ enum-told c = search needs
 write-end-requires : tie.Need-write-end-requires Inv-loop μ-loop
 write-end-requires c κs =
     let here = c .before .before .before .before .before .before .before .before .loop .inv in
-    (omega (arith, here .writes .few, here .inside, c .before .before .before .before .before .before .before .before .before .before .before .before .before .pre .0), omega (arith, here .writes .held .fits, c .before .before .before .before .before .stack .given))
+    (omega (arith, here .writes .few, here .inside, c .before .before .before .before .before .before .before .before .before .before .before .before .before .pre .0), omega (arith, here .writes .represented .fits, c .before .before .before .before .before .stack .given))
 
 same-length : tie.Need-same-length Inv-loop μ-loop
 same-length c = c .before .output .given ∙ c .before .before .before .before .before .before .before .before .before .before .before .loop .inv .writes .length-is
@@ -41,7 +41,7 @@ same-length-2 c = c .before .before .before .before .before .before .before .bef
 returns : tie.Need-returns Inv-loop μ-loop
 returns c =
     let here = c .before .before .before .before .before .before .before .before .before .before .before .loop .inv in
-    let turn = rw (c .before .before .before .before .before .enum-told .given .1) at (c .before .before .before .before .before .before .before .before .before .take-turn .ensures .0 (c .before .before .before .before .before .before .before .before .before .before .before .before .before .before .before .before .pre .0) (here .levels) (here .writes .held)) in
+    let turn = rw (c .before .before .before .before .before .enum-told .given .1) at (c .before .before .before .before .before .before .before .before .before .take-turn .ensures .0 (c .before .before .before .before .before .before .before .before .before .before .before .before .before .before .before .before .pre .0) (here .levels) (here .writes .represented)) in
     end-told _ _ _ _ _ _ _ here _ turn _ _ (c .before .before .write-end .ensures _ _ _ (here .levels) (end-writes _ _ _ _ _ _ _ here _ turn))
 
 enum-known-turn : tie.Need-enum-known-turn Inv-loop μ-loop
@@ -56,7 +56,7 @@ same-length-4 c = c .before .before .before .before .stack .given ∙ c .before 
 returns-2 : tie.Need-returns-2 Inv-loop μ-loop
 returns-2 c =
     let here = c .before .before .before .before .before .before .before .loop .inv in
-    fault-told _ _ _ _ _ _ _ here _ (rw (c .before .turn .given .1) at (c .before .before .before .before .before .take-turn .ensures .0 (c .before .before .before .before .before .before .before .before .before .before .before .before .pre .0) (here .levels) (here .writes .held))) _
+    fault-told _ _ _ _ _ _ _ here _ (rw (c .before .turn .given .1) at (c .before .before .before .before .before .take-turn .ensures .0 (c .before .before .before .before .before .before .before .before .before .before .before .before .pre .0) (here .levels) (here .writes .represented))) _
 
 enum-known-turn-2 : tie.Need-enum-known-turn-2 Inv-loop μ-loop
 enum-known-turn-2 c = search needs
@@ -64,7 +64,7 @@ enum-known-turn-2 c = search needs
 write-element-requires : tie.Need-write-element-requires Inv-loop μ-loop
 write-element-requires c κs =
     let here = c .before .before .before .before .before .before .before .before .loop .inv in
-    let turn = rw (c .before .before .turn2 .given .1) at (c .before .before .before .before .before .before .take-turn .ensures .0 (c .before .before .before .before .before .before .before .before .before .before .before .before .before .pre .0) (here .levels) (here .writes .held)) in
+    let turn = rw (c .before .before .turn2 .given .1) at (c .before .before .before .before .before .before .take-turn .ensures .0 (c .before .before .before .before .before .before .before .before .before .before .before .before .before .pre .0) (here .levels) (here .writes .represented)) in
     let there = placed _ _ _ _ _ _ _ here _ _ _ turn in (
       omega (arith, here .writes .few, here .inside, c .before .before .before .before .before .before .before .before .before .before .before .before .before .pre .0),
       there .some,
@@ -78,14 +78,14 @@ enum-known-wrote c = search needs
 loop-less : tie.Need-loop-less Inv-loop μ-loop
 loop-less c =
     let here = c .before .before .before .before .before .before .before .before .before .before .before .before .before .before .loop .inv in
-    let turn = rw (c .before .before .before .before .before .before .before .before .turn2 .given .1) at (c .before .before .before .before .before .before .before .before .before .before .before .before .take-turn .ensures .0 (c .before .before .before .before .before .before .before .before .before .before .before .before .before .before .before .before .before .before .before .pre .0) (here .levels) (here .writes .held)) in
+    let turn = rw (c .before .before .before .before .before .before .before .before .turn2 .given .1) at (c .before .before .before .before .before .before .before .before .before .before .before .before .take-turn .ensures .0 (c .before .before .before .before .before .before .before .before .before .before .before .before .before .before .before .before .before .before .before .pre .0) (here .levels) (here .writes .represented)) in
     let there = placed _ _ _ _ _ _ _ here _ _ _ turn in
     omega (arith, there .from, there .some, there .within)
 
 loop-again : tie.Need-loop-again Inv-loop μ-loop
 loop-again c =
     let here = c .before .before .before .before .before .before .before .before .before .before .before .before .before .before .loop .inv in
-    let turn = rw (c .before .before .before .before .before .before .before .before .turn2 .given .1) at (c .before .before .before .before .before .before .before .before .before .before .before .before .take-turn .ensures .0 (c .before .before .before .before .before .before .before .before .before .before .before .before .before .before .before .before .before .before .before .pre .0) (here .levels) (here .writes .held)) in
+    let turn = rw (c .before .before .before .before .before .before .before .before .turn2 .given .1) at (c .before .before .before .before .before .before .before .before .before .before .before .before .take-turn .ensures .0 (c .before .before .before .before .before .before .before .before .before .before .before .before .before .before .before .before .before .before .before .pre .0) (here .levels) (here .writes .represented)) in
     let there = placed _ _ _ _ _ _ _ here _ _ _ turn in
     more _ _ _ _ _ _ _ here _ _ _ turn _ _ _ _
     (rw (c .before .wrote .given .1) at (c .before .before .before .before .before .write-element .ensures _ _ _ _ _ (here .levels) _ (there .from) (c .before .before .before .before .before .before .before .before .before .before .before .stack .given) (here .writes) (follows _ _ _ _ _ _ _ here _ turn)))
@@ -102,7 +102,7 @@ same-length-6 c = c .before .before .before .before .before .before .before .bef
 returns-3 : tie.Need-returns-3 Inv-loop μ-loop
 returns-3 c =
     let here = c .before .before .before .before .before .before .before .before .before .before .before .before .before .before .loop .inv in
-    let turn = rw (c .before .before .before .before .before .before .before .before .turn2 .given .1) at (c .before .before .before .before .before .before .before .before .before .before .before .before .take-turn .ensures .0 (c .before .before .before .before .before .before .before .before .before .before .before .before .before .before .before .before .before .before .before .pre .0) (here .levels) (here .writes .held)) in
+    let turn = rw (c .before .before .before .before .before .before .before .before .turn2 .given .1) at (c .before .before .before .before .before .before .before .before .before .before .before .before .take-turn .ensures .0 (c .before .before .before .before .before .before .before .before .before .before .before .before .before .before .before .before .before .before .before .pre .0) (here .levels) (here .writes .represented)) in
     let there = placed _ _ _ _ _ _ _ here _ _ _ turn in
     stop-told _ _ _ _ _ _ _ here _ _ _ turn _ _ _ _
     (rw (c .before .wrote2 .given .1) at (c .before .before .before .before .before .write-element .ensures _ _ _ _ _ (here .levels) _ (there .from) (c .before .before .before .before .before .before .before .before .before .before .before .stack .given) (here .writes) (follows _ _ _ _ _ _ _ here _ turn)))

@@ -8,7 +8,7 @@ use mathlib.Core.List.{map}
 use Prim.Native.Nat.{_-_, _≤_, _+_}
 use lib.ListN.{drop}
 use Rattle.signs.specs.Signs.{longestSign, longestOf, signs}
-use Rattle.signs.specs.Rows.{row}
+use Rattle.signs.specs.Machinery.Rows.{row}
 use Rattle.signs.proofs.Table.{found, found-some, table-len, scan-taken, scan-other, scan-short, scan-end}
 use Rattle.signs.proofs.longest_in.Statement.{statement}
 use Rattle.signs.proofs.longest_in.Tie as tie

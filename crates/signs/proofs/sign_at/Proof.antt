@@ -2,7 +2,7 @@
 -- the table does.
 use borrow.Author.Needs.{needs}
 use native.Mathlib.Omega.{arith}
-use mathlib.Core.Path.{_≡_, refl, sym, _∙_}
+use mathlib.Core.Path.{_≡_, sym, _∙_}
 use mathlib.Core.Logic.{⊎-elim}
 use Prim.Native.Nat.{_+_}
 use native.Mathlib.Nat.{add-zero}
@@ -33,8 +33,8 @@ shared-slice-read-next c = search needs
 alone-requires : tie.Need-alone-requires
 alone-requires c κs = search needs
 
-longest-in-requires : tie.Need-longest-in-requires
-longest-in-requires c κs = (omega arith, refl)
+by-table-requires : tie.Need-by-table-requires
+by-table-requires c κs = search needs
 
 returns-2 : tie.Need-returns-2
 returns-2 c = search needs
@@ -63,6 +63,6 @@ sign-at-spec =
     add-next
     shared-slice-read-next
     alone-requires
-    longest-in-requires
+    by-table-requires
     returns-2
     returns-3)

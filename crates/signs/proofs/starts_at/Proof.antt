@@ -14,13 +14,13 @@ sub-if1 : tie.Need-sub-if1
 sub-if1 c = search needs
 
 returns : tie.Need-returns
-returns c = sym (starts-short _ _ _ (c .before .before .before .pre .0) (rw length-drop (c .if1 .taken)))
+returns c = sym (starts-short _ _ _ (c .before .before .pre .0) (rw length-drop (c .if1 .taken)))
 
 array-share-prefix-bytes : tie.Need-array-share-prefix-bytes
 array-share-prefix-bytes c = search needs
 
 slice-aggregate-equal : tie.Need-slice-aggregate-equal
-slice-aggregate-equal c = sym (length-take-le _ _ (c .before .before .before .before .pre .0))
+slice-aggregate-equal c = sym (length-take-le _ _ (c .before .before .before .pre .0))
 
 add-equal : tie.Need-add-equal
 add-equal c = search needs
@@ -39,10 +39,10 @@ equal-requires c κs = search needs
 
 returns-2 : tie.Need-returns-2
 returns-2 c =
-    let n = c .before .before .before .before .before .before .args .row .len in
-    let at = c .before .before .before .before .before .before .args .at in
+    let n = c .before .before .before .before .before .args .row .len in
+    let at = c .before .before .before .before .before .args .at in
     let e : at + n - at ≡ n = omega arith in
-    rw e at (c .equal .ensures) ∙ sym (starts-first _ _ n (c .before .before .before .before .before .before .pre .0))
+    rw e at (c .equal .ensures) ∙ sym (starts-first _ _ n (c .before .before .before .before .before .pre .0))
 
 pub starts-at-spec : {M : Type 1} → statement M
 starts-at-spec =

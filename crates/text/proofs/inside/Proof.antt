@@ -2,7 +2,7 @@
 use borrow.Author.Needs.{needs}
 use native.Mathlib.Omega.{arith}
 use Rattle.text.specs.Bytes.{blank, lineEnd, illegal}
-use Rattle.text.specs.Inside.{insideOf}
+use Rattle.text.specs.Machinery.Inside.{insideOf}
 use Rattle.text.proofs.Range.{constant}
 use borrow.Author.Needs.{needs}
 use Rattle.text.proofs.inside.Statement.{statement}

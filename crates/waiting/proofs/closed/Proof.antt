@@ -6,8 +6,8 @@ use mathlib.Core.List.{List}
 use Prim.Native.Nat.{ℕ, _+_, _-_, _*_}
 use lib.ListN.{length}
 use Rattle.grammar.specs.Syntax.{Syntax}
-use Rattle.grammar.specs.Machine.{Pending}
-use Rattle.waiting.specs.Waiting.{Holds, Held}
+use Rattle.grammar.specs.Machinery.Machine.{Pending}
+use Rattle.waiting.specs.Machinery.Waiting.{Holds, Backed}
 use Rattle.waiting.specs.declared.Level.{Level}
 use Rattle.waiting.proofs.CloseLaws.{Closing, usable, held-one, closing-none, closing-on, closing-stops, closing-ends}
 use Rattle.waiting.proofs.closed.Statement.{statement}
@@ -15,11 +15,11 @@ use Rattle.waiting.proofs.closed.Tie as tie
 
 -- the level as the loop has it
 abbrev levelAt : Level → ℕ → ℕ → ℕ → Level
-levelAt l count top start = record { count = count; top = top; floor = l .floor; start = start; word = l .word }
+levelAt l count top start = record { count = count; top = top; floor = l .floor; start = start; held = l .held }
 
 abbrev Inv-loop : tie.InvT-loop
 Inv-loop l least waiting syntax₀ floor count₀ top₀ start₀ syntax count top start =
-    Held (levelAt l count top start) waiting syntax × (length syntax ≡ length syntax₀)
+    Backed (levelAt l count top start) waiting syntax × (length syntax ≡ length syntax₀)
     × ((table : List ℕ) (first : ℕ) (done : Syntax) (ps : List Pending) (operand : Syntax)
     → Holds table first done ps operand l waiting syntax₀ → Closing least table first done ps operand (levelAt l count top start) waiting syntax)
 

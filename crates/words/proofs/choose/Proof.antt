@@ -1,7 +1,7 @@
 -- `choose` answers by what `equal` says of the name and the word.
 use borrow.Author.Needs.{needs}
 use mathlib.Core.Path.{sym, _∙_}
-use Rattle.words.specs.Lengths.{chosen}
+use Rattle.words.specs.Machinery.Lengths.{chosen}
 use borrow.Author.Needs.{needs}
 use Rattle.words.proofs.choose.Statement.{statement}
 use Rattle.words.proofs.choose.Tie as tie

@@ -8,7 +8,7 @@ use Prim.Native.Nat.{_-_}
 use lib.ListN.{length, drop}
 use Rattle.literals.specs.Patterns.{patternRest}
 use Rattle.literals.specs.declared.Literal.{Literal}
-use Rattle.literals.proofs.PatternLaws.{pattern-past, pattern-line, pattern-stray, pattern-taken, pattern-backslash, pattern-class, pattern-close, pattern-more}
+use Rattle.literals.proofs.PatternLaws.{pattern-past, pattern-newline, pattern-stray, pattern-taken, pattern-backslash, pattern-class, pattern-close, pattern-more}
 use Rattle.literals.proofs.patterns.pattern_rest.Statement.{statement}
 use Rattle.literals.proofs.patterns.pattern_rest.Tie as tie
 
@@ -30,7 +30,7 @@ inside-requires c κs = search needs
 returns : tie.Need-returns Inv-loop μ-loop
 returns c =
     let l = c .before .before .before .before in
-    sym (l .loop .inv ∙ pattern-line _ _ _ (omega arith) _ _ (omega arith))
+    sym (l .loop .inv ∙ pattern-newline _ _ _ (omega arith) _ _ (omega arith))
 
 returns-2 : tie.Need-returns-2 Inv-loop μ-loop
 returns-2 c =

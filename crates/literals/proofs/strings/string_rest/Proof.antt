@@ -6,7 +6,7 @@ use mathlib.Core.Bool.{false}
 use Prim.Native.Nat.{_-_}
 use lib.ListN.{length, drop}
 use Rattle.literals.specs.Strings.{stringRest}
-use Rattle.literals.proofs.StringLaws.{string-past, string-line, string-stray, string-taken, string-close, string-more}
+use Rattle.literals.proofs.StringLaws.{string-past, string-newline, string-stray, string-taken, string-close, string-more}
 use Rattle.literals.proofs.strings.string_rest.Statement.{statement}
 use Rattle.literals.proofs.strings.string_rest.Tie as tie
 
@@ -28,7 +28,7 @@ inside-requires c κs = search needs
 returns : tie.Need-returns Inv-loop μ-loop
 returns c =
     let l = c .before .before .before .before in
-    sym (l .loop .inv ∙ string-line _ _ _ _ (omega arith) _ (omega arith))
+    sym (l .loop .inv ∙ string-newline _ _ _ _ (omega arith) _ (omega arith))
 
 returns-2 : tie.Need-returns-2 Inv-loop μ-loop
 returns-2 c =

@@ -4,7 +4,7 @@ use mathlib.Core.Path.{refl}
 use native.Mathlib.Omega.{arith}
 use borrow.Author.Tests.{lt-ltb, le-ltb}
 use lib.ListN.{length-set}
-use Rattle.waiting.specs.Written.{putRecord}
+use Rattle.waiting.specs.Machinery.Written.{putRecord}
 use Rattle.waiting.proofs.records.put.Statement.{statement}
 use Rattle.waiting.proofs.records.put.Tie as tie
 

@@ -1,0 +1,130 @@
+-- The machine's controls, effects and groups as the code numbers them. Machinery.
+use Prim.Native.Nat.{ℕ}
+use mathlib.Core.Bool.{Bool, true, false, cond}
+use lib.Dec.{eqb}
+use Rattle.grammar.specs.Grammar.{body, block}
+use Rattle.grammar.specs.Machinery.Machine.{
+  ifNest,
+  Setting,
+  among,
+  inNest,
+  Effect,
+  keep,
+  takeName,
+  takeMember,
+  endExpression,
+  endReturn,
+  endBareReturn,
+  takeLabel,
+  holdWord,
+  startReturn,
+  takeLeaf,
+  takeOperator,
+  Closing,
+  toParens,
+  toCall,
+  toObject,
+  toBlock,
+  toCondition,
+  toParameter,
+  toDeclaration,
+  toFunction,
+  Ending,
+  byStatement,
+  byReturn,
+  byParen,
+  byBrace,
+  declared,
+  operandIn,
+  Control,
+  statementDue,
+  statementDone,
+  nameFirst,
+  returnFirst,
+  ifFirst,
+  operandDue,
+  operandDone,
+  dotLast,
+  functionFirst,
+  functionNamed,
+  parameterPast,
+  objectOpened,
+  propertyNamed,
+  parameterDue,
+  parameterNamed,
+  finished,
+}
+use Rattle.controls.specs.declared.Control as code
+
+-- settings of statements, and what ends an expression
+unfoldable pub settingBy : ℕ → Setting
+settingBy number = cond (eqb number 0) (among body) (cond (eqb number 1) (among block) (inNest ifNest))
+
+unfoldable pub endingBy : ℕ → ℕ → Ending
+endingBy number setting =
+    cond (eqb number 0) (byStatement (settingBy setting))
+    (cond (eqb number 1) (byReturn (settingBy setting))
+    (cond (eqb number 2) byParen
+    byBrace))
+
+-- controls by place, what ends the expression, the setting, and the flag
+unfoldable pub controlBy : ℕ → ℕ → ℕ → Bool → Control
+controlBy place ending setting flag =
+    cond (eqb place 0) (statementDue flag (settingBy setting))
+    (cond (eqb place 1) (returnFirst (settingBy setting))
+    (cond (eqb place 2) (operandDue (endingBy ending setting) flag)
+    (cond (eqb place 3) (operandDone (endingBy ending setting) flag)
+    (cond (eqb place 4) (statementDone ifNest)
+    (cond (eqb place 5) (nameFirst (settingBy setting))
+    (cond (eqb place 6) ifFirst
+    (cond (eqb place 7) (dotLast (endingBy ending setting) flag)
+    (cond (eqb place 8) objectOpened
+    (cond (eqb place 9) propertyNamed
+    (cond (eqb place 10) parameterDue
+    (cond (eqb place 11) parameterNamed
+    (cond (eqb place 12) (functionFirst (operandIn (endingBy ending setting) flag))
+    (cond (eqb place 13) (functionNamed (operandIn (endingBy ending setting) flag))
+    (cond (eqb place 14) (parameterPast (operandIn (endingBy ending setting) flag))
+    (cond (eqb place 15) (functionFirst declared)
+    (cond (eqb place 16) (functionNamed declared)
+    (cond (eqb place 17) (parameterPast declared)
+    finished)))))))))))))))))
+
+unfoldable pub controlOf : code.Control → Control
+controlOf c = controlBy (c .place) (c .ending) (c .setting) (c .flag)
+
+-- effects, of a token of a class
+unfoldable pub effectBy : ℕ → ℕ → Effect
+effectBy number class =
+    cond (eqb number 1) (takeLeaf class)
+    (cond (eqb number 2) takeMember
+    (cond (eqb number 3) (takeOperator class)
+    (cond (eqb number 4) takeLabel
+    (cond (eqb number 5) holdWord
+    (cond (eqb number 6) takeName
+    (cond (eqb number 7) startReturn
+    (cond (eqb number 8) endExpression
+    (cond (eqb number 9) endReturn
+    (cond (eqb number 10) endBareReturn
+    keep)))))))))
+
+-- groups, by what they do when they close; and where the inside of each starts
+unfoldable pub closingBy : ℕ → Closing
+closingBy number =
+    cond (eqb number 0) toParens
+    (cond (eqb number 1) toCall
+    (cond (eqb number 2) toObject
+    (cond (eqb number 3) toCondition
+    (cond (eqb number 4) toParameter
+    (cond (eqb number 5) toBlock
+    (cond (eqb number 6) toDeclaration
+    toFunction))))))
+
+unfoldable pub insideBy : ℕ → Control
+insideBy number =
+    cond (eqb number 2) objectOpened
+    (cond (eqb number 4) parameterDue
+    (cond (eqb number 5) (statementDue false (among block))
+    (cond (eqb number 6) (statementDue false (among body))
+    (cond (eqb number 7) (statementDue false (among body))
+    (operandDue byParen true)))))

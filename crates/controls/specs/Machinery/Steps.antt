@@ -1,0 +1,98 @@
+-- What a step of the code means: the entry of the machine's table, and between which controls it leads. Machinery.
+use Prim.Native.Nat.{ℕ, _≤_}
+use mathlib.Core.Path.{_≡_}
+use mathlib.Core.Bool.{Bool, true, false, cond, not, _&&_, _||_}
+use lib.Dec.{T, eqb, ltb, leb}
+use Rattle.grammar.specs.Tokens.{pattern, assign, colon, openParen, closeParen, openBrace, closeBrace}
+use Rattle.grammar.specs.Grammar.{Scope, body, precedence}
+use Rattle.grammar.specs.Machinery.Machine.{endOfText, ifNest, Setting, among, inNest, behindStatement, Effect, keep, takeName, takeMember, endExpression, endReturn, endBareReturn, takeLabel, holdWord, startReturn, takeLeaf, takeOperator, Closing, toParens, toCall, toObject, toBlock, toCondition, toParameter, toDeclaration, toFunction, toStatement, noValue, expressionValue, statementsValue, Ending, byStatement, byReturn, byParen, byBrace, Role, declared, operandIn, Control, statementDue, nameFirst, returnFirst, ifFirst, operandDue, operandDone, dotLast, functionFirst, functionNamed, parameterPast, objectOpened, propertyNamed, parameterDue, parameterNamed, Action, fail, goto, push, enter, pop, finish}
+use Rattle.controls.specs.Machinery.Numbers.{settingBy, controlOf, effectBy, closingBy, insideBy}
+use Rattle.controls.specs.declared.Control as code
+use Rattle.controls.specs.declared.Step.{Step}
+use Rattle.controls.specs.declared.Step.the-variants.{Fail, Goto, Push, Enter}
+
+-- a token of a class that is a part by itself: a name, number, string or regular expression
+abbrev pub isLeaf : ℕ → Bool
+isLeaf class = cond (eqb class 0) false (leb class pattern)
+
+-- a class that opens a group (the class of its closer is the next number), that ends a level, and that is one record's alone
+abbrev pub isOpener : ℕ → Bool
+isOpener class = eqb class openParen || eqb class openBrace
+
+abbrev pub isEnd : ℕ → Bool
+isEnd class = eqb class closeParen || (eqb class closeBrace || eqb class endOfText)
+
+abbrev pub isSingle : ℕ → Bool
+isSingle class = ltb 0 class && (not (isOpener class) && not (isEnd class))
+
+-- where an operand may start, what ends its expression, and whether it may be assigned to
+pub data Due : Control → Ending → Bool → Type 0 where
+  due-operand : {ending : Ending} {target : Bool} → Due (operandDue ending target) ending target
+  due-value : {setting : Setting} → Due (returnFirst setting) (byReturn setting) true
+  due-statement : {must : Bool} {setting : Setting} → Due (statementDue must setting) (byStatement setting) true
+
+-- the controls between which an effect leads
+pub data Leads : Effect → Control → Control → Type 0 where
+  to-name : {must : Bool} {setting : Setting} → Leads takeName (statementDue must setting) (nameFirst setting)
+  to-leaf : {class : ℕ} {from : Control} {ending : Ending} {target : Bool} → Due from ending target
+      → Leads (takeLeaf class) from (operandDone ending target)
+  to-function : {from : Control} {ending : Ending} {target : Bool} → Due from ending target
+      → Leads holdWord from (functionFirst (operandIn ending target))
+  to-declaration : Leads holdWord (statementDue false (among body)) (functionFirst declared)
+  to-return : {must : Bool} {setting : Setting} → Leads startReturn (statementDue must setting) (returnFirst setting)
+  to-label : {setting : Setting} → Leads takeLabel (nameFirst setting) (statementDue true setting)
+  to-bare-end : {setting : Setting} → Leads endBareReturn (returnFirst setting) (behindStatement setting)
+  to-dot : {ending : Ending} {target : Bool} → Leads keep (operandDone ending target) (dotLast ending target)
+  to-member : {ending : Ending} {target : Bool} → Leads takeMember (dotLast ending target) (operandDone ending target)
+  to-assign : {ending : Ending} {target : Bool} → Leads (takeOperator assign) (operandDone ending target) (operandDue ending true)
+  to-operator : {class : ℕ} {ending : Ending} {target : Bool} → 1 ≤ precedence class
+      → Leads (takeOperator class) (operandDone ending target) (operandDue ending false)
+  to-end : {setting : Setting} {target : Bool} → Leads endExpression (operandDone (byStatement setting) target) (behindStatement setting)
+  to-return-end : {setting : Setting} {target : Bool} → Leads endReturn (operandDone (byReturn setting) target) (behindStatement setting)
+  to-function-name : {role : Role} → Leads keep (functionFirst role) (functionNamed role)
+  to-property : Leads keep objectOpened propertyNamed
+  to-value : Leads keep propertyNamed (operandDue byBrace true)
+  to-parameter : Leads keep parameterDue parameterNamed
+
+-- and those between which a group stands
+pub data Spans : Closing → Control → Control → Type 0 where
+  past-parens : {from : Control} {ending : Ending} {target : Bool} → Due from ending target → Spans toParens from (operandDone ending target)
+  past-object : {from : Control} {ending : Ending} {target : Bool} → Due from ending target → Spans toObject from (operandDone ending target)
+  past-call : {ending : Ending} {target : Bool} → Spans toCall (operandDone ending target) (operandDone ending target)
+  past-condition : Spans toCondition ifFirst (statementDue true (inNest ifNest))
+  past-parameter : {role : Role} → Spans toParameter (functionNamed role) (parameterPast role)
+  past-block : {must : Bool} {setting : Setting} → Spans toBlock (statementDue must setting) (behindStatement setting)
+  past-declaration : Spans toDeclaration (parameterPast declared) (statementDue false (among body))
+  past-function : {ending : Ending} {target : Bool} → Spans toFunction (parameterPast (operandIn ending target)) (operandDone ending target)
+
+-- what a step says of the action for a token of a class; of a class that ends a level it says nothing
+pub data Means (from : Control) (class : ℕ) : Step → Action → Type 0 where
+  means-end : {action : Action} → T (isEnd class) → Means from class Fail action
+  means-fail : Means from class Fail fail
+  means-goto : {to : code.Control} {effect : ℕ} → T (isSingle class) → Leads (effectBy effect class) from (controlOf to)
+      → Means from class (Goto to effect) (goto (controlOf to) (effectBy effect class))
+  means-push : {to : code.Control} {closing : ℕ} → T (isOpener class) → Spans (closingBy closing) from (controlOf to)
+      → Means from class (Push to closing) (push (insideBy closing) (controlOf to) (closingBy closing))
+  means-enter : {to : code.Control} {number : ℕ} {must : Bool} → T (isSingle class) → number ≤ 2 → from ≡ statementDue must (settingBy number) → controlOf to ≡ ifFirst
+      → Means from class (Enter to number) (enter ifFirst (behindStatement (settingBy number)) toStatement)
+
+-- a control is settled before a token of a class: no name that is no label is held, and no nest is to be left
+pub record Settled (at : code.Control) (class : ℕ) : Type 0 where
+  pub no-name : at .place ≡ 5 → class ≡ colon
+  pub no-nest : at .place ≡ 4 → ⊥
+
+-- an expression that is the whole inside of a group
+abbrev pub inGroup : Ending → Bool
+inGroup (byStatement setting) = false
+inGroup (byReturn setting) = false
+inGroup byParen = true
+inGroup byBrace = true
+
+-- whether a level ends at a closer, or at the text's end, and with what
+pub data Ends (class : ℕ) : Control → Bool → Action → Type 0 where
+  ends-statements : {scope : Scope} → Ends class (statementDue false (among scope)) true (pop statementsValue)
+  ends-text : class ≡ endOfText → Ends class (statementDue false (among body)) true finish
+  ends-expression : {ending : Ending} {target : Bool} → T (inGroup ending) → Ends class (operandDone ending target) true (pop expressionValue)
+  ends-object : Ends class objectOpened true (pop noValue)
+  ends-parameter : Ends class parameterNamed true (pop noValue)
+  goes-on : {from : Control} → Ends class from false fail

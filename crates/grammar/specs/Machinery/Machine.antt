@@ -1,0 +1,306 @@
+-- The token machine: it takes tokens one at a time, and builds the syntax tree as it goes. Machinery: it is shown to accept what
+-- has a derivation, and nothing else.
+use Prim.Native.Nat.{ℕ}
+use mathlib.Core.Bool.{Bool, true, false, cond}
+use mathlib.Core.List.{List, [], _∷_}
+use lib.Dec.{eqb, leb}
+use Rattle.grammar.specs.Tokens.{Token, token, Spot, name, number, string, pattern, assign, colon, semicolon, dot, openParen, closeParen, openBrace, closeBrace, returnWord, functionWord, ifWord}
+use Rattle.grammar.specs.Syntax.{Syntax, nil, node, snoc, objectSyntax, parenthesisedSyntax, functionSyntax, memberSyntax, callSyntax, expressionSyntax, bareReturnSyntax, fullReturnSyntax, blockSyntax, labelSyntax, ifSyntax, declarationSyntax}
+use Rattle.grammar.specs.Grammar.{Scope, body, block, Operator, operator, operators, precedence}
+
+-- behind the last token of a text stands its end
+abbrev pub endOfText : ℕ
+endOfText = 128
+
+-- what waits for a part on its right: an operator with its left part, or the beginning of a statement; kind, mark, part
+pub data Pending : Type 0 where
+  pending : ℕ → ℕ → Syntax → Pending
+
+-- what a level, or a nest on it, has so far: statements done, beginnings of statements, operators, and the operand
+pub data Frame : Type 0 where
+  frame : Syntax → List Pending → List Pending → Syntax → Frame
+
+abbrev pub empty : Frame
+empty = frame nil [] [] nil
+
+-- operators that bind at least as tight are closed
+abbrev pub reduce : ℕ → Syntax → List Pending → List Pending → Syntax → Frame
+reduce least done starts [] operand = frame done starts [] operand
+reduce least done starts (pending class mark left ∷ waiting) operand =
+    cond (leb least (precedence class)) (reduce least done starts waiting (node class mark left operand))
+    (frame done starts (pending class mark left ∷ waiting) operand)
+
+-- a statement is complete, and so are those that it ends
+abbrev pub wrap : List Pending → Syntax → Syntax
+wrap [] last = last
+wrap (pending kind mark left ∷ starts) last = wrap starts (node kind mark left last)
+
+abbrev pub completeStatement : Syntax → List Pending → Syntax → Frame
+completeStatement done starts last = frame (snoc done (wrap starts last)) [] [] nil
+
+abbrev pub operandOf : Frame → Syntax
+operandOf (frame done starts waiting operand) = operand
+
+abbrev pub doneOf : Frame → Syntax
+doneOf (frame done starts waiting operand) = done
+
+abbrev pub markOf : Syntax → ℕ
+markOf nil = 0
+markOf (node kind mark left right) = mark
+markOf (snoc before last) = 0
+
+-- the word of a function or of an `if`, held in place of the operand for its mark
+abbrev pub heldWord : ℕ → Syntax
+heldWord mark = node 0 mark nil nil
+
+-- what a token does to the frame; a name that a statement starts with is a label or an operand
+pub data Effect : Type 0 where
+  keep takeName takeMember endExpression endReturn endBareReturn takeLabel holdWord startReturn : Effect
+  takeLeaf takeOperator : ℕ → Effect
+
+abbrev pub await : ℕ → ℕ → Frame → Frame
+await class mark (frame done starts waiting operand) = frame done starts (pending class mark operand ∷ waiting) nil
+
+abbrev pub completeExpression : ℕ → Frame → Frame
+completeExpression mark (frame done starts waiting operand) = completeStatement done starts (node expressionSyntax mark operand nil)
+
+abbrev pub completeReturn : Frame → Frame
+completeReturn (frame done starts waiting operand) = completeStatement done starts operand
+
+abbrev pub completeBareReturn : Syntax → List Pending → Frame
+completeBareReturn done [] = completeStatement done [] nil
+completeBareReturn done (pending kind mark left ∷ starts) = completeStatement done starts (node bareReturnSyntax mark nil nil)
+
+-- how tight a pending operator must bind to be closed by one of a class: as tight, since they group to the left; `=` closes
+-- all of them, and no other `=`
+abbrev pub threshold : ℕ → ℕ
+threshold class = cond (eqb class assign) 1 (precedence class)
+
+abbrev pub affect : Effect → ℕ → Frame → Frame
+affect keep mark f = f
+affect takeName mark (frame done starts waiting operand) = frame done starts waiting (node name mark nil nil)
+affect takeMember mark (frame done starts waiting operand) = frame done starts waiting (node memberSyntax mark operand nil)
+affect endExpression mark (frame done starts waiting operand) = completeExpression mark (reduce 0 done starts waiting operand)
+affect endReturn mark (frame done starts waiting operand) = completeReturn (reduce 0 done starts waiting operand)
+affect endBareReturn mark (frame done starts waiting operand) = completeBareReturn done starts
+affect takeLabel mark (frame done starts waiting operand) = frame done (pending labelSyntax (markOf operand) nil ∷ starts) waiting nil
+affect holdWord mark (frame done starts waiting operand) = frame done starts waiting (heldWord mark)
+affect startReturn mark (frame done starts waiting operand) = frame done (pending fullReturnSyntax mark nil ∷ starts) waiting nil
+affect (takeLeaf class) mark (frame done starts waiting operand) = frame done starts waiting (node class mark nil nil)
+affect (takeOperator class) mark (frame done starts waiting operand) = await class mark (reduce (threshold class) done starts waiting operand)
+
+-- what a group or nest that closes does to the frame around it, with its mark and its value
+pub data Closing : Type 0 where
+  toParens toCall toObject toBlock toCondition toParameter toDeclaration toFunction toStatement : Closing
+
+abbrev pub close : Closing → ℕ → Syntax → Frame → Frame
+close toParens mark value (frame done starts waiting operand) = frame done starts waiting (node parenthesisedSyntax mark value nil)
+close toCall mark value (frame done starts waiting operand) = frame done starts waiting (node callSyntax mark operand value)
+close toObject mark value (frame done starts waiting operand) = frame done starts waiting (node objectSyntax mark value nil)
+close toBlock mark value (frame done starts waiting operand) = completeStatement done starts (node blockSyntax mark value nil)
+close toCondition mark value (frame done starts waiting operand) = frame done (pending ifSyntax (markOf operand) value ∷ starts) waiting nil
+close toParameter mark value f = f
+close toDeclaration mark value (frame done starts waiting operand) = completeStatement done starts (node declarationSyntax (markOf operand) value nil)
+close toFunction mark value (frame done starts waiting operand) = frame done starts waiting (node functionSyntax (markOf operand) value nil)
+close toStatement mark value (frame done starts waiting operand) = completeStatement done starts value
+
+-- the last of statements
+abbrev pub lastOf : Syntax → Syntax
+lastOf nil = nil
+lastOf (node kind mark left right) = nil
+lastOf (snoc before last) = last
+
+-- the value of a group or nest that closes
+pub data Value : Type 0 where
+  noValue expressionValue statementsValue statementValue : Value
+
+abbrev pub valueOf : Value → Frame → Syntax
+valueOf noValue f = nil
+valueOf expressionValue (frame done starts waiting operand) = operandOf (reduce 0 done starts waiting operand)
+valueOf statementsValue f = doneOf f
+valueOf statementValue f = lastOf (doneOf f)
+
+-- a stretch of a level, from `if` to the end of its statement; its frame holds that `if` alone
+pub data Nest : Type 0 where
+  ifNest : Nest
+
+-- where a statement stands: among the statements of a scope, or alone in a nest
+pub data Setting : Type 0 where
+  among : Scope → Setting
+  inNest : Nest → Setting
+
+-- what ends an expression: the `;` of an expression statement or of a return, in a setting; `)`; the `}` of an object
+pub data Ending : Type 0 where
+  byStatement byReturn : Setting → Ending
+  byParen byBrace : Ending
+
+-- what a function is: a declaration, or an operand of an expression that may yet be assigned to or not
+pub data Role : Type 0 where
+  declared : Role
+  operandIn : Ending → Bool → Role
+
+-- Where the machine stands. A Boolean of an expression says whether its chain may be assigned to; that of a statement whether
+-- one must come.
+pub data Control : Type 0 where
+  statementDue : Bool → Setting → Control
+  statementDone : Nest → Control
+  nameFirst returnFirst : Setting → Control
+  operandDue operandDone dotLast : Ending → Bool → Control
+  functionFirst functionNamed parameterPast : Role → Control
+  ifFirst objectOpened propertyNamed parameterDue parameterNamed finished : Control
+
+-- behind a statement: another may come, or its nest is done
+abbrev pub behindStatement : Setting → Control
+behindStatement (among scope) = statementDue false (among scope)
+behindStatement (inNest nest) = statementDone nest
+
+-- what to do: nothing more; go on; open a group or a nest, with the control for its inside and the one behind it; close the
+-- group; leave the nest before the token, which is for what stands around it; or end
+pub data Action : Type 0 where
+  fail : Action
+  goto : Control → Effect → Action
+  push enter : Control → Control → Closing → Action
+  pop leave : Value → Action
+  finish : Action
+
+-- an entry of a row: the action for a class, or for any that no entry before it names
+pub data Entry : Type 0 where
+  on : ℕ → Action → Entry
+  otherwise : Action → Entry
+
+abbrev pub look : ℕ → List Entry → Action
+look class [] = fail
+look class (on x action ∷ rest) = cond (eqb class x) action (look class rest)
+look class (otherwise action ∷ rest) = action
+
+abbrev pub leaves : Ending → Bool → List Entry → List Entry
+leaves ending target rest =
+    on number (goto (operandDone ending target) (takeLeaf number))
+    ∷ on string (goto (operandDone ending target) (takeLeaf string))
+    ∷ on pattern (goto (operandDone ending target) (takeLeaf pattern))
+    ∷ on openParen (push (operandDue byParen true) (operandDone ending target) toParens)
+    ∷ rest
+
+abbrev pub operand : Ending → Bool → List Entry
+operand ending target =
+    on name (goto (operandDone ending target) (takeLeaf name))
+    ∷ on openBrace (push objectOpened (operandDone ending target) toObject)
+    ∷ on functionWord (goto (functionFirst (operandIn ending target)) holdWord)
+    ∷ leaves ending target []
+
+-- what a place that needs no statement takes besides
+abbrev pub noStatement : Bool → Setting → List Entry
+noStatement true setting = []
+noStatement false (among body) =
+    on functionWord (goto (functionFirst declared) holdWord) ∷ on closeBrace (pop statementsValue) ∷ on endOfText finish ∷ []
+noStatement false (among block) = on closeBrace (pop statementsValue) ∷ []
+noStatement false (inNest nest) = []
+
+abbrev pub operatorRow : Ending → List Operator → List Entry → List Entry
+operatorRow ending [] rest = rest
+operatorRow ending (operator class precedence ∷ more) rest =
+    on class (goto (operandDue ending false) (takeOperator class)) ∷ operatorRow ending more rest
+
+abbrev pub endingEntry : Ending → Entry
+endingEntry (byStatement setting) = on semicolon (goto (behindStatement setting) endExpression)
+endingEntry (byReturn setting) = on semicolon (goto (behindStatement setting) endReturn)
+endingEntry byParen = on closeParen (pop expressionValue)
+endingEntry byBrace = on closeBrace (pop expressionValue)
+
+abbrev pub assignAction : Ending → Bool → Action
+assignAction ending true = goto (operandDue ending true) (takeOperator assign)
+assignAction ending false = fail
+
+-- what may follow an operand: operators, and besides them these
+abbrev pub besidesOperators : Ending → Bool → List Entry
+besidesOperators ending target =
+    on dot (goto (dotLast ending target) keep)
+    ∷ on openParen (push (operandDue byParen true) (operandDone ending target) toCall)
+    ∷ on assign (assignAction ending target)
+    ∷ endingEntry ending
+    ∷ []
+
+abbrev pub afterOperand : Ending → Bool → List Entry
+afterOperand ending target = operatorRow ending operators (besidesOperators ending target)
+
+abbrev pub afterParameter : Role → Entry
+afterParameter declared = on openBrace (push (statementDue false (among body)) (statementDue false (among body)) toDeclaration)
+afterParameter (operandIn ending target) = on openBrace (push (statementDue false (among body)) (operandDone ending target) toFunction)
+
+abbrev pub unlessLine : Bool → List Entry → List Entry
+unlessLine true row = []
+unlessLine false row = row
+
+-- the table: the row of a control, by whether a line end lies before the token
+abbrev pub row : Control → Bool → List Entry
+row (statementDue must setting) newline =
+    on openBrace (push (statementDue false (among block)) (behindStatement setting) toBlock)
+    ∷ on ifWord (enter ifFirst (behindStatement setting) toStatement)
+    ∷ on returnWord (goto (returnFirst setting) startReturn)
+    ∷ on name (goto (nameFirst setting) takeName)
+    ∷ leaves (byStatement setting) true (noStatement must setting)
+row (statementDone ifNest) newline = otherwise (leave statementValue) ∷ []
+row (nameFirst setting) newline = on colon (goto (statementDue true setting) takeLabel) ∷ afterOperand (byStatement setting) true
+row (returnFirst setting) newline = on semicolon (goto (behindStatement setting) endBareReturn) ∷ unlessLine newline (operand (byReturn setting) true)
+row ifFirst newline = on openParen (push (operandDue byParen true) (statementDue true (inNest ifNest)) toCondition) ∷ []
+row (operandDue ending target) newline = operand ending target
+row (operandDone ending target) newline = afterOperand ending target
+row (dotLast ending target) newline = on name (goto (operandDone ending target) takeMember) ∷ []
+row (functionFirst role) newline = on name (goto (functionNamed role) keep) ∷ []
+row (functionNamed role) newline = on openParen (push parameterDue (parameterPast role) toParameter) ∷ []
+row (parameterPast role) newline = afterParameter role ∷ []
+row objectOpened newline = on name (goto propertyNamed keep) ∷ on closeBrace (pop noValue) ∷ []
+row propertyNamed newline = on colon (goto (operandDue byBrace true) keep) ∷ []
+row parameterDue newline = on name (goto parameterNamed keep) ∷ []
+row parameterNamed newline = on closeParen (pop noValue) ∷ []
+row finished newline = []
+
+-- a group or a nest that is open: the control behind it, what it does when it closes, its mark, and the frame around it
+pub data Open : Type 0 where
+  grouped nested : Control → Closing → ℕ → Frame → Open
+
+-- the machine's state: dead, by the token at a place; or a control with the frame of the innermost level or nest, and what is open
+pub data State : Type 0 where
+  dead : ℕ → State
+  live : Control → Frame → List Open → State
+
+abbrev pub popTo : ℕ → Syntax → List Open → State
+popTo place value [] = dead place
+popTo place value (grouped behind closing mark f ∷ around) = live behind (close closing mark value f) around
+popTo place value (nested behind closing mark f ∷ around) = dead place
+
+abbrev pub finishIn : ℕ → Frame → List Open → State
+finishIn place f [] = live finished f []
+finishIn place f (h ∷ around) = dead place
+
+-- what an action does, and what is done to leave a nest with a value
+abbrev pub actBy : (Syntax → State) → Action → Spot → Frame → List Open → State
+actBy out fail spot f around = dead (spot .first)
+actBy out (goto control effect) spot f around = live control (affect effect (spot .mark) f) around
+actBy out (push inside behind closing) spot f around = live inside empty (grouped behind closing (spot .mark) f ∷ around)
+actBy out (enter inside behind closing) spot f around =
+    live inside (frame nil [] [] (heldWord (spot .mark))) (nested behind closing (spot .mark) f ∷ around)
+actBy out (pop value) spot f around = popTo (spot .first) (valueOf value f) around
+actBy out (leave value) spot f around = out (valueOf value f)
+actBy out finish spot f around = finishIn (spot .first) f around
+
+-- a nest is left with a value: the control behind it takes the token
+abbrev pub leaveTo : ℕ → Spot → List Open → Syntax → State
+leaveTo class spot [] value = dead (spot .first)
+leaveTo class spot (grouped behind closing opened f ∷ around) value = dead (spot .first)
+leaveTo class spot (nested behind closing opened f ∷ around) value =
+    actBy (leaveTo class spot around) (look class (row behind (spot .newline))) spot (close closing opened value f) around
+
+abbrev pub act : Action → ℕ → Spot → Frame → List Open → State
+act action class spot f around = actBy (leaveTo class spot around) action spot f around
+
+abbrev pub consume : State → Token → State
+consume (dead place) t = dead place
+consume (live control f around) (token class spot) = act (look class (row control (spot .newline))) class spot f around
+
+abbrev pub run : State → List Token → State
+run state [] = state
+run state (t ∷ ts) = run (consume state t) ts
+
+abbrev pub start : State
+start = live (statementDue false (among body)) empty []

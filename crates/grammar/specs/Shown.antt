@@ -1,0 +1,106 @@
+-- What a derivation says of its slashes and braces, and what tree records show of them.
+use Prim.Native.Nat.{ℕ}
+use mathlib.Core.Path.{_≡_}
+use mathlib.Core.Bool.{Bool, cond, _&&_}
+use mathlib.Core.List.{List, [], _∷_, _++_}
+use lib.Dec.{eqb}
+use Rattle.elements.specs.Elements.{patternKind, delimiterKind, braceOpener}
+use Rattle.elements.specs.declared.Element.{Element}
+use Rattle.rule.specs.Trees.{objectKind, blockKind}
+use Rattle.grammar.specs.Tokens.{Token}
+use Rattle.grammar.specs.Syntax.{Syntax}
+use Rattle.grammar.specs.Cuts.{Cuts, cut-end, cut-element, cut-slash}
+use Rattle.grammar.specs.Grammar.{
+  Form,
+  Derives,
+  no-statements,
+  add-statement,
+  add-declaration,
+  statement-block,
+  statement-expression,
+  statement-if,
+  statement-bare-return,
+  statement-full-return,
+  statement-label,
+  function-all,
+  assign-binary,
+  assign-to,
+  binary-chain,
+  binary-operator,
+  chain-leaf,
+  chain-empty,
+  chain-object,
+  chain-parens,
+  chain-function,
+  chain-call,
+  chain-member,
+}
+use Rattle.grammar.specs.Derivations.{Derivation}
+
+-- Document 01, Grammar: a slash "is taken as a regular expression or as the longest sign at that place": the first bytes of those
+-- that a choice takes as regular expressions
+unfoldable pub patternsOf : {text : List ℕ} {place : ℕ} {choice : List Bool} {es : List Element} → Cuts text place choice es → List ℕ
+patternsOf (cut-end left) = []
+patternsOf (cut-element met found rest) = patternsOf rest
+patternsOf (cut-slash {e = e} {answer = answer} met found rest) = cond answer (e .first ∷ []) [] ++ patternsOf rest
+
+-- a brace that is an object or a block, by its first byte
+pub data Brace : Type 0 where
+  objectAt blockAt : ℕ → Brace
+
+-- The braces of a derivation, in text order. "`{ }`" and "`{ name : Assign }`" of a Chain are objects; the "block holding a body" of a
+-- Function and the "block of statements" are blocks. A derivation says so by its steps: nothing of the prefix rule is here.
+unfoldable pub bracesOf : {form : Form} {before after : List Token} {value : Syntax} → Derives form before after value → List Brace
+bracesOf no-statements = []
+bracesOf (add-statement statements last) = bracesOf statements ++ bracesOf last
+bracesOf (add-declaration statements function) = bracesOf statements ++ bracesOf function
+bracesOf (statement-block {opener = opener} statements) = blockAt (opener .first) ∷ bracesOf statements
+bracesOf (statement-expression allowed value) = bracesOf value
+bracesOf (statement-if condition inner) = bracesOf condition ++ bracesOf inner
+bracesOf statement-bare-return = []
+bracesOf (statement-full-return same value) = bracesOf value
+bracesOf (statement-label inner) = bracesOf inner
+bracesOf (function-all {openBody = openBody} statements) = blockAt (openBody .first) ∷ bracesOf statements
+bracesOf (assign-binary binary) = bracesOf binary
+bracesOf (assign-to target value) = bracesOf target ++ bracesOf value
+bracesOf (binary-chain chain) = bracesOf chain
+bracesOf (binary-operator op tight left right) = bracesOf left ++ bracesOf right
+bracesOf (chain-leaf leaf) = []
+bracesOf (chain-empty {opener = opener}) = objectAt (opener .first) ∷ []
+bracesOf (chain-object {opener = opener} value) = objectAt (opener .first) ∷ bracesOf value
+bracesOf (chain-parens value) = bracesOf value
+bracesOf (chain-function called) = bracesOf called
+bracesOf (chain-call callee value) = bracesOf callee ++ bracesOf value
+bracesOf (chain-member object) = bracesOf object
+
+-- Document 01, Records: "Tree record, five numbers ..: kind; first byte; ..": what records show, each by its kind and first byte
+unfoldable pub shownIn : {A : Type 0} → (ℕ → ℕ → List A) → List ℕ → List A
+shownIn show [] = []
+shownIn show (kind ∷ []) = []
+shownIn show (kind ∷ first ∷ []) = []
+shownIn show (kind ∷ first ∷ end ∷ []) = []
+shownIn show (kind ∷ first ∷ end ∷ number ∷ []) = []
+shownIn show (kind ∷ first ∷ end ∷ number ∷ newline ∷ rest) = show kind first ++ shownIn show rest
+
+-- "5 regular expression"
+abbrev pub patternOf : ℕ → ℕ → List ℕ
+patternOf kind first = cond (eqb kind patternKind) (first ∷ []) []
+
+-- "8 object, 9 block"
+abbrev pub braceOf : ℕ → ℕ → List Brace
+braceOf kind first = cond (eqb kind objectKind) (objectAt first ∷ []) (cond (eqb kind blockKind) (blockAt first ∷ []) [])
+
+-- Demand 3, of tree records in cells: those of kind 5 stand at exactly the slashes that the derivation takes as regular expressions; those of
+-- kind 8 at its objects, and those of kind 9 at all its other braces
+pub record Shown {text : List ℕ} (d : Derivation text) (cells : List ℕ) : Type 0 where
+  pub patterns : shownIn patternOf cells ≡ patternsOf (d .cut)
+  pub braces : shownIn braceOf cells ≡ bracesOf (d .steps)
+
+-- the first byte of a brace, and of the elements that are a `{`
+abbrev pub placeOf : Brace → ℕ
+placeOf (objectAt first) = first
+placeOf (blockAt first) = first
+
+unfoldable pub openBracesOf : List Element → List ℕ
+openBracesOf [] = []
+openBracesOf (e ∷ es) = cond (eqb (e .kind) delimiterKind && eqb (e .which) braceOpener) (e .first ∷ []) [] ++ openBracesOf es

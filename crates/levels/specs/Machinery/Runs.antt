@@ -1,0 +1,102 @@
+-- What the parsers of a level say, by runs of the token machine. Machinery.
+use Prim.Native.Nat.{ℕ, _+_, _*_, _≤_, _<_}
+use mathlib.Core.Path.{_≡_}
+use mathlib.Core.Bool.{true, false, cond}
+use mathlib.Core.List.{List, [], _∷_, _++_}
+use lib.Dec.{T, eqb}
+use lib.ListN.{length}
+use Rattle.grammar.specs.Tokens.{Token, token}
+use Rattle.grammar.specs.Syntax.{Syntax, nil, size}
+use Rattle.grammar.specs.Grammar.{Scope, body}
+use Rattle.grammar.specs.Machinery.Machine.{
+  endOfText,
+  frame,
+  empty,
+  among,
+  byParen,
+  Control,
+  statementDue,
+  operandDue,
+  objectOpened,
+  parameterDue,
+  Open,
+  State,
+  dead,
+  live,
+  popTo,
+  finishIn,
+  run,
+}
+use Rattle.controls.specs.Machinery.Numbers.{settingBy, insideBy}
+use Rattle.controls.specs.Machinery.Steps.{isEnd}
+use Rattle.waiting.specs.Machinery.Written.{putSyntax}
+use Rattle.waiting.specs.Machinery.Waiting.{width}
+use Rattle.frames.specs.Machinery.Stands.{Kept}
+use Rattle.frames.specs.Machinery.Effects.{ofParameter}
+use Rattle.segments.specs.Machinery.Segments.{Segment, countOf, tokensAt, Fine}
+use Rattle.levels.specs.declared.Parsed.{Parsed}
+use Rattle.levels.specs.declared.Parsed.the-variants.{Done, Bad}
+
+-- behind a part stands its closer, or the end of the text
+abbrev pub closerToken : ℕ → Segment → ℕ → Token
+closerToken class p mark = token class (record { newline = false; mark = mark; first = p .close })
+
+-- the machine's state behind a level that has closed with a value
+abbrev pub closedState : ℕ → ℕ → Syntax → List Open → State
+closedState class place value around = cond (eqb class endOfText) (finishIn place (frame value [] [] nil) around) (popTo place value around)
+
+-- a level that was run to its end, from a control: whatever stands around it, its value is popped, and the value's records are written
+pub record Through (class : ℕ) (p : Segment) (c : Control) (count top : ℕ) (table before : List ℕ) (n : ℕ) (cells stack : List ℕ) : Type 0 where
+  pub value : Syntax
+  pub runs : (around : List Open) (mark : ℕ) (u : List Token)
+      → run (live c empty around) (tokensAt p 0 ++ (closerToken class p mark ∷ u)) ≡ run (closedState class (p .close) value around) u
+  pub count-is : n ≡ count + size value
+  pub cells-are : cells ≡ putSyntax table count value
+  pub kept : Kept before stack top
+  pub passes : n ≤ count + countOf (p .cells)
+  pub plain : ofParameter c ≡ true → value ≡ nil
+
+-- one at which the machine dies, whatever stands around it
+abbrev pub Dies : ℕ → Segment → Control → ℕ → Type 0
+Dies class p c place = (around : List Open) (mark : ℕ) (u : List Token)
+    → run (live c empty around) (tokensAt p 0 ++ (closerToken class p mark ∷ u)) ≡ dead place
+
+pub data Ran (class : ℕ) (p : Segment) (c : Control) (count top : ℕ) (table before : List ℕ) : Parsed → List ℕ → List ℕ → Type 0 where
+  ran-through : {n : ℕ} {cells stack : List ℕ} → Through class p c count top table before n cells stack
+      → Ran class p c count top table before (Done n) cells stack
+  ran-dead : {place : ℕ} {cells stack : List ℕ} → Dies class p c place → Ran class p c count top table before (Bad place) cells stack
+
+-- where a level may begin
+pub data Begins : Control → Type 0 where
+  begins-statements : {scope : Scope} → Begins (statementDue false (among scope))
+  begins-expression : Begins (operandDue byParen true)
+  begins-object : Begins objectOpened
+  begins-parameter : Begins parameterDue
+
+-- a level may be run: its records are fine, no more records and waiting parts are before it than tree records, and the stack has
+-- room for one part for each tree record
+pub record MayRun (p : Segment) (closer count top : ℕ) (stack : List ℕ) : Type 0 where
+  pub fine : Fine p
+  pub low : count + top ≤ p .base
+  pub deep : (p .base + countOf (p .cells)) * width ≤ length stack
+  pub closes : T (isEnd closer)
+
+-- the inside of a group may be run
+pub record MayOpen (p : Segment) (at closer count top : ℕ) (stack : List ℕ) : Type 0 where
+  pub fine : Fine p
+  pub here : at < countOf (p .cells)
+  pub low : count + top ≤ p .base + at + 1
+  pub deep : (p .base + countOf (p .cells)) * width ≤ length stack
+  pub closes : T (isEnd closer)
+
+-- these are statements, with declarations in a body
+abbrev pub RanStatements : ℕ → ℕ → Segment → ℕ → ℕ → List ℕ → List ℕ → Parsed → List ℕ → List ℕ → Type 0
+RanStatements scope closer p count top table before r cells stack = Ran closer p (statementDue false (settingBy scope)) count top table before r cells stack
+
+-- this is an expression, or what else is inside such a group
+abbrev pub RanExpression : ℕ → ℕ → Segment → ℕ → ℕ → List ℕ → List ℕ → Parsed → List ℕ → List ℕ → Type 0
+RanExpression closing closer p count top table before r cells stack = Ran closer p (insideBy closing) count top table before r cells stack
+
+-- this is a function's body
+abbrev pub RanFunction : ℕ → Segment → ℕ → ℕ → List ℕ → List ℕ → Parsed → List ℕ → List ℕ → Type 0
+RanFunction closer p count top table before r cells stack = Ran closer p (statementDue false (among body)) count top table before r cells stack

@@ -1,0 +1,57 @@
+-- How the code's state and its stack hold the levels of a reading, and what a step must make of them. Machinery.
+use Prim.Native.Nat.{ℕ, _+_, _*_, _/_, _≤_, _<_}
+use mathlib.Core.Path.{_≡_}
+use mathlib.Core.Bool.{Bool}
+use mathlib.Core.List.{List}
+use lib.ListN.{length, getD}
+use Rattle.elements.specs.declared.Element.{Element}
+use Rattle.rule.specs.Trees.{Trees, none, leaf, group}
+use Rattle.rule.specs.Levels.{Levels, wholeText, inside, depth, countSoFar, onTop, slashOpens}
+use Rattle.prefix.specs.Reading.{Step, stop, more, step}
+use Rattle.rule.specs.Machinery.Summary.{levelCode}
+use Rattle.rule.specs.Machinery.LevelCodes.{slashByLevel}
+use Rattle.prefix.specs.declared.State.{State}
+use Rattle.prefix.specs.declared.Advanced.{Advanced}
+
+-- the stack has, for each open group, the word of the level around it, and the caller's tag for the group: a number that
+-- depends on the levels around it and its first byte
+abbrev pub Stack : (Levels → ℕ → ℕ) → List ℕ → Levels → Type 0
+Stack tag stack (wholeText trees) = Unit {0}
+Stack tag stack (inside around kind first newline trees) =
+    (getD stack (2 * depth around) 0 ≡ levelCode around) × (getD stack (2 * depth around + 1) 0 ≡ tag around first) × Stack tag stack around
+
+pub record Represents (tag : Levels → ℕ → ℕ) (stack : List ℕ) (state : State) (levels : Levels) : Type 0 where
+  pub level-is : state .level ≡ levelCode levels
+  pub depth-is : state .depth ≡ depth levels
+  pub records-is : state .records ≡ countSoFar levels
+  pub stacked : Stack tag stack levels
+  pub fits : 2 * state .depth ≤ length stack
+
+-- the levels after a group's end: the innermost group is a tree of the level around it
+pub data Closes (tag : Levels → ℕ → ℕ) (e : Element) (m : ℕ) : Levels → Levels → Type 0 where
+  closed : {around : Levels} {kind first : ℕ} {newline : _} {trees : Trees}
+      → m ≡ tag around first
+      → Closes tag e m (inside around kind first newline trees) (onTop (λ before. group before kind first (e .end) newline trees) around)
+
+-- what the code's answer says of the definition's step, where there is room for so many records
+pub data Follows (room : ℕ) (tag : Levels → ℕ → ℕ) (stack : List ℕ) (e : Element) (levels : Levels) : Advanced → Step → Type 0 where
+  leaf-added : {state : State} → countSoFar levels < room → Represents tag stack state (onTop (λ before. leaf before e) levels)
+      → Follows room tag stack e levels (Advanced.Leaf state) (more (onTop (λ before. leaf before e) levels))
+  group-opened : {kind : ℕ} {state : State} → countSoFar levels < room → Represents tag stack state (inside levels kind (e .first) (e .newline) none)
+      → Follows room tag stack e levels (Advanced.Opened kind state) (more (inside levels kind (e .first) (e .newline) none))
+  group-closed : {m : ℕ} {state : State} {after : Levels} → Closes tag e m levels after → Represents tag stack state after
+      → Follows room tag stack e levels (Advanced.Closed m state) (more after)
+  stopped : {number place : ℕ} → Follows room tag stack e levels (Advanced.Stopped number place) (stop number place)
+
+-- What `slash_opens` promises of every state: the answer by the number of its level, which is the prefix rule's of all levels that it holds.
+abbrev pub SettlesSlash : State → Bool → Type 0
+SettlesSlash state answer =
+    (answer ≡ slashByLevel (state .level))
+    × ((tag : Levels → ℕ → ℕ) (stack : List ℕ) (levels : Levels) → Represents tag stack state levels → answer ≡ slashOpens levels)
+
+-- What `advance` promises of a state that holds levels: the definition's step is taken from them, with as many groups as the stack has room
+-- for. It is left free what becomes of a state that holds none, of the stack's cells above the open groups, and of the stack where it stops.
+abbrev pub Advances : List ℕ → List ℕ → State → ℕ → ℕ → Element → Advanced → Type 0
+Advances stack after state room tag e advanced =
+    (tags : Levels → ℕ → ℕ) (levels : Levels) → Represents tags stack state levels → tag ≡ tags levels (e .first)
+    → Follows room tags after e levels advanced (step (record { groups = length stack / 2; room = room }) levels e)

@@ -1,0 +1,78 @@
+-- `after_word` is `levelAfter`: antt looks up the words that the code names, and all others have the class `other`.
+use borrow.Author.Needs.{needs}
+use mathlib.Core.Path.{_≡_, sym, _∙_}
+use mathlib.Core.List.{[], _∷_}
+use Prim.Native.Nat.{ℕ}
+use borrow.Author.Tests.{ne-eqb}
+use Rattle.text.proofs.Members.{isIn}
+use Rattle.vocabulary.specs.Vocabulary.{words, ruleClass, rowAt}
+use Rattle.vocabulary.proofs.RowLaws.{at-other}
+use Rattle.vocabulary.proofs.ClassLaws.{isClass, is-class}
+use Rattle.rule.specs.Rule.{Class, wordClass}
+use Rattle.rule.specs.Machinery.LevelCodes.{levelAfter}
+use Rattle.rule.proofs.after_word.Statement.{statement}
+use Rattle.rule.proofs.after_word.Tie as tie
+
+other-words : (which : ℕ) → (which ≡ 11 → ⊥) → (which ≡ 18 → ⊥) → (which ≡ 22 → ⊥) → wordClass which ≡ Class.other
+other-words which a b c =
+    is-class Class.other (wordClass which)
+    (at-other (λ row. isClass Class.other (ruleClass row)) (isIn (11 ∷ 18 ∷ 22 ∷ [])) words tt tt which
+    (rw (ne-eqb which 11 a, ne-eqb which 18 b, ne-eqb which 22 c)))
+
+mul-base : tie.Need-mul-base
+mul-base c = search needs
+
+add-result : tie.Need-add-result
+add-result c = search needs
+
+returns : tie.Need-returns
+unfolding levelAfter rowAt
+returns c = rw (c .if1 .taken)
+
+brace-opens-requires : tie.Need-brace-opens-requires
+brace-opens-requires c κs = search needs
+
+add-result-2 : tie.Need-add-result-2
+add-result-2 c = search needs
+
+returns-2 : tie.Need-returns-2
+unfolding levelAfter rowAt
+returns-2 c = rw (c .before .before .if2 .taken, sym (c .before .brace-opens .ensures) ∙ c .if3 .taken)
+
+add-result-3 : tie.Need-add-result-3
+add-result-3 c = search needs
+
+returns-3 : tie.Need-returns-3
+unfolding levelAfter rowAt
+returns-3 c = rw (c .before .before .if2 .taken, sym (c .before .brace-opens .ensures) ∙ c .if3 .left)
+
+add-result-4 : tie.Need-add-result-4
+add-result-4 c = search needs
+
+returns-4 : tie.Need-returns-4
+unfolding levelAfter rowAt
+returns-4 c = rw (c .if4 .taken)
+
+add-result-5 : tie.Need-add-result-5
+add-result-5 c = search needs
+
+returns-5 : tie.Need-returns-5
+unfolding levelAfter
+returns-5 c = rw (other-words _ (c .before .before .if1 .left) (c .before .if2 .left) (c .if4 .left))
+
+pub after-word-spec : {M : Type 1} → statement M
+after-word-spec =
+    tie.close
+    (tie.spec
+    mul-base
+    add-result
+    returns
+    brace-opens-requires
+    add-result-2
+    returns-2
+    add-result-3
+    returns-3
+    add-result-4
+    returns-4
+    add-result-5
+    returns-5)

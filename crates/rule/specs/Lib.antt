@@ -1,0 +1,4 @@
+pub mod Trees
+pub mod Rule
+pub mod Levels
+pub mod Machinery

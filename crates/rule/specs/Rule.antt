@@ -1,0 +1,102 @@
+-- Document 01, Prefix rule: over the trees before on the same level. "Last" is the tree before, on the same level.
+use Prim.Native.Nat.{ℕ}
+use mathlib.Core.Bool.{Bool, true, false, not, cond, _&&_}
+use mathlib.Core.List.{List, [], _∷_}
+use lib.Dec.{eqb}
+use Rattle.elements.specs.Elements.{nameKind, wordKind, signKind}
+use Rattle.elements.specs.declared.Element.{Element}
+use Rattle.vocabulary.specs.Vocabulary.{words, signs, ruleClass, rowAt}
+pub use Rattle.vocabulary.specs.RuleClasses.{Class, name, literal, operator, colon, other, returnWord, functionWord, ifWord, parens, object, block, rank}
+use Rattle.rule.specs.Trees.{Trees, none, leaf, group, parenKind, objectKind}
+
+-- the class of the reserved word, and of the sign, of a number
+abbrev pub wordClass : ℕ → Class
+wordClass which = ruleClass (rowAt words which)
+
+abbrev pub signClass : ℕ → Class
+signClass which = ruleClass (rowAt signs which)
+
+-- the class of an element that is no delimiter: kinds 1, 2 and 6, and else a number, string or regular expression
+unfoldable pub elementClass : Element → Class
+unfolding rowAt
+elementClass e =
+    cond (eqb (e .kind) nameKind) name
+    (cond (eqb (e .kind) wordKind) (wordClass (e .which))
+    (cond (eqb (e .kind) signKind) (signClass (e .which))
+    literal))
+
+-- the class of a group: kinds 7 and 8, and else a block, kind 9
+unfoldable pub groupClass : ℕ → Class
+groupClass kind = cond (eqb kind parenKind) parens (cond (eqb kind objectKind) object block)
+
+-- a tree before, and whether a line end lies before it
+pub data Before : Type 0 where
+  tree : Class → Bool → Before
+
+-- the trees before, last first
+unfoldable pub backwards : Trees → List Before
+backwards none = []
+backwards (leaf before e) = tree (elementClass e) (e .newline) ∷ backwards before
+backwards (group before kind first end newline within) = tree (groupClass kind) newline ∷ backwards before
+
+-- "`{` opens an object when: .. last is `/`, `+` or `=`; last is `:` on an expression level; last is `return` and no line
+-- end lies between. Otherwise it opens a block." `newline` says whether a line end lies between last and the brace.
+abbrev pub objectAfter : Bool → Class → Bool → Bool
+objectAfter expression name newline = false
+objectAfter expression literal newline = false
+objectAfter expression operator newline = true
+objectAfter expression colon newline = expression
+objectAfter expression other newline = false
+objectAfter expression returnWord newline = not newline
+objectAfter expression functionWord newline = false
+objectAfter expression ifWord newline = false
+objectAfter expression parens newline = false
+objectAfter expression object newline = false
+objectAfter expression block newline = false
+
+-- ".. there is no last and the level is an expression level"
+unfoldable pub opensObject : Bool → List Before → Bool → Bool
+opensObject expression [] newline = expression
+opensObject expression (tree last l ∷ before) newline = objectAfter expression last newline
+
+-- a tree of a class
+abbrev pub is : Class → Class → Bool
+is class c = eqb (rank c) (rank class)
+
+-- the last tree is of a class
+abbrev pub endsWith : Class → List Before → Bool
+endsWith class [] = false
+endsWith class (tree last l ∷ before) = is class last
+
+-- "`/` opens a regular expression when: .. last is a sign or a reserved word; last is `( )` preceded by `if`; last is a
+-- block. It divides after a name, number, string, regular expression, object or other `( )`."
+abbrev pub patternAfter : Class → List Before → Bool
+patternAfter name before = false
+patternAfter literal before = false
+patternAfter operator before = true
+patternAfter colon before = true
+patternAfter other before = true
+patternAfter returnWord before = true
+patternAfter functionWord before = true
+patternAfter ifWord before = true
+patternAfter parens before = endsWith ifWord before
+patternAfter object before = false
+patternAfter block before = true
+
+-- ".. there is no last"
+abbrev pub plainly : List Before → Bool
+plainly [] = true
+plainly (tree last l ∷ before) = patternAfter last before
+
+-- "Exception: if the level ends with `function`, name, `( )`, `{ }`, the slash divides exactly when a `{` standing in place of that
+-- `function`, with the same line ends before it, would open an object.": one clause over the last four trees. Behind `( )` a brace is a block
+abbrev pub excepted : Bool → List Before → Bool → Bool
+excepted expression [] plain = plain
+excepted expression (one ∷ []) plain = plain
+excepted expression (two ∷ one ∷ []) plain = plain
+excepted expression (three ∷ two ∷ one ∷ []) plain = plain
+excepted expression (tree four k ∷ tree three l ∷ tree two m ∷ tree one newline ∷ before) plain =
+    cond (is block four && (is parens three && (is name two && is functionWord one))) (not (opensObject expression before newline)) plain
+
+unfoldable pub opensPattern : Bool → List Before → Bool
+opensPattern expression ts = excepted expression ts (plainly ts)

@@ -1,0 +1,6 @@
+pub mod SegmentLaws
+pub mod ClassLaws
+pub mod ToldTrees
+pub mod RecordPlaces
+pub mod FineRecords
+pub mod ReadSegments

@@ -1,0 +1,143 @@
+-- A part of the tree table: whole tree records, as they stand in the text or inside a group, and their tokens. Machinery: the
+-- tokens of a reading's records are those of its elements.
+use Prim.Native.Nat.{ℕ, zero, suc, _+_, _-_, _*_, _/_, _≤_, _<_}
+use Prim.Native.String.{String}
+use mathlib.Core.Bool.{Bool, false, cond, _&&_, _||_}
+use mathlib.Core.List.{List, [], _∷_, _++_}
+use lib.Dec.{eqb, ltb}
+use lib.ListN.{length, getD, take, drop}
+use Rattle.text.specs.Quoted.{bytes}
+use Rattle.elements.specs.Elements.{nameKind, wordKind, numberKind, stringKind, patternKind, signKind}
+use Rattle.rule.specs.Trees.{parenKind, objectKind, blockKind}
+use Rattle.tables.specs.Records.{treeWidth, mostTrees}
+use Rattle.grammar.specs.Tokens.{Token, token, Spot, name, number, string, pattern, divide, plus, assign, colon, semicolon, dot, openParen, openBrace, returnWord, functionWord, ifWord}
+use Rattle.controls.specs.Machinery.Steps.{isOpener}
+
+-- the number of records among cells
+abbrev pub countOf : List ℕ → ℕ
+countOf cells = length cells / treeWidth
+
+-- a number of a record, or what stands for it past the last record
+abbrev pub cellOr : ℕ → List ℕ → ℕ → ℕ → ℕ
+cellOr default cells i place = cond (ltb i (countOf cells)) (getD cells (i * treeWidth + place) 0) default
+
+-- the numbers of a record: "kind; first byte; byte after the last; records in it with itself; 1 if a line end lies between it
+-- and the element before". Past the last record they are 0, and the first byte is that of the closer around it.
+unfoldable pub kindAt : List ℕ → ℕ → ℕ
+kindAt cells i = cellOr 0 cells i 0
+
+unfoldable pub placeAt : List ℕ → ℕ → ℕ → ℕ
+placeAt cells close i = cellOr close cells i 1
+
+unfoldable pub endAt : List ℕ → ℕ → ℕ
+endAt cells i = cellOr 0 cells i 2
+
+unfoldable pub sizeAt : List ℕ → ℕ → ℕ
+sizeAt cells i = cellOr 0 cells i 3
+
+unfoldable pub lineAt : List ℕ → ℕ → Bool
+lineAt cells i = eqb (cellOr 0 cells i 4) 1
+
+-- the closer of a group is its last byte
+unfoldable pub closerAt : List ℕ → ℕ → ℕ
+closerAt cells i = endAt cells i - 1
+
+-- Whether a length and a first byte are those of a word or sign. The reserved words that are taken, and the signs that are legal,
+-- differ in them.
+abbrev pub looks : String → ℕ → ℕ → Bool
+looks t len b = eqb len (length (bytes t)) && eqb b (getD (bytes t) 0 0)
+
+-- the class of a word, and of a sign, by its length and first byte; 0 for any other
+unfoldable pub wordBy : ℕ → ℕ → ℕ
+wordBy len b =
+    cond (looks "return" len b) returnWord
+    (cond (looks "function" len b) functionWord
+    (cond (looks "if" len b) ifWord
+    0))
+
+unfoldable pub signBy : ℕ → ℕ → ℕ
+signBy len b =
+    cond (looks "/" len b) divide
+    (cond (looks "+" len b) plus
+    (cond (looks "=" len b) assign
+    (cond (looks ":" len b) colon
+    (cond (looks ";" len b) semicolon
+    (cond (looks "." len b) dot
+    0)))))
+
+-- of a word or sign, by its kind
+unfoldable pub spelledBy : ℕ → ℕ → ℕ → ℕ
+spelledBy kind len b = cond (eqb kind signKind) (signBy len b) (wordBy len b)
+
+-- by the kind alone; 0 for that of words and of signs
+unfoldable pub kindBy : ℕ → ℕ
+kindBy kind =
+    cond (eqb kind nameKind) name
+    (cond (eqb kind numberKind) number
+    (cond (eqb kind stringKind) string
+    (cond (eqb kind patternKind) pattern
+    (cond (eqb kind parenKind) openParen
+    (cond (eqb kind objectKind) openBrace
+    (cond (eqb kind blockKind) openBrace
+    0))))))
+
+-- the class of a record's token, by its kind, its length and its first byte
+unfoldable pub classBy : ℕ → ℕ → ℕ → ℕ
+classBy kind len b = cond (eqb kind signKind || eqb kind wordKind) (spelledBy kind len b) (kindBy kind)
+
+-- of a text and cells; 0 past the last record
+unfoldable pub classAt : List ℕ → List ℕ → ℕ → ℕ
+classAt text cells i = classBy (kindAt cells i) (endAt cells i - placeAt cells 0 i) (getD text (placeAt cells 0 i) 0)
+
+-- the cells of a group's content: those of the records behind its own, as far as its size says
+unfoldable pub contentOf : List ℕ → ℕ → List ℕ
+contentOf cells i = take ((i + sizeAt cells i) * treeWidth - (i + 1) * treeWidth) (drop ((i + 1) * treeWidth) cells)
+
+-- A part: the text, the cells, the index of the first record in the whole table, and the place of the closer around it, or the
+-- text's length where there is none.
+pub record Segment : Type 0 where
+  pub text : List ℕ
+  pub cells : List ℕ
+  pub base : ℕ
+  pub close : ℕ
+
+abbrev pub segment : List ℕ → List ℕ → ℕ → ℕ → Segment
+segment text cells base close = record { text = text; cells = cells; base = base; close = close }
+
+-- the part inside a group
+abbrev pub inside : Segment → ℕ → Segment
+inside p i = segment (p .text) (contentOf (p .cells) i) (p .base + i + 1) (closerAt (p .cells) i)
+
+-- where a record stands, and where a group's closer does: it has no record, and no newline flag
+abbrev pub spotAt : Segment → ℕ → Spot
+spotAt p i = record { newline = lineAt (p .cells) i; mark = p .base + i; first = placeAt (p .cells) (p .close) i }
+
+abbrev pub closerSpot : Segment → ℕ → Spot
+closerSpot p i = record { newline = false; mark = p .base + i + sizeAt (p .cells) i; first = closerAt (p .cells) i }
+
+-- the tokens of a part from a record on, with as many steps as `fuel`
+abbrev pub tokensBy : ℕ → Segment → ℕ → List Token
+tokensBy zero p i = []
+tokensBy (suc fuel) p i =
+    cond (ltb i (countOf (p .cells)))
+    (token (classAt (p .text) (p .cells) i) (spotAt p i)
+    ∷ cond (isOpener (classAt (p .text) (p .cells) i))
+    (tokensBy fuel (inside p i) 0
+    ++ (token (classAt (p .text) (p .cells) i + 1) (closerSpot p i) ∷ tokensBy fuel p (i + sizeAt (p .cells) i)))
+    (tokensBy fuel p (i + 1)))
+    []
+
+-- the tokens of a part from a record on, closers included
+unfoldable pub tokensAt : Segment → ℕ → List Token
+tokensAt p i = tokensBy (suc (countOf (p .cells))) p i
+
+-- what a record of a part that can be parsed has: a class, and a size that fits, also within the groups around it
+pub record FineAt (text cells : List ℕ) (i : ℕ) : Type 0 where
+  pub known : 1 ≤ classAt text cells i
+  pub some : 1 ≤ sizeAt cells i
+  pub fits : i + sizeAt cells i ≤ countOf cells
+  pub nested : (j : ℕ) → i < j → j < i + sizeAt cells i → j + sizeAt cells j ≤ i + sizeAt cells i
+
+pub record Fine (p : Segment) : Type 0 where
+  pub few : p .base + countOf (p .cells) ≤ mostTrees
+  pub at : (i : ℕ) → i < countOf (p .cells) → FineAt (p .text) (p .cells) i

@@ -1,0 +1,90 @@
+// The class of a record: its kind tells it, and of a word or sign its length and first byte.
+ghost use mathlib.Core.Path.{_≡_};
+ghost use Rattle.segments.specs.Machinery.Segments.{wordBy, signBy, spelledBy, kindBy};
+use controls::classes;
+
+// The class of a reserved word that is taken, by its length and first byte.
+fn word_class(len: usize, b: u8) -> u32
+    ensures { λ r. ⌜ r ≡ wordBy len b ⌝ }
+{
+    if len == 2 {
+        if b == b'i' {
+            return classes::IF;
+        }
+        return 0;
+    }
+    if len == 6 {
+        if b == b'r' {
+            return classes::RETURN;
+        }
+        return 0;
+    }
+    if len == 8 {
+        if b == b'f' {
+            return classes::FUNCTION;
+        }
+        return 0;
+    }
+    0
+}
+
+// The class of a sign of one byte that is legal.
+fn single_class(b: u8) -> u32
+    ensures { λ r. ⌜ r ≡ signBy 1 b ⌝ }
+{
+    if b == b';' {
+        return classes::SEMICOLON;
+    }
+    if b == b'.' {
+        return classes::DOT;
+    }
+    if b == b'=' {
+        return classes::ASSIGN;
+    }
+    if b == b':' {
+        return classes::COLON;
+    }
+    if b == b'+' {
+        return classes::PLUS;
+    }
+    if b == b'/' {
+        return classes::DIVIDE;
+    }
+    0
+}
+
+// The class of a sign that is legal, by its length and first byte.
+fn sign_class(len: usize, b: u8) -> u32
+    ensures { λ r. ⌜ r ≡ signBy len b ⌝ }
+{
+    if len == 1 {
+        return single_class(b);
+    }
+    0
+}
+
+// The class of a word or sign.
+pub fn spelled_class(kind: u32, len: usize, b: u8) -> u32
+    ensures { λ r. ⌜ r ≡ spelledBy kind len b ⌝ }
+{
+    if kind == elements::SIGN {
+        return sign_class(len, b);
+    }
+    word_class(len, b)
+}
+
+// The class that a kind alone tells; 0 for that of words and of signs.
+pub fn kind_class(kind: u32) -> u32
+    ensures { λ r. ⌜ r ≡ kindBy kind ⌝ }
+{
+    match kind {
+        elements::NAME => classes::NAME,
+        elements::NUMBER => classes::NUMBER,
+        elements::STRING => classes::STRING,
+        elements::PATTERN => classes::PATTERN,
+        prefix::PARENS => classes::OPEN_PAREN,
+        prefix::OBJECT => classes::OPEN_BRACE,
+        prefix::BLOCK => classes::OPEN_BRACE,
+        _ => 0,
+    }
+}

@@ -1,0 +1,104 @@
+// Parts of the tree table: the numbers of a record, its class, and what is inside a group.
+ghost use mathlib.Core.Path.{_≡_};
+ghost use Prim.Native.Nat.{_+_, _-_, _≤_, _<_};
+ghost use lib.ListN.{getD};
+ghost use Rattle.tables.specs.Records.{treeWidth};
+ghost use Rattle.segments.specs.Machinery.Segments.{countOf, cellOr, placeAt, endAt, sizeAt, lineAt, closerAt, spelledBy, classAt, contentOf};
+use tables::TreeRecord;
+
+mod classes;
+
+// A number of a record; 0 past the last.
+fn cell(trees: &[u32], at: usize, place: usize) -> u32
+    requires { ⌜ place < treeWidth ⌝ }
+    ensures { λ r. ⌜ r ≡ cellOr 0 (now (trees .entry)) at place ⌝ }
+{
+    if at < trees.len() / TreeRecord::WIDTH {
+        return trees[at * TreeRecord::WIDTH + place];
+    }
+    0
+}
+
+// The first byte of a record, or the place of the closer past the last.
+pub fn place_at(trees: &[u32], close: usize, at: usize) -> usize
+    ensures { λ r. ⌜ r ≡ placeAt (now (trees .entry)) close at ⌝ }
+{
+    if at < trees.len() / TreeRecord::WIDTH {
+        return cell(trees, at, 1) as usize;
+    }
+    close
+}
+
+// How many records are in a record with itself; 0 past the last.
+pub fn size_at(trees: &[u32], at: usize) -> usize
+    ensures { λ r. ⌜ r ≡ sizeAt (now (trees .entry)) at ⌝ }
+{
+    cell(trees, at, 3) as usize
+}
+
+// Whether a line end lies before a record.
+pub fn newline_at(trees: &[u32], at: usize) -> bool
+    ensures { λ r. ⌜ r ≡ lineAt (now (trees .entry)) at ⌝ }
+{
+    cell(trees, at, 4) == 1
+}
+
+// The place of a group's closer.
+pub fn closer_at(trees: &[u32], at: usize) -> usize
+    ensures { λ r. ⌜ r ≡ closerAt (now (trees .entry)) at ⌝ }
+{
+    let end = cell(trees, at, 2) as usize;
+    if end == 0 {
+        return 0;
+    }
+    end - 1
+}
+
+// A byte of the text; 0 past its end.
+fn byte_at(text: &[u8], place: usize) -> u8
+    ensures { λ r. ⌜ r ≡ getD (now (text .entry)) place 0 ⌝ }
+{
+    if place < text.len() {
+        return text[place];
+    }
+    0
+}
+
+// The class of a record of that kind, a word or sign.
+fn spelled_at(text: &[u8], trees: &[u32], at: usize, kind: u32) -> u32
+    ensures { λ r. ⌜ r
+        ≡ spelledBy kind (endAt (now (trees .entry)) at - placeAt (now (trees .entry)) 0 at) (getD (now (text .entry)) (placeAt (now (trees .entry)) 0 at) 0) ⌝ }
+{
+    let first = cell(trees, at, 1) as usize;
+    let end = cell(trees, at, 2) as usize;
+    if end < first {
+        return 0;
+    }
+    let b = byte_at(text, first);
+    classes::spelled_class(kind, end - first, b)
+}
+
+// The class of a record; 0 past the last.
+pub fn class_at(text: &[u8], trees: &[u32], at: usize) -> u32
+    ensures { λ r. ⌜ r ≡ classAt (now (text .entry)) (now (trees .entry)) at ⌝ }
+{
+    let kind = cell(trees, at, 0);
+    if kind == elements::SIGN {
+        return spelled_at(text, trees, at, kind);
+    }
+    if kind == elements::WORD {
+        return spelled_at(text, trees, at, kind);
+    }
+    classes::kind_class(kind)
+}
+
+// The records inside a group.
+pub fn inside(trees: &[u32], at: usize) -> &[u32]
+    requires { ⌜ (1 ≤ sizeAt (now trees) at) × (at + sizeAt (now trees) at ≤ countOf (now trees)) ⌝ }
+    ensures { λ r. ⌜ now r ≡ contentOf (now (trees .entry)) at ⌝ }
+{
+    let size = size_at(trees, at);
+    let first = (at + 1) * TreeRecord::WIDTH;
+    let end = (at + size) * TreeRecord::WIDTH;
+    &trees[first..end]
+}
