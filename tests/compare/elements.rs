@@ -1,4 +1,5 @@
-//! Elements, as document 01 states them: blanks and comments, then the element that stands there under a slash choice.
+//! Elements, as document 01 states them: blanks and comments, then the element that stands there under a slash choice. A reserved word
+//! is cut as a word; what it is in its place (document 02, U1) is asked afterwards.
 
 /// A refusal: number and place.
 pub type Fault = (u32, usize);
@@ -22,6 +23,10 @@ pub enum Class {
     Return,
     Function,
     If,
+    /// A reserved word that is not taken here.
+    BarredWord,
+    /// A reserved word that is a name.
+    WordAsName,
 }
 
 #[derive(Clone, Copy, PartialEq, Eq, Debug)]
@@ -37,12 +42,22 @@ impl Element {
     /// Kind of the tree record of an element that is no delimiter.
     pub fn kind(self) -> u32 {
         match self.class {
-            Class::Name => 1,
+            Class::Name | Class::WordAsName => 1,
             Class::Return | Class::Function | Class::If => 2,
             Class::Number => 3,
             Class::Text => 4,
             Class::Pattern => 5,
             _ => 6,
+        }
+    }
+
+    /// What the element may be: a reserved word may be a name, and one that is not taken can be nothing else.
+    pub fn readings(self) -> Vec<Element> {
+        let name = Element { class: Class::WordAsName, ..self };
+        match self.class {
+            Class::Return | Class::Function | Class::If => vec![self, name],
+            Class::BarredWord => vec![name],
+            _ => vec![self],
         }
     }
 }
@@ -201,7 +216,7 @@ pub fn element(text: &[u8], first: usize, line: bool, pattern: bool) -> Result<E
             b"return" => made(Class::Return, end),
             b"function" => made(Class::Function, end),
             b"if" => made(Class::If, end),
-            _ if words().iter().any(|word| word.as_bytes() == name) => Err((7, first)),
+            _ if words().iter().any(|word| word.as_bytes() == name) => made(Class::BarredWord, end),
             _ => made(Class::Name, end),
         };
     }

@@ -1,4 +1,4 @@
-//! The grammar of document 01 as rules, and a recogniser that keeps every way in which the elements so far can be the
+//! The grammar of document 01 as rules (with document 02, U1), and a recogniser that keeps every way in which the elements so far can be the
 //! beginning of a program (Earley's). So `first element with which the elements so far begin no program` is found by its definition.
 
 use crate::elements::{Class, Element};
@@ -37,6 +37,7 @@ const RULES: &[&str] = &[
     "Chain: Start",
     "Chain: Chain ( Assign )",
     "Chain: Chain . name",
+    "Chain: Chain . word",
     "Start: name",
     "Start: number",
     "Start: string",
@@ -80,6 +81,7 @@ pub enum Verdict {
 fn terminal(word: &str) -> Option<Symbol> {
     Some(Symbol::Element(match word {
         "name" => Class::Name,
+        "word" => Class::WordAsName,
         "number" => Class::Number,
         "string" => Class::Text,
         "pattern" => Class::Pattern,

@@ -202,12 +202,15 @@ impl Comparison {
             return;
         }
         let patterns: &[bool] = if slash_met(text, at) { &[false, true] } else { &[false] };
-        for &pattern in patterns {
-            if let Ok(next) = element(text, at, line, pattern) {
-                so_far.push(next);
+        let cut = patterns.iter().filter_map(|&pattern| element(text, at, line, pattern).ok());
+        let answers: Vec<Element> = cut.flat_map(Element::readings).collect();
+        for &next in &answers {
+            so_far.push(next);
+            // What begins no program comes to none, whatever is chosen later.
+            if answers.len() == 1 || !matches!(self.grammar.verdict(so_far), Verdict::Dead(_)) {
                 self.choices(text, next.end, so_far, found);
-                so_far.pop();
             }
+            so_far.pop();
         }
     }
 
@@ -328,7 +331,13 @@ impl Comparison {
         }
     }
 
-    /// The implementation here against the readings that document 01 gives.
+    fn words_after_dots(&mut self) {
+        for text in texts::words_after_dots() {
+            self.text(&text, false);
+        }
+    }
+
+    /// The implementation here against the readings that document 01 gives, and document 02 for U1.
     fn readings(&mut self) {
         type Case = (&'static str, Answer, Answer);
         let cases: &[Case] = &[
@@ -355,7 +364,8 @@ impl Comparison {
             ("({)", Err((10, 2)), Err((10, 2))),
             ("while", Err((7, 0)), Err((7, 0))),
             ("1.x", Err((6, 0)), Err((6, 0))),
-            ("a.if(b)/c/;", Ok(7), Err((13, 2))),
+            ("a.if(b)/c/;", Ok(9), Err((13, 10))),
+            ("a.if(b)/c/d;", Ok(10), Ok(10)),
             ("a = {b: /)/} / c;", Ok(9), Ok(8)),
         ];
         for &(text, trees, records) in cases {
@@ -399,6 +409,7 @@ fn compare(number: usize) -> bool {
     let mut comparison = Comparison { grammar: Grammar::new(), random: Random(1), texts: 0, programs: 0, calls: 0, differences: 0 };
     comparison.readings();
     comparison.limits();
+    comparison.words_after_dots();
     comparison.sequences(4);
     comparison.random_texts(number);
     comparison.long_texts(number / 2000);

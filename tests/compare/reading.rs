@@ -1,4 +1,4 @@
-//! Reading and respacing, as document 01 states them: the prefix rule, tree records, refusals 1 to 12 and 15.
+//! Reading and respacing, as document 01 states them: the prefix rule, tree records, refusals 1 to 12 and 15. With document 02, U1.
 
 use crate::elements::{element, gap, Class, Element, Fault};
 
@@ -56,8 +56,17 @@ impl Level {
             Some(Return | Function | If) => true,
             Some(OpenParen) => self.class(2) == Some(If),
             Some(OpenBrace) => trees[self.trees[self.trees.len() - 1].0][0] == BLOCK,
-            Some(Name | Number | Text | Pattern) => false,
-            Some(CloseParen | CloseBrace) => unreachable!("a closer is no tree"),
+            Some(Name | WordAsName | Number | Text | Pattern) => false,
+            Some(CloseParen | CloseBrace | BarredWord) => unreachable!("no tree"),
+        }
+    }
+
+    /// What an element is here: a reserved word whose last tree is a dot becomes a name; elsewhere one that is not taken is refused.
+    fn settled(&self, found: Element) -> Result<Element, Fault> {
+        match (found.class, self.class(1)) {
+            (Class::Return | Class::Function | Class::If | Class::BarredWord, Some(Class::Dot)) => Ok(Element { class: Class::WordAsName, ..found }),
+            (Class::BarredWord, _) => Err((7, found.first)),
+            _ => Ok(found),
         }
     }
 }
@@ -82,7 +91,7 @@ pub fn reading(text: &[u8], room: usize) -> Result<Reading, Fault> {
                 None => Ok(Reading { trees, elements }),
             };
         }
-        let found = element(text, at, line, level.opens_pattern(&trees))?;
+        let found = level.settled(element(text, at, line, level.opens_pattern(&trees))?)?;
         from = found.end;
         match found.class {
             Class::CloseParen | Class::CloseBrace => {

@@ -167,8 +167,11 @@ impl Descent<'_> {
                 }
                 Some(Class::Dot) => {
                     let name = next + 1;
-                    next = self.expect(name, Class::Name)?;
+                    if !matches!(self.class(name), Some(Class::Name | Class::WordAsName)) {
+                        return Err(name);
+                    }
                     self.made(8, name, start);
+                    next = name + 1;
                 }
                 _ => return Ok(next),
             }

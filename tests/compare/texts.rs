@@ -1,5 +1,6 @@
 //! Texts to compare over: a fixed sequence of random numbers, programs made from the grammar, damage, and texts near each limit.
 
+use crate::elements::words;
 use crate::reading::{DEEPEST, LONGEST_TEXT, MOST_TREES};
 
 /// SplitMix64: the same numbers on every run.
@@ -29,14 +30,14 @@ impl Random {
 
 /// The pieces whose every short sequence is compared.
 pub const PIECES: &[&str] = &[
-    "a", "1", "'s'", "/", "/a/", "+", "=", ":", ";", ".", "(", ")", "{", "}", "return", "function", "if", "\n", "/*c*/", "//c\n",
+    "a", "1", "'s'", "/", "/a/", "+", "=", ":", ";", ".", "(", ")", "{", "}", "return", "function", "if", "while", "\n", "/*c*/", "//c\n",
 ];
 
 /// Pieces for longer random sequences: the same, and whole phrases.
 const PHRASES: &[&str] = &[
     "a", "b", "1", "0", "'s'", "\"/\"", "/", "/", "/a/", "/[/]/g", "+", "=", ":", ";", ";", ".", "(", ")", "{", "}", "return", "function", "if", "\n",
     "\r", "\t", "/*c*/", "/*\n*/", "//c\n", "if(a)", "function f(x){}", "function f(x){", "{}", "(a)", "{a:1}", "{a:", "a:", "x=", "a;", ".b", "return;",
-    "return a;", "while", "++", "/=", ".5", "1.", "'", "#", "\u{7f}",
+    "return a;", "while", "++", "/=", ".5", "1.", "'", "#", "\u{7f}", ".if", ".return", ".function", ".while", "a.if(b)", ".\nclass", "./*c*/if(b)", ".//c\nin",
 ];
 
 const NAMES: &[&str] = &["a", "b", "f", "$", "_x1", "ifx", "returns", "x", "nulls", "i"];
@@ -187,7 +188,7 @@ impl Maker<'_> {
             if self.random.one_in(2) {
                 self.parentheses();
             } else {
-                let name = self.random.of(NAMES);
+                let name = if self.random.one_in(3) { self.random.of(&words()) } else { self.random.of(NAMES) };
                 self.put(&[".", name]);
             }
         }
@@ -244,7 +245,7 @@ pub fn damage(random: &mut Random, text: &mut Vec<u8>) {
     const BYTES: &[u8] = b"a1'\"/+=:;.(){}\n\r \\[]*#_0\t\0\x7f\xc3,<if";
     let byte = BYTES[random.below(BYTES.len())];
     let at = random.below(text.len() + 1);
-    match random.below(6) {
+    match random.below(8) {
         0 if at < text.len() => text[at] = byte,
         1 if at < text.len() => {
             text.remove(at);
@@ -254,6 +255,14 @@ pub fn damage(random: &mut Random, text: &mut Vec<u8>) {
         4 => {
             let end = (at + random.below(8)).min(text.len());
             text.drain(at..end);
+        }
+        5 => {
+            let (gap, word) = (random.of(GAPS), random.of(&words()));
+            text.splice(at..at, [".", gap, word].concat().bytes());
+        }
+        6 => {
+            let word = random.of(&words());
+            text.splice(at..at, word.bytes());
         }
         _ => {
             let piece = PHRASES[random.below(PHRASES.len())];
@@ -272,6 +281,44 @@ pub fn pieces(random: &mut Random, count: usize) -> Vec<u8> {
         text.push_str(blank);
     }
     text.into_bytes()
+}
+
+/// Each reserved word behind a dot, with each gap between and each thing that may follow; and where the dot is not its last tree.
+pub fn words_after_dots() -> Vec<Vec<u8>> {
+    const FORMS: &[(&str, &str)] = &[
+        ("a.", "(b)/c/d;"),
+        ("a.", "(b)/c/;"),
+        ("a.", "/b/c;"),
+        ("a.", "{}/b/c"),
+        ("a.", ";"),
+        ("a.", ""),
+        ("a.", "x;"),
+        ("a.b.", ".c=d;"),
+        ("a..", ";"),
+        (".", ";"),
+        ("if.", ";"),
+        ("a.if ", ";"),
+        ("(a.)", "(b)/c/;"),
+        ("{a.}", "(b)/c/;"),
+        ("a.(", ")"),
+        ("a.{", "}"),
+        ("a.", " f(x){}/b/;"),
+        ("x=a.", " f(x){}/b/c;"),
+        ("x={a:b.", "/c/d};"),
+        ("return a.", "(b)/c/d;"),
+        ("a ", ";"),
+        ("a=", ";"),
+        ("", ":a;"),
+    ];
+    let mut texts = Vec::new();
+    for word in words() {
+        for (before, after) in FORMS {
+            for gap in ["", " ", "\n", "/*c*/", "/*\n*/", "//c\n"] {
+                texts.push([before, gap, word, after].concat().into_bytes());
+            }
+        }
+    }
+    texts
 }
 
 /// Random bytes: of all, or of those that make elements.
@@ -308,6 +355,7 @@ pub fn longest_runs() -> Vec<(&'static str, Vec<u8>)> {
         run("assignments", "", "a=", 2, "a;", 2),
         run("calls", "a", "(a)", 2, ";", 2),
         run("members", "a", ".a", 2, ";", 2),
+        run("words as members", "a", ".in", 2, ";", 2),
         run("members and calls", "a", ".a(b)", 4, ";", 2),
         run("divides", "a", "/a", 2, ";", 2),
         run("pluses", "a", "+a", 2, ";", 2),
@@ -393,6 +441,9 @@ pub fn limits() -> Vec<Vec<u8>> {
             }
         }
         texts.push(repeated("", "a;", count / 2, "while"));
+        texts.push(repeated("", ".while", count / 2, ""));
+        texts.push(repeated("", ".while", count / 2, ".if"));
+        texts.push(repeated("", "a.in;", count / 4, "while"));
         texts.push(repeated("", "a;", count / 2, "(((1.x"));
         texts.push(repeated("", "a;", count / 2, ")"));
     }

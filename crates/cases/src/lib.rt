@@ -1,13 +1,9 @@
-// What the test programs share: cases, one to a line, how a line spells its text and its numbers, and how answers and tables are
-// printed.
+// What the test programs share: cases, one to a line, and how a line spells its text and its numbers.
 ghost use Prim.Native.Nat.{_≤_};
 ghost use lib.ListN.{length};
 
 pub mod number;
-pub mod outputs;
-pub mod print;
 pub mod spelling;
-pub mod table;
 
 // The line end from `at` on, or the end of the input.
 pub fn line_end(input: &[u8], at: usize) -> usize

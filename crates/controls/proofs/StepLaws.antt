@@ -3,7 +3,7 @@ use mathlib.Core.Path.{_≡_, subst}
 use mathlib.Core.List.{[], _∷_}
 use Prim.Native.Nat.{ℕ}
 use lib.Dec.{T}
-use Rattle.grammar.specs.Machinery.Machine.{Control, goto, push, on, look}
+use Rattle.grammar.specs.Machinery.Machine.{Control, goto, push, on, look, names}
 use Rattle.controls.specs.Machinery.Numbers.{controlBy, controlOf, effectBy, closingBy, insideBy}
 use Rattle.controls.specs.declared.Control as code
 use Rattle.controls.specs.declared.Step.{Step}
@@ -26,6 +26,13 @@ module _ {from : Control} {class : ℕ} {to : code.Control} {behind : Control} (
       → Means from class (Push to closing) (push (insideBy closing) behind (closingBy closing))
   opens-group {closing} opener spans =
       subst (λ (x : Control). Spans (closingBy closing) from x → Means from class (Push to closing) (push (insideBy closing) x (closingBy closing))) e (means-push opener) spans
+
+-- what `only_names` ensures, of a control that is known
+pub names-to : {from to : Control} {class : ℕ} {step : Step} (next : code.Control) (effect : ℕ) → controlOf next ≡ to
+    → ((x : Control) → Leads (effectBy effect class) x (controlOf next) → Means x class step (look class (names (goto (controlOf next) (effectBy effect class)) [])))
+    → Leads (effectBy effect class) from to → Means from class step (look class (names (goto to (effectBy effect class)) []))
+names-to {from} {class = class} {step = step} next effect e h =
+    subst (λ (to : Control). Leads (effectBy effect class) from to → Means from class step (look class (names (goto to (effectBy effect class)) []))) e (h from)
 
 -- what `only` and `opens` ensure, of a control that is known
 module _ {class : ℕ} {step : Step} (next : code.Control) (one : ℕ) where

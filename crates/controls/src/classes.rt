@@ -39,6 +39,9 @@ pub const FUNCTION: u32 = 137;
 
 pub const IF: u32 = 138;
 
+// A reserved word that is taken as a name. Its record has the class of a name, so no record has this one: it is in the machine's table.
+pub const WORD_NAME: u32 = 139;
+
 // How tight an operator binds; 0 for a class that is none.
 pub fn precedence(class: u32) -> u32
     ensures { λ r. ⌜ r ≡ precedence class ⌝ }

@@ -6,7 +6,7 @@ ghost use mathlib.Core.List.{[], _∷_};
 ghost use Prim.Native.Nat.{_≤_};
 ghost use lib.Dec.{T};
 ghost use Rattle.grammar.specs.Tokens.{semicolon, functionWord};
-ghost use Rattle.grammar.specs.Machinery.Machine.{behindStatement, statementDue, returnFirst, operandDue, operandDone, on, goto, push, look, operand, noStatement, endingEntry, afterOperand, row};
+ghost use Rattle.grammar.specs.Machinery.Machine.{behindStatement, statementDue, returnFirst, operandDue, operandDone, on, goto, push, look, names, operand, noStatement, endingEntry, afterOperand, row};
 ghost use Rattle.controls.specs.Machinery.Numbers.{settingBy, endingBy, controlBy, controlOf, effectBy, closingBy, insideBy};
 ghost use Rattle.controls.specs.Machinery.Steps.{isOpener, isEnd, isSingle, Due, Leads, Spans, Means, Settled, Ends};
 
@@ -271,6 +271,19 @@ fn only(class: u32, one: u32, next: Control, effect: u32) -> Step
     Step::Fail
 }
 
+// A name goes on, and so does a reserved word that is taken as one; no other class does.
+fn only_names(class: u32, next: Control, effect: u32) -> Step
+    ensures { λ r. ⌜ ((from : Rattle.grammar.specs.Machinery.Machine.Control) → Leads (effectBy effect class) from (controlOf next) → Means from class r (look class (names (goto (controlOf next) (effectBy effect class)) []))) ⌝ }
+{
+    if class == classes::NAME {
+        return Step::Goto(next, effect);
+    }
+    if class == classes::WORD_NAME {
+        return Step::Goto(next, effect);
+    }
+    Step::Fail
+}
+
 // One class opens a group, and no other does anything.
 fn opens(class: u32, one: u32, behind: Control, closing: u32) -> Step
     ensures { λ r. ⌜ ((from : Rattle.grammar.specs.Machinery.Machine.Control) → T (isOpener one) → Spans (closingBy closing) from (controlOf behind) → Means from class r (look class (on one (push (insideBy closing) (controlOf behind) (closingBy closing)) ∷ []))) ⌝ }
@@ -287,9 +300,8 @@ fn form_row(at: Control, class: u32) -> Step
 {
     let place = at.place;
     match place {
-        DOT_LAST => only(
+        DOT_LAST => only_names(
             class,
-            classes::NAME,
             stand(OPERAND_DONE, at.ending, at.setting, at.flag),
             TAKE_MEMBER,
         ),

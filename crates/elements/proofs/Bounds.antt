@@ -1,7 +1,7 @@
 -- Where elements and their faults lie: not before the place from which they are looked for, and within the text.
 use mathlib.Core.Path.{_≡_, refl}
 use mathlib.Core.List.{List, [], _∷_}
-use mathlib.Core.Bool.{Bool, true, false, cond, _&&_}
+use mathlib.Core.Bool.{Bool, true, false, cond, _&&_, _||_}
 use Prim.Native.Nat.{ℕ, _+_, _<_, _≤_}
 use native.Mathlib.Omega.{arith}
 use borrow.Author.Tests.{leb-true, leb-false}
@@ -39,6 +39,7 @@ use Rattle.gaps.specs.declared.Gap.{Gap}
 use Rattle.literals.specs.declared.Literal.{Literal}
 use Rattle.elements.specs.declared.Element.{Element}
 use Rattle.elements.specs.declared.Next.{Next}
+use Rattle.elements.specs.declared.Stated.{Stated}
 use Rattle.elements.proofs.Choices.{cond-both, cond-known}
 use Rattle.elements.proofs.Extents.{Faulted, GapIn, gap-in, LiteralIn, string-in, pattern-in, number-in}
 use Rattle.gaps.proofs.GapLaws.{gap-past}
@@ -66,14 +67,14 @@ module _ (newline : Bool) (first hi b : ℕ) (s : List ℕ) (fits : first + 1 + 
       → Cut newline first hi (record { kind = kind; which = which; first = first; end = first + n; newline = newline })
   cut n h k kind which = record { start = refl; flag = refl; some = omega arith; within = omega arith }
 
-  named-in : letter b ≡ true → NextIn newline first hi (named newline first (b ∷ s))
+  named-in : (asName : Bool) → letter b ≡ true → NextIn newline first hi (named asName newline first (b ∷ s))
   unfolding named nameByte
-  named-in l =
+  named-in asName l =
       let n = run nameByte (b ∷ s) in
       let h : 1 ≤ n = run-some nameByte b s (rw l) in
       let k : n ≤ 1 + length s = omega (arith, run-le nameByte (b ∷ s)) in
       let word = wordNumber (take n (b ∷ s)) in
-      cond-both (NextIn newline first hi) (eqb word 0) (cut n h k nameKind 0)
+      cond-both (NextIn newline first hi) (eqb word 0 || asName) (cut n h k nameKind word)
       (cond-both (NextIn newline first hi) (taken word) (cut n h k wordKind word)
       (omega arith))
 
@@ -84,25 +85,25 @@ module _ (newline : Bool) (first hi b : ℕ) (s : List ℕ) (fits : first + 1 + 
       cond-both (NextIn newline first hi) legal
       (cut n (f .0) (omega arith) (cond (delimiter number) delimiterKind signKind) number) (omega arith)
 
-  cons-in : (pattern : Bool) → NextIn newline first hi (elementFrom pattern newline first (b ∷ s))
+  cons-in : (stated : Stated) → NextIn newline first hi (elementFrom stated newline first (b ∷ s))
   unfolding elementFrom
-  cons-in pattern =
+  cons-in stated =
       let P = NextIn newline first hi in
       let low = first + 1 in
       let h : first < low = omega arith in
-      cond-known P (letter b) named-in (λ x.
+      cond-known P (letter b) (named-in (stated .name)) (λ x.
       cond-known P (digit b) (λ d. literal-in numberKind first (omega arith) (numberFrom first (b ∷ s)) (number-in b s d first hi fits)) (λ x.
       cond-both P (quote b)
       (literal-in stringKind low (omega arith) (stringRest b first false low s) (string-in first low hi h s b low false (omega arith) fits))
-      (cond-both P (pattern && eqb b (byte "/"))
+      (cond-both P (stated .pattern && eqb b (byte "/"))
       (literal-in patternKind low (omega arith) (patternRest first false false low s) (pattern-in first low hi h s low false false (omega arith) fits))
       (cond-both P (eqb b (byte ".") && digit (getD s 0 0)) (omega arith)
       (sign-in (longestSign (b ∷ s)) refl)))))
 
-pub from-in : (pattern newline : Bool) (first hi : ℕ) (s : List ℕ) → first + length s ≡ hi → NextIn newline first hi (elementFrom pattern newline first s)
+pub from-in : (stated : Stated) (newline : Bool) (first hi : ℕ) (s : List ℕ) → first + length s ≡ hi → NextIn newline first hi (elementFrom stated newline first s)
 unfolding elementFrom
-from-in pattern newline first hi [] e = tt
-from-in pattern newline first hi (b ∷ s) e = cons-in newline first hi b s (omega arith) pattern
+from-in stated newline first hi [] e = tt
+from-in stated newline first hi (b ∷ s) e = cons-in newline first hi b s (omega arith) stated
 
 -- an element that was looked for from a place on
 pub record Placed (s : List ℕ) (place : ℕ) (e : Element) : Type 0 where
@@ -115,39 +116,39 @@ NextPlaced s place Next.End = Unit
 NextPlaced s place (Next.Found e) = Placed s place e
 NextPlaced s place (Next.Fault number at) = Faulted place (length s) number at
 
-module _ (s : List ℕ) (place : ℕ) (pattern : Bool) where
+module _ (s : List ℕ) (place : ℕ) (stated : Stated) where
   later : (newline : Bool) (first : ℕ) → place ≤ first → (n : Next) → NextIn newline first (length s) n → NextPlaced s place n
   later newline first h Next.End p = tt
   later newline first h (Next.Found e) p = record { from = omega arith; some = omega arith; within = p .within }
   later newline first h (Next.Fault number at) p = omega arith
 
-  after-in : (g : Gap) → GapIn place place (length s) g → NextPlaced s place (afterGap s pattern g)
+  after-in : (g : Gap) → GapIn place place (length s) g → NextPlaced s place (afterGap s stated g)
   after-in (Gap.Ends first newline) p =
-      later newline first (p .0) (elementFrom pattern newline first (drop first s))
-      (from-in pattern newline first (length s) (drop first s) (omega (arith, length-drop first s)))
+      later newline first (p .0) (elementFrom stated newline first (drop first s))
+      (from-in stated newline first (length s) (drop first s) (omega (arith, length-drop first s)))
   after-in (Gap.Fault number at) p = p
 
-  at-in : place ≤ length s → NextPlaced s place (elementAt s place pattern)
+  at-in : place ≤ length s → NextPlaced s place (elementAt s place stated)
   unfolding elementAt
   at-in h =
       after-in (gap place false (drop place s))
       (gap-in place place (length s) (omega arith) (drop place s) place false (omega arith) (omega (arith, length-drop place s)))
 
-  pub past-end : length s ≤ place → elementAt s place pattern ≡ Next.End
+  pub past-end : length s ≤ place → elementAt s place stated ≡ Next.End
   unfolding elementAt
-  past-end h = rw (gap-past s place false h) (from-past pattern false s place h)
+  past-end h = rw (gap-past s place false h) (from-past stated false s place h)
 
-  placed : NextPlaced s place (elementAt s place pattern)
+  placed : NextPlaced s place (elementAt s place stated)
   placed = go (leb (length s) place) refl
     where
-      go : (t : Bool) → leb (length s) place ≡ t → NextPlaced s place (elementAt s place pattern)
+      go : (t : Bool) → leb (length s) place ≡ t → NextPlaced s place (elementAt s place stated)
       go true e = rw (past-end (leb-true (length s) place e)) tt
       go false e = at-in (omega (arith, leb-false (length s) place e))
 
-  pub found-placed : (e : Element) → elementAt s place pattern ≡ Next.Found e → Placed s place e
+  pub found-placed : (e : Element) → elementAt s place stated ≡ Next.Found e → Placed s place e
   found-placed e f = rw f at placed
 
-  module _ (number at : ℕ) (f : elementAt s place pattern ≡ Next.Fault number at) where
+  module _ (number at : ℕ) (f : elementAt s place stated ≡ Next.Fault number at) where
     pub fault-placed : (place ≤ at) × (at < length s)
     fault-placed = let p : Faulted place (length s) number at = rw f at placed in (p .from, p .within)
 

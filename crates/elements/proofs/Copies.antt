@@ -39,6 +39,7 @@ use Rattle.elements.specs.Elements.{
 use Rattle.literals.specs.declared.Literal.{Literal}
 use Rattle.elements.specs.declared.Element.{Element}
 use Rattle.elements.specs.declared.Next.{Next}
+use Rattle.elements.specs.declared.Stated.{Stated}
 use Rattle.elements.proofs.Choices.{cond-both, cond-known, cond-follow}
 use Rattle.elements.proofs.Clashes.{no-element}
 use Rattle.elements.proofs.Bounds.{Cut, from-in}
@@ -67,21 +68,21 @@ module _ (x : ℕ) (v : List ℕ) (separates : (blank x || lineEnd x) ≡ true) 
     literal-own kind (Literal.Ends end) m g f = rw (g (ap Literal.Ends (same-size kind 0 end f))) (found-own kind 0 end f)
     literal-own kind (Literal.Fault number at) m g f = no-element f
 
-    word-own : (word n : ℕ) → wordOrName word newline first n ≡ Next.Found e
-        → (n ≡ first + k) × (wordOrName word lined there (there + k) ≡ moved there lined k e)
-    word-own word n f = (
-      cond-both (λ z. z ≡ Next.Found e → n ≡ first + k) (eqb word 0) (same-size nameKind 0 n)
+    word-own : (asName : Bool) (word n : ℕ) → wordOrName asName word newline first n ≡ Next.Found e
+        → (n ≡ first + k) × (wordOrName asName word lined there (there + k) ≡ moved there lined k e)
+    word-own asName word n f = (
+      cond-both (λ z. z ≡ Next.Found e → n ≡ first + k) (eqb word 0 || asName) (same-size nameKind word n)
           (cond-both (λ z. z ≡ Next.Found e → n ≡ first + k) (taken word) (same-size wordKind word n) no-element) f,
-      cond-follow (eqb word 0) (found-own nameKind 0 n)
+      cond-follow (eqb word 0 || asName) (found-own nameKind word n)
           (cond-follow (taken word) (found-own wordKind word n) no-element) f,
     )
 
     module _ (s : List ℕ) where
-      named-own : named newline first s ≡ Next.Found e → named lined there (take k s ++ x ∷ v) ≡ moved there lined k e
+      named-own : (asName : Bool) → named asName newline first s ≡ Next.Found e → named asName lined there (take k s ++ x ∷ v) ≡ moved there lined k e
       unfolding named
-      named-own f =
+      named-own asName f =
           let n = run nameByte s in
-          let w = word-own (wordNumber (take n s)) (first + n) f in
+          let w = word-own asName (wordNumber (take n s)) (first + n) f in
           let q : n ≡ k = omega arith in
           let r : run nameByte (take k s ++ x ∷ v) ≡ k = run-own nameByte x v (no-name x separates) s k (omega arith) ∙ q in
           let h : k ≤ length s = omega (arith, run-le nameByte s) in
@@ -104,14 +105,14 @@ module _ (x : ℕ) (v : List ℕ) (separates : (blank x || lineEnd x) ≡ true) 
   second-own t [] (suc k) h e = absurd (omega arith)
   second-own t (b ∷ s) (suc k) h e = e
 
-  module _ (e : Element) (first there : ℕ) (pattern newline lined : Bool) where
-    pub from-own : (s : List ℕ) (k : ℕ) → k ≤ length s → e .end ≡ first + k → elementFrom pattern newline first s ≡ Next.Found e
-        → elementFrom pattern lined there (take k s ++ x ∷ v) ≡ moved there lined k e
+  module _ (e : Element) (first there : ℕ) (stated : Stated) (newline lined : Bool) where
+    pub from-own : (s : List ℕ) (k : ℕ) → k ≤ length s → e .end ≡ first + k → elementFrom stated newline first s ≡ Next.Found e
+        → elementFrom stated lined there (take k s ++ x ∷ v) ≡ moved there lined k e
     unfolding elementFrom
     from-own [] k h p f = absurd (let z : _≡_ {A = ℕ} 0 1 = cc in omega arith)
     from-own (b ∷ s) zero h p f =
         let hi = first + length (b ∷ s) in
-        let c : Cut newline first hi e = rw f at (from-in pattern newline first hi (b ∷ s) refl) in
+        let c : Cut newline first hi e = rw f at (from-in stated newline first hi (b ∷ s) refl) in
         absurd (omega arith)
     from-own (b ∷ s) (suc k) h p f =
         let h₁ : k ≤ length s = omega arith in
@@ -120,7 +121,7 @@ module _ (x : ℕ) (v : List ℕ) (separates : (blank x || lineEnd x) ≡ true) 
         cond (eqb b (byte ".") && digit (getD rest 0 0)) (Next.Fault badNumber there) (signOrStray lined there (longestSign (b ∷ rest))) in
         let end = first + suc k in
         let ends = there + suc k in
-        cond-follow (letter b) (named-own e first there (suc k) newline lined p (b ∷ s))
+        cond-follow (letter b) (named-own e first there (suc k) newline lined p (b ∷ s) (stated .name))
         (cond-follow (digit b)
         (literal-own e first there (suc k) newline lined p numberKind (numberFrom first (b ∷ s)) (numberFrom there (b ∷ rest))
         (number-own x v separates end ends b s k first there h₁ refl refl))
@@ -128,7 +129,7 @@ module _ (x : ℕ) (v : List ℕ) (separates : (blank x || lineEnd x) ≡ true) 
         (literal-own e first there (suc k) newline lined p stringKind
         (stringRest b first false (first + 1) s) (stringRest b there false (there + 1) rest)
         (string-own x v separates end ends s k b first there (first + 1) (there + 1) false (omega arith) (omega arith) (omega arith)))
-        (cond-follow (pattern && eqb b (byte "/"))
+        (cond-follow (stated .pattern && eqb b (byte "/"))
         (literal-own e first there (suc k) newline lined p patternKind
         (patternRest first false false (first + 1) s) (patternRest there false false (there + 1) rest)
         (pattern-own x v separates end ends s k first there (first + 1) (there + 1) false false (omega arith) (omega arith) (omega arith)))

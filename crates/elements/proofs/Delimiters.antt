@@ -1,7 +1,7 @@
 -- A delimiter that is found is one byte long, and `which` says which of the four it is.
 use mathlib.Core.Path.{_≡_, refl, ap, _∙_}
 use mathlib.Core.List.{List, [], _∷_}
-use mathlib.Core.Bool.{Bool, true, false, cond, _&&_}
+use mathlib.Core.Bool.{Bool, true, false, cond, _&&_, _||_}
 use Prim.Native.Nat.{ℕ, _+_, _<_}
 use native.Mathlib.Omega.{arith}
 use lib.Dec.{eqb}
@@ -22,6 +22,7 @@ use Rattle.gaps.specs.declared.Gap.{Gap}
 use Rattle.literals.specs.declared.Literal.{Literal}
 use Rattle.elements.specs.declared.Element.{Element}
 use Rattle.elements.specs.declared.Next.{Next}
+use Rattle.elements.specs.declared.Stated.{Stated}
 use Rattle.elements.proofs.Choices.{cond-both, cond-known}
 
 abbrev OneByte : Next → Type 0
@@ -33,11 +34,11 @@ literal-byte : (kind : ℕ) → 0 < kind → (newline : Bool) (first : ℕ) (l :
 literal-byte kind h newline first (Literal.Ends end) = λ k. absurd (omega arith)
 literal-byte kind h newline first (Literal.Fault number place) = tt
 
-named-byte : (newline : Bool) (first : ℕ) (s : List ℕ) → OneByte (named newline first s)
+named-byte : (asName newline : Bool) (first : ℕ) (s : List ℕ) → OneByte (named asName newline first s)
 unfolding named
-named-byte newline first s =
+named-byte asName newline first s =
     let word = wordNumber (take (run nameByte s) s) in
-    cond-both OneByte (eqb word 0) (λ k. absurd (omega arith)) (cond-both OneByte (taken word) (λ k. absurd (omega arith)) tt)
+    cond-both OneByte (eqb word 0 || asName) (λ k. absurd (omega arith)) (cond-both OneByte (taken word) (λ k. absurd (omega arith)) tt)
 
 sign-byte : (newline : Bool) (first : ℕ) (s : List ℕ) (l : Longest) → longestSign s ≡ l → OneByte (signOrStray newline first l)
 sign-byte newline first s Longest.None e = tt
@@ -50,29 +51,29 @@ sign-byte newline first s (Longest.Sign number n legal) e =
     only true d k = d
     only false d k = absurd (omega arith)
 
-from-byte : (pattern newline : Bool) (first : ℕ) (s : List ℕ) → OneByte (elementFrom pattern newline first s)
+from-byte : (stated : Stated) (newline : Bool) (first : ℕ) (s : List ℕ) → OneByte (elementFrom stated newline first s)
 unfolding elementFrom
-from-byte pattern newline first [] = tt
-from-byte pattern newline first (b ∷ s) =
-    cond-both OneByte (letter b) (named-byte newline first (b ∷ s))
+from-byte stated newline first [] = tt
+from-byte stated newline first (b ∷ s) =
+    cond-both OneByte (letter b) (named-byte (stated .name) newline first (b ∷ s))
     (cond-both OneByte (digit b) (literal-byte numberKind (omega arith) newline first (numberFrom first (b ∷ s)))
     (cond-both OneByte (quote b) (literal-byte stringKind (omega arith) newline first (stringRest b first false (first + 1) s))
-    (cond-both OneByte (pattern && eqb b (byte "/")) (literal-byte patternKind (omega arith) newline first (patternRest first false false (first + 1) s))
+    (cond-both OneByte (stated .pattern && eqb b (byte "/")) (literal-byte patternKind (omega arith) newline first (patternRest first false false (first + 1) s))
     (cond-both OneByte (eqb b (byte ".") && digit (getD s 0 0)) tt
     (sign-byte newline first (b ∷ s) (longestSign (b ∷ s)) refl)))))
 
-after-byte : (s : List ℕ) (pattern : Bool) (g : Gap) → OneByte (afterGap s pattern g)
-after-byte s pattern (Gap.Ends first newline) = from-byte pattern newline first (drop first s)
-after-byte s pattern (Gap.Fault number place) = tt
+after-byte : (s : List ℕ) (stated : Stated) (g : Gap) → OneByte (afterGap s stated g)
+after-byte s stated (Gap.Ends first newline) = from-byte stated newline first (drop first s)
+after-byte s stated (Gap.Fault number place) = tt
 
-found-delimiter : (s : List ℕ) (place : ℕ) (pattern : Bool) (e : Element) → elementAt s place pattern ≡ Next.Found e
+found-delimiter : (s : List ℕ) (place : ℕ) (stated : Stated) (e : Element) → elementAt s place stated ≡ Next.Found e
     → e .kind ≡ delimiterKind → (e .end ≡ e .first + 1) × (delimiter (e .which) ≡ true)
 unfolding elementAt
-found-delimiter s place pattern e f = rw f at (after-byte s pattern (gap place false (drop place s)))
+found-delimiter s place stated e f = rw f at (after-byte s stated (gap place false (drop place s)))
 
-module _ (s : List ℕ) (place : ℕ) (pattern : Bool) (e : Element) (f : elementAt s place pattern ≡ Next.Found e) (k : e .kind ≡ delimiterKind) where
+module _ (s : List ℕ) (place : ℕ) (stated : Stated) (e : Element) (f : elementAt s place stated ≡ Next.Found e) (k : e .kind ≡ delimiterKind) where
   pub delimiter-byte : e .end ≡ e .first + 1
-  delimiter-byte = found-delimiter s place pattern e f k .0
+  delimiter-byte = found-delimiter s place stated e f k .0
 
   pub delimiter-which : delimiter (e .which) ≡ true
-  delimiter-which = found-delimiter s place pattern e f k .1
+  delimiter-which = found-delimiter s place stated e f k .1

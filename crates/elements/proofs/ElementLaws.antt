@@ -1,11 +1,10 @@
 -- Laws of the element at a place: one for each kind of first byte.
 use mathlib.Core.Path.{_≡_, ap, _∙_}
 use mathlib.Core.List.{List}
-use mathlib.Core.Bool.{Bool, true, false, _&&_}
+use mathlib.Core.Bool.{Bool, true, false, _&&_, _||_}
 use Prim.Native.Nat.{ℕ, _+_, _-_, _<_, _≤_}
 use native.Mathlib.Nat.{add-zero}
 use native.Mathlib.Omega.{arith}
-use borrow.Author.Tests.{eq-eqb, ne-eqb}
 use lib.Dec.{eqb}
 use lib.ListN.{length, getD, take, drop, drop-of-length-le}
 use lib.Seq.{getD-drop}
@@ -37,23 +36,24 @@ use Rattle.elements.specs.Elements.{
   delimiterKind,
 }
 use Rattle.elements.specs.declared.Next.{Next}
+use Rattle.elements.specs.declared.Stated.{Stated}
 
 -- a name or word whose end and number are known
-module _ (newline : Bool) (first end word : ℕ) (s : List ℕ) (e : end ≡ first + run nameByte s) (w : word ≡ wordNumber (take (end - first) s)) where
-  known : named newline first s ≡ wordOrName word newline first end
+module _ (asName newline : Bool) (first end word : ℕ) (s : List ℕ) (e : end ≡ first + run nameByte s) (w : word ≡ wordNumber (take (end - first) s)) where
+  known : named asName newline first s ≡ wordOrName asName word newline first end
   unfolding named
   known =
       let n : end - first ≡ run nameByte s = omega arith in
       rw (w, n, e)
 
-  pub named-name : word ≡ 0 → named newline first s ≡ element nameKind 0 newline first end
-  named-name z = known ∙ rw (eq-eqb word 0 z)
+  pub named-name : (eqb word 0 || asName) ≡ true → named asName newline first s ≡ element nameKind word newline first end
+  named-name z = known ∙ rw z
 
-  pub named-word : (word ≡ 0 → ⊥) → taken word ≡ true → named newline first s ≡ element wordKind word newline first end
-  named-word z t = known ∙ rw (ne-eqb word 0 z, t)
+  pub named-word : (eqb word 0 || asName) ≡ false → taken word ≡ true → named asName newline first s ≡ element wordKind word newline first end
+  named-word z t = known ∙ rw (z, t)
 
-  pub named-barred : (word ≡ 0 → ⊥) → taken word ≡ false → named newline first s ≡ Next.Fault barredWord first
-  named-barred z t = known ∙ rw (ne-eqb word 0 z, t)
+  pub named-barred : (eqb word 0 || asName) ≡ false → taken word ≡ false → named asName newline first s ≡ Next.Fault barredWord first
+  named-barred z t = known ∙ rw (z, t)
 
 -- a sign that is known
 module _ (newline : Bool) (first : ℕ) (l : Longest) where
@@ -71,8 +71,8 @@ module _ (newline : Bool) (first : ℕ) (l : Longest) where
     sign-other f d = ap (signOrStray newline first) e ∙ rw (f, d)
 
 -- the element whose first byte stands at i
-module _ (pattern newline : Bool) (s : List ℕ) (i : ℕ) where
-  pub from-past : length s ≤ i → elementFrom pattern newline i (drop i s) ≡ Next.End
+module _ (stated : Stated) (newline : Bool) (s : List ℕ) (i : ℕ) where
+  pub from-past : length s ≤ i → elementFrom stated newline i (drop i s) ≡ Next.End
   unfolding elementFrom
   from-past h = rw (drop-of-length-le s h)
 
@@ -81,35 +81,35 @@ module _ (pattern newline : Bool) (s : List ℕ) (i : ℕ) where
     second : getD (drop (i + 1) s) 0 0 ≡ getD s (i + 1) 0
     second = getD-drop (i + 1) s 0 0 ∙ rw (add-zero (i + 1))
 
-    pub from-letter : letter (getD s i 0) ≡ true → elementFrom pattern newline i (drop i s) ≡ named newline i (drop i s)
+    pub from-letter : letter (getD s i 0) ≡ true → elementFrom stated newline i (drop i s) ≡ named (stated .name) newline i (drop i s)
     unfolding elementFrom
     from-letter l = rw (drop-at s i h) (rw (l, elementFrom))
 
     module _ (l : letter (getD s i 0) ≡ false) where
-      pub from-digit : digit (getD s i 0) ≡ true → elementFrom pattern newline i (drop i s) ≡ literalElement numberKind newline i (numberFrom i (drop i s))
+      pub from-digit : digit (getD s i 0) ≡ true → elementFrom stated newline i (drop i s) ≡ literalElement numberKind newline i (numberFrom i (drop i s))
       unfolding elementFrom
       from-digit d = rw (drop-at s i h) (rw (l, d, elementFrom))
 
       module _ (d : digit (getD s i 0) ≡ false) where
         pub from-quote : quote (getD s i 0) ≡ true
-            → elementFrom pattern newline i (drop i s) ≡ literalElement stringKind newline i (stringRest (getD s i 0) i false (i + 1) (drop (i + 1) s))
+            → elementFrom stated newline i (drop i s) ≡ literalElement stringKind newline i (stringRest (getD s i 0) i false (i + 1) (drop (i + 1) s))
         unfolding elementFrom
         from-quote q = rw (drop-at s i h) (rw (l, d, q, elementFrom))
 
         module _ (q : quote (getD s i 0) ≡ false) where
           -- a slash that opens a regular expression
-          pub from-pattern : (pattern && eqb (getD s i 0) (byte "/")) ≡ true
-              → elementFrom pattern newline i (drop i s) ≡ literalElement patternKind newline i (patternRest i false false (i + 1) (drop (i + 1) s))
+          pub from-pattern : (stated .pattern && eqb (getD s i 0) (byte "/")) ≡ true
+              → elementFrom stated newline i (drop i s) ≡ literalElement patternKind newline i (patternRest i false false (i + 1) (drop (i + 1) s))
           unfolding elementFrom
           from-pattern p = rw (drop-at s i h) (rw (l, d, q, p, elementFrom))
 
-          module _ (p : (pattern && eqb (getD s i 0) (byte "/")) ≡ false) where
+          module _ (p : (stated .pattern && eqb (getD s i 0) (byte "/")) ≡ false) where
             pub from-dot : (eqb (getD s i 0) (byte ".") && digit (getD s (i + 1) 0)) ≡ true
-                → elementFrom pattern newline i (drop i s) ≡ Next.Fault badNumber i
+                → elementFrom stated newline i (drop i s) ≡ Next.Fault badNumber i
             unfolding elementFrom
             from-dot f = rw (drop-at s i h) (rw (l, d, q, p, second, f, elementFrom))
 
             pub from-sign : (eqb (getD s i 0) (byte ".") && digit (getD s (i + 1) 0)) ≡ false
-                → elementFrom pattern newline i (drop i s) ≡ signOrStray newline i (longestSign (drop i s))
+                → elementFrom stated newline i (drop i s) ≡ signOrStray newline i (longestSign (drop i s))
             unfolding elementFrom
             from-sign f = rw (drop-at s i h) (rw (l, d, q, p, second, f, elementFrom))

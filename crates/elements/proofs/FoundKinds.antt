@@ -1,7 +1,7 @@
 -- An element that is found has one of the kinds 0 to 6.
 use mathlib.Core.Path.{_≡_}
 use mathlib.Core.List.{List, [], _∷_}
-use mathlib.Core.Bool.{Bool, false, _&&_}
+use mathlib.Core.Bool.{Bool, false, _&&_, _||_}
 use Prim.Native.Nat.{ℕ, _+_, _≤_}
 use native.Mathlib.Omega.{arith}
 use lib.Dec.{eqb}
@@ -21,6 +21,7 @@ use Rattle.gaps.specs.declared.Gap.{Gap}
 use Rattle.literals.specs.declared.Literal.{Literal}
 use Rattle.elements.specs.declared.Element.{Element}
 use Rattle.elements.specs.declared.Next.{Next}
+use Rattle.elements.specs.declared.Stated.{Stated}
 use Rattle.elements.proofs.Choices.{cond-both}
 
 abbrev KindIn : Next → Type 0
@@ -37,27 +38,27 @@ sign-kind newline first Longest.None = tt
 sign-kind newline first (Longest.Sign number n legal) =
     cond-both KindIn legal (cond-both (λ k. k ≤ 6) (delimiter number) (omega arith) (omega arith)) tt
 
-named-kind : (newline : Bool) (first : ℕ) (s : List ℕ) → KindIn (named newline first s)
+named-kind : (asName newline : Bool) (first : ℕ) (s : List ℕ) → KindIn (named asName newline first s)
 unfolding named
-named-kind newline first s =
+named-kind asName newline first s =
     let word = wordNumber (take (run nameByte s) s) in
-    cond-both KindIn (eqb word 0) (omega arith) (cond-both KindIn (taken word) (omega arith) tt)
+    cond-both KindIn (eqb word 0 || asName) (omega arith) (cond-both KindIn (taken word) (omega arith) tt)
 
-from-kind : (pattern newline : Bool) (first : ℕ) (s : List ℕ) → KindIn (elementFrom pattern newline first s)
+from-kind : (stated : Stated) (newline : Bool) (first : ℕ) (s : List ℕ) → KindIn (elementFrom stated newline first s)
 unfolding elementFrom
-from-kind pattern newline first [] = tt
-from-kind pattern newline first (b ∷ s) =
-    cond-both KindIn (letter b) (named-kind newline first (b ∷ s))
+from-kind stated newline first [] = tt
+from-kind stated newline first (b ∷ s) =
+    cond-both KindIn (letter b) (named-kind (stated .name) newline first (b ∷ s))
     (cond-both KindIn (digit b) (literal-kind numberKind (omega arith) newline first (numberFrom first (b ∷ s)))
     (cond-both KindIn (quote b) (literal-kind stringKind (omega arith) newline first (stringRest b first false (first + 1) s))
-    (cond-both KindIn (pattern && eqb b (byte "/")) (literal-kind patternKind (omega arith) newline first (patternRest first false false (first + 1) s))
+    (cond-both KindIn (stated .pattern && eqb b (byte "/")) (literal-kind patternKind (omega arith) newline first (patternRest first false false (first + 1) s))
     (cond-both KindIn (eqb b (byte ".") && digit (getD s 0 0)) tt
     (sign-kind newline first (longestSign (b ∷ s)))))))
 
-after-kind : (s : List ℕ) (pattern : Bool) (g : Gap) → KindIn (afterGap s pattern g)
-after-kind s pattern (Gap.Ends first newline) = from-kind pattern newline first (drop first s)
-after-kind s pattern (Gap.Fault number place) = tt
+after-kind : (s : List ℕ) (stated : Stated) (g : Gap) → KindIn (afterGap s stated g)
+after-kind s stated (Gap.Ends first newline) = from-kind stated newline first (drop first s)
+after-kind s stated (Gap.Fault number place) = tt
 
-pub found-kind : (s : List ℕ) (place : ℕ) (pattern : Bool) (e : Element) → elementAt s place pattern ≡ Next.Found e → e .kind ≤ 6
+pub found-kind : (s : List ℕ) (place : ℕ) (stated : Stated) (e : Element) → elementAt s place stated ≡ Next.Found e → e .kind ≤ 6
 unfolding elementAt
-found-kind s place pattern e f = rw f at (after-kind s pattern (gap place false (drop place s)))
+found-kind s place stated e f = rw f at (after-kind s stated (gap place false (drop place s)))

@@ -4,6 +4,7 @@ pub mod Clashes
 pub mod Extents
 pub mod Bounds
 pub mod Slashes
+pub mod StatedAnswers
 pub mod Separators
 pub mod Shifts
 pub mod Copies

@@ -15,6 +15,7 @@ use Rattle.elements.specs.Elements.{element, elementFrom, afterGap, elem
 use Rattle.gaps.specs.declared.Gap.{Gap}
 use Rattle.elements.specs.declared.Element.{Element}
 use Rattle.elements.specs.declared.Next.{Next}
+use Rattle.elements.specs.declared.Stated.{Stated}
 use Rattle.elements.proofs.Choices.{cond-both, cond-known}
 use Rattle.elements.proofs.Clashes.{no-element}
 use Rattle.elements.proofs.Bounds.{Cut, from-in, Placed, found-placed}
@@ -71,30 +72,30 @@ cut-drop : (s w : List ℕ) (place k end : ℕ) → end ≡ place + k → place 
 cut-drop s w place k end p h =
     rw (p, take-add place k s, append-assoc) (drop-at (take place s) (take k (drop place s) ++ w) place (length-take-le place s h))
 
-module _ (s : List ℕ) (place : ℕ) (pattern : Bool) (e : Element) (found : elementAt s place pattern ≡ Next.Found e) where
+module _ (s : List ℕ) (place : ℕ) (stated : Stated) (e : Element) (found : elementAt s place stated ≡ Next.Found e) where
   -- the gap before an element, and the element behind it
   pub found-gap : (gap place false (drop place s) ≡ Gap.Ends (e .first) (e .newline))
-      × (elementFrom pattern (e .newline) (e .first) (drop (e .first) s) ≡ Next.Found e)
+      × (elementFrom stated (e .newline) (e .first) (drop (e .first) s) ≡ Next.Found e)
   unfolding elementAt
   found-gap = go (gap place false (drop place s)) refl found
     where
-      go : (g : Gap) → gap place false (drop place s) ≡ g → afterGap s pattern g ≡ Next.Found e
+      go : (g : Gap) → gap place false (drop place s) ≡ g → afterGap s stated g ≡ Next.Found e
           → (gap place false (drop place s) ≡ Gap.Ends (e .first) (e .newline))
-          × (elementFrom pattern (e .newline) (e .first) (drop (e .first) s) ≡ Next.Found e)
+          × (elementFrom stated (e .newline) (e .first) (drop (e .first) s) ≡ Next.Found e)
       go (Gap.Ends first newline) f a =
           let hi = first + length (drop first s) in
-          let c : Cut newline first hi e = rw a at (from-in pattern newline first hi (drop first s) refl) in
+          let c : Cut newline first hi e = rw a at (from-in stated newline first hi (drop first s) refl) in
           (rw (c .start, c .flag) f, rw (← c .start, ← c .flag) at a)
       go (Gap.Fault number at) f a = no-element a
 
   module _ (x : ℕ) (separates : (blank x || lineEnd x) ≡ true) where
     -- the element's bytes, moved behind u
     pub own-bytes : (u v : List ℕ)
-        → elementAt (u ++ (take (e .end - e .first) (drop (e .first) s) ++ (x ∷ v))) (length u) pattern
+        → elementAt (u ++ (take (e .end - e .first) (drop (e .first) s) ++ (x ∷ v))) (length u) stated
         ≡ Next.Found (record { kind = e .kind; which = e .which; first = length u; end = length u + (e .end - e .first); newline = false })
     unfolding elementAt
     own-bytes u v =
-        let p : Placed s place e = found-placed s place pattern e found in
+        let p : Placed s place e = found-placed s place stated e found in
         let size = e .end - e .first in
         let rest = drop (e .first) s in
         let fits : size ≤ length rest = omega (arith, length-drop (e .first) s) in
@@ -104,13 +105,13 @@ module _ (s : List ℕ) (place : ℕ) (pattern : Bool) (e : Element) (found : el
         (omega arith) (omega arith) fits (settled false) in
         rw (drop-append-seam u (take size rest ++ x ∷ v), empty)
         (rw (drop-append-seam u (take size rest ++ x ∷ v))
-        (from-own x v separates e (e .first) (length u) pattern (e .newline) false rest size fits (omega arith) (found-gap .1)))
+        (from-own x v separates e (e .first) (length u) stated (e .newline) false rest size fits (omega arith) (found-gap .1)))
 
     -- the text up to the element's end, comments before the element included
-    pub prefix-only : (v : List ℕ) → elementAt (take (e .end) s ++ (x ∷ v)) place pattern ≡ Next.Found e
+    pub prefix-only : (v : List ℕ) → elementAt (take (e .end) s ++ (x ∷ v)) place stated ≡ Next.Found e
     unfolding elementAt
     prefix-only v =
-        let p : Placed s place e = found-placed s place pattern e found in
+        let p : Placed s place e = found-placed s place stated e found in
         let size = e .end - e .first in
         let span = e .end - place in
         let rest = drop (e .first) s in
@@ -121,5 +122,5 @@ module _ (s : List ℕ) (place : ℕ) (pattern : Bool) (e : Element) (found : el
         let ends : e .first + size ≡ e .end = omega arith in
         rw (cut-drop s (x ∷ v) place span (e .end) (omega arith) (omega arith), before)
         (rw (cut-drop s (x ∷ v) (e .first) size (e .end) (omega arith) (omega arith))
-        (from-own x v separates e (e .first) (e .first) pattern (e .newline) (e .newline) rest size fits (omega arith) (found-gap .1)
+        (from-own x v separates e (e .first) (e .first) stated (e .newline) (e .newline) rest size fits (omega arith) (found-gap .1)
         ∙ ap (element (e .kind) (e .which) (e .newline) (e .first)) ends))

@@ -1,7 +1,7 @@
 -- What a blank or a line end in front of an element does: the first nothing, the second sets the element's newline flag.
 use mathlib.Core.Path.{_≡_, refl}
 use mathlib.Core.List.{List, [], _∷_, _++_}
-use mathlib.Core.Bool.{Bool, true, false, _&&_}
+use mathlib.Core.Bool.{Bool, true, false, _&&_, _||_}
 use Prim.Native.Nat.{ℕ, _+_, _<_}
 use native.Mathlib.Omega.{arith}
 use lib.Dec.{eqb}
@@ -31,6 +31,7 @@ use Rattle.elements.specs.Elements.{
 use Rattle.gaps.specs.declared.Gap.{Gap}
 use Rattle.literals.specs.declared.Literal.{Literal}
 use Rattle.elements.specs.declared.Next.{Next}
+use Rattle.elements.specs.declared.Stated.{Stated}
 use Rattle.elements.proofs.Choices.{cond-map}
 use Rattle.gaps.proofs.GapLaws.{gap-blank, gap-line-end}
 
@@ -80,49 +81,49 @@ module _ (newline : Bool) (first : ℕ) where
   literal-lined kind (Literal.Ends end) = refl
   literal-lined kind (Literal.Fault number at) = refl
 
-  named-lined : (s : List ℕ) → named true first s ≡ lined (named newline first s)
+  named-lined : (asName : Bool) (s : List ℕ) → named asName true first s ≡ lined (named asName newline first s)
   unfolding named
-  named-lined s =
+  named-lined asName s =
       let word = wordNumber (take (run nameByte s) s) in
-      cond-map lined (eqb word 0) refl (cond-map lined (taken word) refl refl)
+      cond-map lined (eqb word 0 || asName) refl (cond-map lined (taken word) refl refl)
 
   sign-lined : (l : Longest) → signOrStray true first l ≡ lined (signOrStray newline first l)
   sign-lined Longest.None = refl
   sign-lined (Longest.Sign number n legal) = cond-map lined legal refl refl
 
-  from-lined : (pattern : Bool) (s : List ℕ) → elementFrom pattern true first s ≡ lined (elementFrom pattern newline first s)
+  from-lined : (stated : Stated) (s : List ℕ) → elementFrom stated true first s ≡ lined (elementFrom stated newline first s)
   unfolding elementFrom
-  from-lined pattern [] = refl
-  from-lined pattern (b ∷ s) =
-      cond-map lined (letter b) (named-lined (b ∷ s))
+  from-lined stated [] = refl
+  from-lined stated (b ∷ s) =
+      cond-map lined (letter b) (named-lined (stated .name) (b ∷ s))
       (cond-map lined (digit b) (literal-lined numberKind (numberFrom first (b ∷ s)))
       (cond-map lined (quote b) (literal-lined stringKind (stringRest b first false (first + 1) s))
-      (cond-map lined (pattern && eqb b (byte "/")) (literal-lined patternKind (patternRest first false false (first + 1) s))
+      (cond-map lined (stated .pattern && eqb b (byte "/")) (literal-lined patternKind (patternRest first false false (first + 1) s))
       (cond-map lined (eqb b (byte ".") && digit (getD s 0 0)) refl
       (sign-lined (longestSign (b ∷ s)))))))
 
-after-lined : (s : List ℕ) (pattern : Bool) (g : Gap) → afterGap s pattern (linedGap g) ≡ lined (afterGap s pattern g)
-after-lined s pattern (Gap.Ends first newline) = from-lined newline first pattern (drop first s)
-after-lined s pattern (Gap.Fault number at) = refl
+after-lined : (s : List ℕ) (stated : Stated) (g : Gap) → afterGap s stated (linedGap g) ≡ lined (afterGap s stated g)
+after-lined s stated (Gap.Ends first newline) = from-lined newline first stated (drop first s)
+after-lined s stated (Gap.Fault number at) = refl
 
-module _ (s : List ℕ) (place : ℕ) (pattern : Bool) (h : place < length s) where
-  pub blank-skipped : blank (getD s place 0) ≡ true → elementAt s place pattern ≡ elementAt s (place + 1) pattern
+module _ (s : List ℕ) (place : ℕ) (stated : Stated) (h : place < length s) where
+  pub blank-skipped : blank (getD s place 0) ≡ true → elementAt s place stated ≡ elementAt s (place + 1) stated
   unfolding elementAt
   blank-skipped e = rw (gap-blank s place false h e)
 
-  pub line-end-skipped : lineEnd (getD s place 0) ≡ true → elementAt s place pattern ≡ lined (elementAt s (place + 1) pattern)
+  pub line-end-skipped : lineEnd (getD s place 0) ≡ true → elementAt s place stated ≡ lined (elementAt s (place + 1) stated)
   unfolding elementAt
   line-end-skipped e =
       rw (gap-line-end s place false h e, gap-lined (drop (place + 1) s) (place + 1) false)
-      (after-lined s pattern (gap (place + 1) false (drop (place + 1) s)))
+      (after-lined s stated (gap (place + 1) false (drop (place + 1) s)))
 
 -- the same, where the text is given by its parts
-module _ (u v : List ℕ) (x : ℕ) (pattern : Bool) where
+module _ (u v : List ℕ) (x : ℕ) (stated : Stated) where
   inside : length u < length (u ++ x ∷ v)
   inside = omega (arith, length-append u (x ∷ v))
 
-  pub blank-first : blank x ≡ true → elementAt (u ++ x ∷ v) (length u) pattern ≡ elementAt (u ++ x ∷ v) (length u + 1) pattern
-  blank-first e = blank-skipped (u ++ x ∷ v) (length u) pattern inside (rw (getD-append-seam u x v 0) e)
+  pub blank-first : blank x ≡ true → elementAt (u ++ x ∷ v) (length u) stated ≡ elementAt (u ++ x ∷ v) (length u + 1) stated
+  blank-first e = blank-skipped (u ++ x ∷ v) (length u) stated inside (rw (getD-append-seam u x v 0) e)
 
-  pub line-end-first : lineEnd x ≡ true → elementAt (u ++ x ∷ v) (length u) pattern ≡ lined (elementAt (u ++ x ∷ v) (length u + 1) pattern)
-  line-end-first e = line-end-skipped (u ++ x ∷ v) (length u) pattern inside (rw (getD-append-seam u x v 0) e)
+  pub line-end-first : lineEnd x ≡ true → elementAt (u ++ x ∷ v) (length u) stated ≡ lined (elementAt (u ++ x ∷ v) (length u + 1) stated)
+  line-end-first e = line-end-skipped (u ++ x ∷ v) (length u) stated inside (rw (getD-append-seam u x v 0) e)

@@ -2,7 +2,7 @@
 -- expression.
 use mathlib.Core.Path.{_≡_, refl, sym, ap, _∙_}
 use mathlib.Core.List.{List, [], _∷_}
-use mathlib.Core.Bool.{Bool, true, false, false≢true, cond, _&&_}
+use mathlib.Core.Bool.{Bool, true, false, false≢true, cond, _&&_, _||_}
 use Prim.Native.Nat.{ℕ, _+_}
 use native.Mathlib.Nat.{add-zero}
 use native.Mathlib.Omega.{arith}
@@ -22,6 +22,7 @@ use Rattle.literals.specs.Numbers.{numberFrom}
 use Rattle.literals.specs.Strings.{quote, stringRest}
 use Rattle.literals.specs.Patterns.{patternRest}
 use Rattle.elements.specs.Elements.{
+  stating,
   element,
   literalElement,
   named,
@@ -41,6 +42,7 @@ use Rattle.gaps.specs.declared.Gap.{Gap}
 use Rattle.literals.specs.declared.Literal.{Literal}
 use Rattle.elements.specs.declared.Element.{Element}
 use Rattle.elements.specs.declared.Next.{Next}
+use Rattle.elements.specs.declared.Stated.{Stated}
 use Rattle.elements.proofs.Choices.{cond-both, cond-known}
 use Rattle.elements.proofs.Clashes.{no-element}
 
@@ -59,18 +61,19 @@ unfolding delimiter longestSign longestOf same
 slash-no-delimiter = refl
 
 -- the element of a text that starts with a slash, or not, at `first`
-module _ (newline : Bool) (first : ℕ) where
-  from-either : (s : List ℕ) → eqb (getD s 0 0) (byte "/") ≡ false → elementFrom true newline first s ≡ elementFrom false newline first s
+module _ (name newline : Bool) (first : ℕ) where
+  from-either : (s : List ℕ) → eqb (getD s 0 0) (byte "/") ≡ false
+      → elementFrom (stating true name) newline first s ≡ elementFrom (stating false name) newline first s
   unfolding elementFrom
   from-either [] e = refl
   from-either (b ∷ s) e = rw (e, elementFrom)
 
-  from-opened : (s : List ℕ) → elementFrom true newline first (byte "/" ∷ s)
+  from-opened : (s : List ℕ) → elementFrom (stating true name) newline first (byte "/" ∷ s)
       ≡ literalElement patternKind newline first (patternRest first false false (first + 1) s)
   unfolding elementFrom letter digit quote
   from-opened s = refl
 
-  from-divided : (s : List ℕ) → elementFrom false newline first (byte "/" ∷ s)
+  from-divided : (s : List ℕ) → elementFrom (stating false name) newline first (byte "/" ∷ s)
       ≡ cond (eqb (getD s 0 0) (byte "=")) (Next.Fault barredSign first) (element signKind 47 newline first (first + 1))
   unfolding elementFrom letter digit quote
   from-divided s = rw (longest-slash s) (go (eqb (getD s 0 0) (byte "=")))
@@ -91,11 +94,11 @@ module _ (opens newline : Bool) (first : ℕ) where
   literal-only kind k (Literal.Ends end) = k
   literal-only kind k (Literal.Fault number at) = tt
 
-  named-only : (s : List ℕ) → OpenedOnly opens (named newline first s)
+  named-only : (asName : Bool) (s : List ℕ) → OpenedOnly opens (named asName newline first s)
   unfolding named
-  named-only s =
+  named-only asName s =
       let word = wordNumber (take (run nameByte s) s) in
-      cond-both (OpenedOnly opens) (eqb word 0) (λ k. absurd (omega arith))
+      cond-both (OpenedOnly opens) (eqb word 0 || asName) (λ k. absurd (omega arith))
       (cond-both (OpenedOnly opens) (taken word) (λ k. absurd (omega arith)) tt)
 
   sign-only : (l : Longest) → OpenedOnly opens (signOrStray newline first l)
@@ -105,13 +108,14 @@ module _ (opens newline : Bool) (first : ℕ) where
       (cond-both (λ (kind : ℕ). kind ≡ patternKind → opens ≡ true) (delimiter number) (λ k. absurd (omega arith)) (λ k. absurd (omega arith)))
       tt
 
-from-only : (pattern newline : Bool) (first : ℕ) (s : List ℕ) → OpenedOnly (pattern && eqb (getD s 0 0) (byte "/")) (elementFrom pattern newline first s)
+from-only : (stated : Stated) (newline : Bool) (first : ℕ) (s : List ℕ)
+    → OpenedOnly (stated .pattern && eqb (getD s 0 0) (byte "/")) (elementFrom stated newline first s)
 unfolding elementFrom
-from-only pattern newline first [] = tt
-from-only pattern newline first (b ∷ s) =
-    let opens = pattern && eqb b (byte "/") in
+from-only stated newline first [] = tt
+from-only stated newline first (b ∷ s) =
+    let opens = stated .pattern && eqb b (byte "/") in
     let P = OpenedOnly opens in
-    cond-both P (letter b) (named-only opens newline first (b ∷ s))
+    cond-both P (letter b) (named-only opens newline first (stated .name) (b ∷ s))
     (cond-both P (digit b) (literal-only opens newline first numberKind (λ k. absurd (omega arith)) (numberFrom first (b ∷ s)))
     (cond-both P (quote b) (literal-only opens newline first stringKind (λ k. absurd (omega arith)) (stringRest b first false (first + 1) s))
     (cond-known P opens (λ o. literal-only opens newline first patternKind (λ k. o) (patternRest first false false (first + 1) s)) (λ o.
@@ -125,7 +129,7 @@ starts (a ∷ s) b n e = ap (λ k. k ∷ s) e
 
 -- a slash at `first`
 module _ (s : List ℕ) (first : ℕ) where
-  byte-at : getD (drop first s) 0 0 ≡ getD s first 0
+  pub byte-at : getD (drop first s) 0 0 ≡ getD s first 0
   byte-at = getD-drop first s 0 0 ∙ ap (λ k. getD s k 0) (add-zero first)
 
   here : eqb (getD s first 0) (byte "/") ≡ true → drop first s ≡ byte "/" ∷ drop (first + 1) s
@@ -155,58 +159,58 @@ literal-opened newline first (Literal.Fault number at) = tt
 
 module _ (s : List ℕ) (place : ℕ) where
   -- where no slash is met, the answer does not matter
-  pub either-slash : slashMet s place ≡ false → elementAt s place true ≡ elementAt s place false
+  pub either-slash : (name : Bool) → slashMet s place ≡ false → elementAt s place (stating true name) ≡ elementAt s place (stating false name)
   unfolding elementAt slashMet
-  either-slash = go (gap place false (drop place s))
+  either-slash name = go (gap place false (drop place s))
     where
-      go : (g : Gap) → slashAfter s g ≡ false → afterGap s true g ≡ afterGap s false g
-      go (Gap.Ends first newline) e = from-either newline first (drop first s) (rw (byte-at s first) e)
+      go : (g : Gap) → slashAfter s g ≡ false → afterGap s (stating true name) g ≡ afterGap s (stating false name) g
+      go (Gap.Ends first newline) e = from-either name newline first (drop first s) (rw (byte-at s first) e)
       go (Gap.Fault number at) e = refl
 
   -- where one is met, it is a sign or a regular expression
-  pub slash-divides : slashMet s place ≡ true → Divided s (elementAt s place false)
+  pub slash-divides : (name : Bool) → slashMet s place ≡ true → Divided s (elementAt s place (stating false name))
   unfolding elementAt slashMet
-  slash-divides = go (gap place false (drop place s))
+  slash-divides name = go (gap place false (drop place s))
     where
-      go : (g : Gap) → slashAfter s g ≡ true → Divided s (afterGap s false g)
+      go : (g : Gap) → slashAfter s g ≡ true → Divided s (afterGap s (stating false name) g)
       go (Gap.Ends first newline) e =
-          rw (here s first e, from-divided newline first (drop (first + 1) s), byte-at s (first + 1))
+          rw (here s first e, from-divided name newline first (drop (first + 1) s), byte-at s (first + 1))
           (cond-known (Divided s) (eqb (getD s (first + 1) 0) (byte "=")) (λ t. (refl, eqb-true _ _ t))
           (λ t. record { kind = refl; which = refl; single = refl }))
       go (Gap.Fault number at) e = absurd (false≢true e)
 
-  pub slash-opens : slashMet s place ≡ true → Opened (elementAt s place true)
+  pub slash-opens : (name : Bool) → slashMet s place ≡ true → Opened (elementAt s place (stating true name))
   unfolding elementAt slashMet
-  slash-opens = go (gap place false (drop place s))
+  slash-opens name = go (gap place false (drop place s))
     where
-      go : (g : Gap) → slashAfter s g ≡ true → Opened (afterGap s true g)
+      go : (g : Gap) → slashAfter s g ≡ true → Opened (afterGap s (stating true name) g)
       go (Gap.Ends first newline) e =
-          rw (here s first e, from-opened newline first (drop (first + 1) s))
+          rw (here s first e, from-opened name newline first (drop (first + 1) s))
           (literal-opened newline first (patternRest first false false (first + 1) (drop (first + 1) s)))
       go (Gap.Fault number at) e = absurd (false≢true e)
 
   -- a regular expression is found only there
-  pub pattern-slash : (pattern : Bool) (e : Element) → elementAt s place pattern ≡ Next.Found e → e .kind ≡ patternKind
-      → (pattern ≡ true) × (slashMet s place ≡ true)
+  pub pattern-slash : (stated : Stated) (e : Element) → elementAt s place stated ≡ Next.Found e → e .kind ≡ patternKind
+      → (stated .pattern ≡ true) × (slashMet s place ≡ true)
   unfolding elementAt slashMet
-  pattern-slash pattern e = go (gap place false (drop place s))
+  pattern-slash stated e = go (gap place false (drop place s))
     where
       both : (a b : Bool) → (a && b) ≡ true → (a ≡ true) × (b ≡ true)
       both true b h = (refl, h)
       both false b h = absurd (false≢true h)
 
-      go : (g : Gap) → afterGap s pattern g ≡ Next.Found e → e .kind ≡ patternKind → (pattern ≡ true) × (slashAfter s g ≡ true)
+      go : (g : Gap) → afterGap s stated g ≡ Next.Found e → e .kind ≡ patternKind → (stated .pattern ≡ true) × (slashAfter s g ≡ true)
       go (Gap.Ends first newline) f k =
-          both pattern (eqb (getD s first 0) (byte "/")) (rw (f, byte-at s first) at (from-only pattern newline first (drop first s)) k)
+          both (stated .pattern) (eqb (getD s first 0) (byte "/")) (rw (f, byte-at s first) at (from-only stated newline first (drop first s)) k)
       go (Gap.Fault number at) f k = no-element f
 
   -- the same, by what was found
-  module _ (met : slashMet s place ≡ true) where
-    pub divide-found : (e : Element) → elementAt s place false ≡ Next.Found e → Divide e
-    divide-found e f = rw f at (slash-divides met)
+  module _ (name : Bool) (met : slashMet s place ≡ true) where
+    pub divide-found : (e : Element) → elementAt s place (stating false name) ≡ Next.Found e → Divide e
+    divide-found e f = rw f at (slash-divides name met)
 
-    pub divide-fault : (number at : ℕ) → elementAt s place false ≡ Next.Fault number at → (number ≡ barredSign) × (getD s (at + 1) 0 ≡ byte "=")
-    divide-fault number at f = rw f at (slash-divides met)
+    pub divide-fault : (number at : ℕ) → elementAt s place (stating false name) ≡ Next.Fault number at → (number ≡ barredSign) × (getD s (at + 1) 0 ≡ byte "=")
+    divide-fault number at f = rw f at (slash-divides name met)
 
-    pub pattern-found : (e : Element) → elementAt s place true ≡ Next.Found e → e .kind ≡ patternKind
-    pattern-found e f = rw f at (slash-opens met)
+    pub pattern-found : (e : Element) → elementAt s place (stating true name) ≡ Next.Found e → e .kind ≡ patternKind
+    pattern-found e f = rw f at (slash-opens name met)

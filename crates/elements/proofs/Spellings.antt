@@ -39,6 +39,7 @@ use Rattle.elements.specs.Elements.{
 use Rattle.elements.specs.Lexemes.{lexemeOf}
 use Rattle.elements.specs.declared.Element.{Element}
 use Rattle.elements.specs.declared.Next.{Next}
+use Rattle.elements.specs.declared.Stated.{Stated}
 use Rattle.elements.proofs.Choices.{cond-both, cond-known}
 use Rattle.elements.proofs.Bounds.{found-placed}
 use Rattle.elements.proofs.OwnBytes.{found-gap}
@@ -64,21 +65,25 @@ NextSpelled s (Next.Fault number at) = Unit {0}
 other-spelled : (s : List ℕ) (e : Element) → (e .kind ≡ wordKind → ⊥) → (e .kind ≡ signKind → ⊥) → ElementSpelled s e
 other-spelled s e w g = record { word = λ k. absurd (w k); sign = λ k. absurd (g k); apart = λ k. absurd (g k) }
 
+neither : (a b : Bool) → (a || b) ≡ false → a ≡ false
+neither true b h = h
+neither false b h = refl
+
 module _ (newline : Bool) (first : ℕ) (s : List ℕ) where
   literal-spelled : (kind : ℕ) → (kind ≡ wordKind → ⊥) → (kind ≡ signKind → ⊥) → (l : Literal) → NextSpelled s (literalElement kind newline first l)
   literal-spelled kind w g (Literal.Ends end) = other-spelled s _ w g
   literal-spelled kind w g (Literal.Fault number place) = tt
 
-  named-spelled : NextSpelled s (named newline first s)
+  named-spelled : (asName : Bool) → NextSpelled s (named asName newline first s)
   unfolding named taken
-  named-spelled =
+  named-spelled asName =
       let n = run nameByte s in
       let number = wordNumber (take n s) in
       let whole : first + n - first ≡ n = omega arith in
-      cond-known (NextSpelled s) (eqb number 0) (λ none. other-spelled s _ (λ k. omega arith) (λ k. omega arith)) λ some.
+      cond-known (NextSpelled s) (eqb number 0 || asName) (λ named. other-spelled s _ (λ k. omega arith) (λ k. omega arith)) λ some.
       cond-known (NextSpelled s) (taken number)
       (λ is. record {
-        word = λ k. rw whole (record { spelled = word-spelled (take n s) (eqb-false number 0 some); taken = is });
+        word = λ k. rw whole (record { spelled = word-spelled (take n s) (eqb-false number 0 (neither (eqb number 0) asName some)); taken = is });
         sign = λ k. absurd (omega arith);
         apart = λ k. absurd (omega arith);
       })
@@ -105,16 +110,16 @@ module _ (newline : Bool) (first : ℕ) (s : List ℕ) where
       no-delimiter true k = absurd (omega arith)
       no-delimiter false k = refl
 
-from-spelled : (pattern newline : Bool) (first : ℕ) (s : List ℕ) → NextSpelled s (elementFrom pattern newline first s)
+from-spelled : (stated : Stated) (newline : Bool) (first : ℕ) (s : List ℕ) → NextSpelled s (elementFrom stated newline first s)
 unfolding elementFrom
-from-spelled pattern newline first [] = tt
-from-spelled pattern newline first (b ∷ t) =
+from-spelled stated newline first [] = tt
+from-spelled stated newline first (b ∷ t) =
     let s = b ∷ t in
     let P = NextSpelled s in
-    cond-both P (letter b) (named-spelled newline first s)
+    cond-both P (letter b) (named-spelled newline first s (stated .name))
     (cond-both P (digit b) (literal-spelled newline first s numberKind (λ k. omega arith) (λ k. omega arith) (numberFrom first s))
     (cond-both P (quote b) (literal-spelled newline first s stringKind (λ k. omega arith) (λ k. omega arith) (stringRest b first false (first + 1) t))
-    (cond-both P (pattern && eqb b (byte "/")) (literal-spelled newline first s patternKind (λ k. omega arith) (λ k. omega arith) (patternRest first false false (first + 1) t))
+    (cond-both P (stated .pattern && eqb b (byte "/")) (literal-spelled newline first s patternKind (λ k. omega arith) (λ k. omega arith) (patternRest first false false (first + 1) t))
     (cond-both P (eqb b (byte ".") && digit (getD t 0 0)) tt
     (sign-spelled newline first s (longestSign s) refl)))))
 
@@ -122,9 +127,9 @@ from-spelled pattern newline first (b ∷ t) =
 abbrev pub byFirst : (ℕ → ℕ → ℕ → Bool) → ℕ → Row → Bool
 byFirst test number row = test (length (spelling row)) (getD (spelling row) 0 0) number
 
-module _ (s : List ℕ) (place : ℕ) (pattern : Bool) (e : Element) (found : elementAt s place pattern ≡ Next.Found e) where
+module _ (s : List ℕ) (place : ℕ) (stated : Stated) (e : Element) (found : elementAt s place stated ≡ Next.Found e) where
   found-spelled : ElementSpelled (drop (e .first) s) e
-  found-spelled = rw (found-gap s place pattern e found .1) at (from-spelled pattern (e .newline) (e .first) (drop (e .first) s))
+  found-spelled = rw (found-gap s place stated e found .1) at (from-spelled stated (e .newline) (e .first) (drop (e .first) s))
 
   pub word-spelling : e .kind ≡ wordKind → Spelled words (lexemeOf s e) (e .which)
   word-spelling k = found-spelled .word k
@@ -139,9 +144,9 @@ module _ (s : List ℕ) (place : ℕ) (pattern : Bool) (e : Element) (found : el
   row-passes : (test : ℕ → ℕ → ℕ → Bool) (rows : List Row) → T (eachTaken (byFirst test) rows) → Spelled rows (lexemeOf s e) (e .which)
       → T (test (e .end - e .first) (getD s (e .first) 0) (e .which))
   row-passes test rows t is =
-      let some : 0 < e .end - e .first = omega (arith, found-placed s place pattern e found) in
+      let some : 0 < e .end - e .first = omega (arith, found-placed s place stated e found) in
       let at : e .first + 0 ≡ e .first = omega arith in
-      rw (← is .spelled, found-lexeme s place pattern e found, getD-take (e .end - e .first) (drop (e .first) s) 0 0 some, getD-drop (e .first) s 0 0, at)
+      rw (← is .spelled, found-lexeme s place stated e found, getD-take (e .end - e .first) (drop (e .first) s) 0 0 some, getD-drop (e .first) s 0 0, at)
       at (at-taken (byFirst test) rows t (e .which) (is .taken))
 
   pub word-passes : (test : ℕ → ℕ → ℕ → Bool) → T (eachTaken (byFirst test) words) → e .kind ≡ wordKind

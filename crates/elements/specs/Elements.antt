@@ -1,9 +1,10 @@
--- Document 01, Elements: the element at a place of a text under a stated slash answer, or the text's end, or the first
--- fault of a comment or of the element itself, "bytes of an element left to right".
+-- Document 01, Elements: the element at a place of a text under stated answers, or the text's end, or the first fault of a
+-- comment or of the element itself, "bytes of an element left to right". What is stated is two answers: whether a slash met
+-- there opens a regular expression, and (document 02, U1) whether a reserved word met there is a name.
 use Prim.Native.Nat.{ℕ, _+_}
 use mathlib.Core.Path.{_≡_}
 use mathlib.Core.List.{List, [], _∷_}
-use mathlib.Core.Bool.{Bool, false, cond, _&&_, _||_}
+use mathlib.Core.Bool.{Bool, false, not, cond, _&&_, _||_}
 use lib.Dec.{eqb}
 use lib.ListN.{getD, take, drop}
 use Rattle.text.specs.Quoted.{byte, bytes}
@@ -21,8 +22,9 @@ use Rattle.literals.specs.Patterns.{patternRest}
 use Rattle.gaps.specs.declared.Gap.{Gap}
 use Rattle.literals.specs.declared.Literal.{Literal}
 use Rattle.elements.specs.declared.Next.{Next}
+use Rattle.elements.specs.declared.Stated.{Stated}
 
--- Kinds of elements, as Records numbers them. A delimiter has none of its own: the kind of its group is not settled by
+-- Kinds of elements, as Records numbers them. A delimiter has none of its own: the kind of a brace's group is not settled by
 -- its bytes.
 abbrev pub delimiterKind : ℕ
 delimiterKind = 0
@@ -45,6 +47,10 @@ patternKind = 5
 abbrev pub signKind : ℕ
 signKind = 6
 
+-- the answers, together
+abbrev pub stating : Bool → Bool → Stated
+stating pattern name = record { pattern = pattern; name = name }
+
 -- the element of a kind from `first` to before `end`; `which` is its number among the reserved words or the signs, else
 -- 0; `newline` says whether a line end lies between it and the place from which it was looked for
 abbrev pub element : ℕ → ℕ → Bool → ℕ → ℕ → Next
@@ -55,16 +61,21 @@ abbrev pub literalElement : ℕ → Bool → ℕ → Literal → Next
 literalElement kind newline first (Literal.Ends end) = element kind 0 newline first end
 literalElement kind newline first (Literal.Fault number place) = Next.Fault number place
 
--- a name; a reserved word that is taken here; or one that is refused
-abbrev pub wordOrName : ℕ → Bool → ℕ → ℕ → Next
-wordOrName word newline first end =
-    cond (eqb word 0) (element nameKind 0 newline first end)
+-- a name, which is no reserved word or (document 02, U1) one that "becomes a name (kind 1), for all 36 words, and 7 does not apply
+-- there"; a reserved word that is taken here; or one that is refused
+abbrev pub wordOrName : Bool → ℕ → Bool → ℕ → ℕ → Next
+wordOrName asName word newline first end =
+    cond (eqb word 0 || asName) (element nameKind word newline first end)
     (cond (taken word) (element wordKind word newline first end)
     (Next.Fault barredWord first))
 
+-- the number of the reserved word that a text starts with; 0 where the name there is none
+abbrev pub firstWord : List ℕ → ℕ
+firstWord s = wordNumber (take (run nameByte s) s)
+
 -- "Names: letters, `$`, `_`, and digits after the first byte": the name or word at `first`, where s is the text from there on
-unfoldable pub named : Bool → ℕ → List ℕ → Next
-named newline first s = wordOrName (wordNumber (take (run nameByte s) s)) newline first (first + run nameByte s)
+unfoldable pub named : Bool → Bool → ℕ → List ℕ → Next
+named asName newline first s = wordOrName asName (firstWord s) newline first (first + run nameByte s)
 
 -- the number of a sign
 abbrev pub numberOfSign : Longest → ℕ
@@ -96,25 +107,25 @@ signOrStray newline first (Longest.Sign number n legal) =
 -- The element at `first`, where the list is the text from there on and no blank, line end or comment starts there. "A slash
 -- that opens a regular expression is not a sign." "A `.` directly before a digit is refused too." An illegal byte starts no
 -- sign, so it is stray.
-unfoldable pub elementFrom : Bool → Bool → ℕ → List ℕ → Next
-elementFrom pattern newline first [] = Next.End
-elementFrom pattern newline first (b ∷ s) =
-    cond (letter b) (named newline first (b ∷ s))
+unfoldable pub elementFrom : Stated → Bool → ℕ → List ℕ → Next
+elementFrom stated newline first [] = Next.End
+elementFrom stated newline first (b ∷ s) =
+    cond (letter b) (named (stated .name) newline first (b ∷ s))
     (cond (digit b) (literalElement numberKind newline first (numberFrom first (b ∷ s)))
     (cond (quote b) (literalElement stringKind newline first (stringRest b first false (first + 1) s))
-    (cond (pattern && eqb b (byte "/")) (literalElement patternKind newline first (patternRest first false false (first + 1) s))
+    (cond (stated .pattern && eqb b (byte "/")) (literalElement patternKind newline first (patternRest first false false (first + 1) s))
     (cond (eqb b (byte ".") && digit (getD s 0 0)) (Next.Fault badNumber first)
     (signOrStray newline first (longestSign (b ∷ s)))))))
 
 -- what follows a gap
-abbrev pub afterGap : List ℕ → Bool → Gap → Next
-afterGap text pattern (Gap.Ends first newline) = elementFrom pattern newline first (drop first text)
-afterGap text pattern (Gap.Fault number place) = Next.Fault number place
+abbrev pub afterGap : List ℕ → Stated → Gap → Next
+afterGap text stated (Gap.Ends first newline) = elementFrom stated newline first (drop first text)
+afterGap text stated (Gap.Fault number place) = Next.Fault number place
 
--- the next element of a text from a place on, where `pattern` says whether a slash met there opens a regular expression;
--- at or past the text's end there is none
-unfoldable pub elementAt : List ℕ → ℕ → Bool → Next
-elementAt text place pattern = afterGap text pattern (gap place false (drop place text))
+-- the next element of a text from a place on, where it is stated whether a slash met there opens a regular expression, and
+-- whether a reserved word met there is a name; at or past the text's end there is none
+unfoldable pub elementAt : List ℕ → ℕ → Stated → Next
+elementAt text place stated = afterGap text stated (gap place false (drop place text))
 
 -- whether the element behind a gap would start with a slash
 abbrev pub slashAfter : List ℕ → Gap → Bool
@@ -124,6 +135,19 @@ slashAfter text (Gap.Fault number place) = false
 -- "A slash is met where an element would start with it and no comment starts there."
 unfoldable pub slashMet : List ℕ → ℕ → Bool
 slashMet text place = slashAfter text (gap place false (drop place text))
+
+-- whether a text starts with a reserved word
+abbrev pub startsWithWord : List ℕ → Bool
+startsWithWord s = letter (getD s 0 0) && not (eqb (firstWord s) 0)
+
+-- whether the element behind a gap would be a reserved word
+abbrev pub wordAfter : List ℕ → Gap → Bool
+wordAfter text (Gap.Ends first newline) = startsWithWord (drop first text)
+wordAfter text (Gap.Fault number place) = false
+
+-- a reserved word is met where an element would be one
+unfoldable pub wordMet : List ℕ → ℕ → Bool
+wordMet text place = wordAfter text (gap place false (drop place text))
 
 -- the number that the table of refused texts gives what is met; 0 where that is no fault
 abbrev pub numberOf : Next → ℕ
@@ -137,7 +161,7 @@ valueOf Next.End = 0
 valueOf (Next.Found e) = e .first
 valueOf (Next.Fault number place) = place
 
--- What `element_at` promises of its answer, for every text, every place and either stated slash answer.
-abbrev pub Finds : List ℕ → ℕ → Bool → Next → Type 0
-Finds text place pattern next =
-    (next ≡ elementAt text place pattern) × Tells numberOf valueOf next (elementAt text place pattern)
+-- What `element_at` promises of its answer, for every text, every place and all stated answers.
+abbrev pub Finds : List ℕ → ℕ → Stated → Next → Type 0
+Finds text place stated next =
+    (next ≡ elementAt text place stated) × Tells numberOf valueOf next (elementAt text place stated)

@@ -1,4 +1,4 @@
-// The cutting of a text into elements: the element at a place under a stated slash answer.
+// The cutting of a text into elements: the element at a place under stated answers.
 ghost use mathlib.Core.Path.{_≡_};
 ghost use mathlib.Core.Bool.{_&&_};
 ghost use Prim.Native.Nat.{_+_, _<_};
@@ -43,6 +43,13 @@ pub struct Element {
     pub newline: bool,
 }
 
+// What is stated of the place where an element is looked for: whether a slash met there opens a regular expression, and
+// whether a reserved word met there is a name.
+pub struct Stated {
+    pub pattern: bool,
+    pub name: bool,
+}
+
 // What a text has from a place on: no element any more, an element, or a fault's number and place.
 pub enum Next {
     End,
@@ -66,17 +73,26 @@ fn literal_element(kind: u32, first: usize, newline: bool, cut: Literal) -> Next
     }
 }
 
-// The name or reserved word at `first`.
-fn name_element(text: &[u8], first: usize, newline: bool) -> Next
+// The name or reserved word at `first`, where reserved words are names or not.
+fn name_element(text: &[u8], first: usize, newline: bool, as_name: bool) -> Next
     requires { ⌜ first < length (now text) ⌝ }
-    ensures { λ r. ⌜ r ≡ named newline first (drop first (now (text .entry))) ⌝ }
+    ensures { λ r. ⌜ r ≡ named «as_name» newline first (drop first (now (text .entry))) ⌝ }
 {
     let end = text::name_end(text, first);
     let which = words::word_number(&text[first..end]);
     if which == 0 {
         return Next::Found(Element {
             kind: NAME,
-            which: 0,
+            which,
+            first,
+            end,
+            newline,
+        });
+    }
+    if as_name {
+        return Next::Found(Element {
+            kind: NAME,
+            which,
             first,
             end,
             newline,
@@ -171,15 +187,15 @@ fn is_pattern_slash(b: u8, pattern: bool) -> bool
 }
 
 // The element at `first`, where no blank, line end or comment starts.
-fn element_from(text: &[u8], first: usize, newline: bool, pattern: bool) -> Next
-    ensures { λ r. ⌜ r ≡ elementFrom pattern newline first (drop first (now (text .entry))) ⌝ }
+fn element_from(text: &[u8], first: usize, newline: bool, stated: Stated) -> Next
+    ensures { λ r. ⌜ r ≡ elementFrom stated newline first (drop first (now (text .entry))) ⌝ }
 {
     if text.len() <= first {
         return Next::End;
     }
     let b = text[first];
     if text::is_letter(b) {
-        return name_element(text, first, newline);
+        return name_element(text, first, newline, stated.name);
     }
     if text::is_digit(b) {
         return literal_element(NUMBER, first, newline, numbers::number_at(text, first));
@@ -192,7 +208,7 @@ fn element_from(text: &[u8], first: usize, newline: bool, pattern: bool) -> Next
             strings::string_rest(text, b, first, first + 1),
         );
     }
-    if is_pattern_slash(b, pattern) {
+    if is_pattern_slash(b, stated.pattern) {
         return literal_element(
             PATTERN,
             first,
@@ -206,13 +222,12 @@ fn element_from(text: &[u8], first: usize, newline: bool, pattern: bool) -> Next
     sign_element(text, first, newline)
 }
 
-// The next element of a text from a place on, where `pattern` says whether a slash met there opens a regular expression.
-// A place at or past the text's end has none.
-pub fn element_at(text: &[u8], place: usize, pattern: bool) -> Next
-    ensures { λ r. ⌜ Finds (now (text .entry)) place pattern r ⌝ }
+// The next element of a text from a place on, under stated answers. A place at or past the text's end has none.
+pub fn element_at(text: &[u8], place: usize, stated: Stated) -> Next
+    ensures { λ r. ⌜ Finds (now (text .entry)) place stated r ⌝ }
 {
     match gaps::gap_from(text, place) {
-        Gap::Ends(first, newline) => element_from(text, first, newline, pattern),
+        Gap::Ends(first, newline) => element_from(text, first, newline, stated),
         Gap::Fault(number, at) => Next::Fault(number, at),
     }
 }

@@ -35,9 +35,9 @@ fn answer(line: &[u8], text: &mut [u8; MOST]) {
     }
     let case = case::case_of(line, text);
     match case {
-        Case::One(size, pattern) => texts::one(text, size, pattern, false),
-        Case::Prefixes(size, pattern) => texts::prefixes(text, size, pattern),
-        Case::Parts(size, pattern) => texts::one(text, size, pattern, true),
+        Case::One(size, stated) => texts::one(text, size, stated, false),
+        Case::Prefixes(size, stated) => texts::prefixes(text, size, stated),
+        Case::Parts(size, stated) => texts::one(text, size, stated, true),
         Case::Bad => print::bad_case(),
     }
 }

@@ -6,9 +6,9 @@ use lib.Dec.{T, eqb, eqb→eq}
 use Rattle.text.proofs.Range.{and-left, and-right}
 use Rattle.rule.specs.Rule.{groupClass}
 use Rattle.rule.specs.Levels.{isExpression}
-use Rattle.rule.specs.Machinery.Summary.{Summary, nothing, braceBy, slashBy, add}
+use Rattle.rule.specs.Machinery.Summary.{Summary, nothing, braceBy, slashBy, nameBy, add}
 use Rattle.rule.proofs.Finite.{bothBools, at-bool, allSummaries, at-summary}
-use Rattle.grammar.specs.Tokens.{pattern, divide}
+use Rattle.grammar.specs.Tokens.{pattern, divide, returnWord, functionWord, ifWord, wordName}
 use Rattle.grammar.specs.Grammar.{body, block}
 use Rattle.grammar.specs.Machinery.Machine.{
   ifNest,
@@ -57,14 +57,23 @@ use Rattle.grammar.specs.Machinery.Machine.{
   row,
   endOfText,
 }
-use Rattle.text.proofs.Members.{Has, here, there, allIn, at, found}
+use Rattle.text.proofs.Members.{Has, here, there, allIn, at, isIn, found}
 use Rattle.grammar.proofs.Classes.{isLeaf, treeClass}
 use Rattle.grammar.proofs.Related.{kinds, related, on-kind, settled, implies, implied, takesOver}
 use Rattle.grammar.proofs.ClassSteps.{opensGroup, openedKind, closesGroup, closesKind}
 
--- a slash is taken as the summary answers
-unfoldable pub slashRight : Summary → ℕ → Bool
-slashRight s class = cond (eqb class pattern) (slashBy s) (cond (eqb class divide) (not (slashBy s)) true)
+-- the classes of the reserved words that are taken as words
+abbrev pub wordClasses : List ℕ
+wordClasses = returnWord ∷ functionWord ∷ ifWord ∷ []
+
+-- a slash, and a reserved word, is taken as the summary answers
+unfoldable pub takenRight : Summary → ℕ → Bool
+takenRight s class =
+    cond (eqb class pattern) (slashBy s)
+    (cond (eqb class divide) (not (slashBy s))
+    (cond (eqb class wordName) (nameBy s)
+    (cond (isIn wordClasses class) (not (nameBy s))
+    true)))
 
 -- a group of a kind is opened behind trees with a summary: the control inside it, and the one behind it
 unfoldable pub opensRight : ℕ → Summary → Bool → ℕ → Control → Control → Bool
@@ -74,12 +83,12 @@ opensRight kind s newline group within behind = related within group nothing && 
 -- stand, and a nest is left only where a statement is complete. The whole text, of kind 0, is no group: there the machine stops.
 unfoldable pub allows : ℕ → Summary → Bool → ℕ → Action → Bool
 allows kind s newline class fail = true
-allows kind s newline class (goto next effect) = slashRight s class && (isLeaf class && related next kind (add (isExpression kind) s (treeClass class) newline))
+allows kind s newline class (goto next effect) = takenRight s class && (isLeaf class && related next kind (add (isExpression kind) s (treeClass class) newline))
 allows kind s newline class (push within behind closing) =
-    slashRight s class && (opensGroup class && opensRight kind s newline (openedKind (braceBy (isExpression kind) s newline) class) within behind)
+    takenRight s class && (opensGroup class && opensRight kind s newline (openedKind (braceBy (isExpression kind) s newline) class) within behind)
 allows kind s newline class (enter within behind closing) =
-    slashRight s class && (isLeaf class && (related within kind (add (isExpression kind) s (treeClass class) newline) && takesOver behind))
-allows kind s newline class (pop value) = slashRight s class && (closesGroup class && (eqb kind 0 || closesKind class kind))
+    takenRight s class && (isLeaf class && (related within kind (add (isExpression kind) s (treeClass class) newline) && takesOver behind))
+allows kind s newline class (pop value) = takenRight s class && (closesGroup class && (eqb kind 0 || closesKind class kind))
 allows kind s newline class (leave value) = settled kind s
 allows kind s newline class finish = eqb class endOfText
 
@@ -98,31 +107,31 @@ module _ (kind : ℕ) (s : Summary) (newline : Bool) where
 
   module _ (class : ℕ) where
     pub goto-allowed : (next : Control) (effect : Effect) → T (allows kind s newline class (goto next effect))
-        → T (slashRight s class) × T (isLeaf class) × T (related next kind (add (isExpression kind) s (treeClass class) newline))
+        → T (takenRight s class) × T (isLeaf class) × T (related next kind (add (isExpression kind) s (treeClass class) newline))
     unfolding allows
-    goto-allowed next effect = three (slashRight s class) (isLeaf class) (related next kind (add (isExpression kind) s (treeClass class) newline))
+    goto-allowed next effect = three (takenRight s class) (isLeaf class) (related next kind (add (isExpression kind) s (treeClass class) newline))
 
     pub push-allowed : (within behind : Control) (closing : Closing) → T (allows kind s newline class (push within behind closing))
-        → T (slashRight s class) × T (opensGroup class) × T (opensRight kind s newline (openedKind (braceBy (isExpression kind) s newline) class) within behind)
+        → T (takenRight s class) × T (opensGroup class) × T (opensRight kind s newline (openedKind (braceBy (isExpression kind) s newline) class) within behind)
     unfolding allows
     push-allowed within behind closing =
-        three (slashRight s class) (opensGroup class) (opensRight kind s newline (openedKind (braceBy (isExpression kind) s newline) class) within behind)
+        three (takenRight s class) (opensGroup class) (opensRight kind s newline (openedKind (braceBy (isExpression kind) s newline) class) within behind)
 
     pub enter-allowed : (within behind : Control) (closing : Closing) → T (allows kind s newline class (enter within behind closing))
-        → T (slashRight s class) × T (isLeaf class)
+        → T (takenRight s class) × T (isLeaf class)
         × T (related within kind (add (isExpression kind) s (treeClass class) newline) && takesOver behind)
     unfolding allows
     enter-allowed within behind closing =
-        three (slashRight s class) (isLeaf class) (related within kind (add (isExpression kind) s (treeClass class) newline) && takesOver behind)
+        three (takenRight s class) (isLeaf class) (related within kind (add (isExpression kind) s (treeClass class) newline) && takesOver behind)
 
     pub leave-allowed : (value : Value) → T (allows kind s newline class (leave value)) → T (settled kind s)
     unfolding allows
     leave-allowed value t = t
 
     pub pop-allowed : (value : Value) → T (allows kind s newline class (pop value))
-        → T (slashRight s class) × T (closesGroup class) × T (eqb kind 0 || closesKind class kind)
+        → T (takenRight s class) × T (closesGroup class) × T (eqb kind 0 || closesKind class kind)
     unfolding allows
-    pop-allowed value = three (slashRight s class) (closesGroup class) (eqb kind 0 || closesKind class kind)
+    pop-allowed value = three (takenRight s class) (closesGroup class) (eqb kind 0 || closesKind class kind)
 
     pub finish-allowed : T (allows kind s newline class finish) → T (eqb class endOfText)
     unfolding allows
@@ -199,7 +208,7 @@ each-ending control t ending target =
     at-bool (λ target. test (control ending target)) (at (λ ending. bothBools λ target. test (control ending target)) (an-ending ending) t) target
 
 passed : (control : Control) → T (test control)
-unfolding test passes related allows opensRight slashRight isLeaf treeClass groupClass takesOver
+unfolding test passes related allows opensRight takenRight isLeaf treeClass groupClass takesOver
 passed (statementDue true setting) = each-setting (statementDue true) tt setting
 passed (statementDue false setting) = each-setting (statementDue false) tt setting
 passed (statementDone ifNest) = tt

@@ -88,7 +88,7 @@ chain-begins (chain-object value) next = by-object
 chain-begins (chain-parens value) next = by-parens
 chain-begins (chain-function called) next = by-function
 chain-begins (chain-call callee value) next = chain-begins callee tt
-chain-begins (chain-member object) next = chain-begins object tt
+chain-begins (chain-member called object) next = chain-begins object tt
 
 operator-no-colon : (class : ℕ) → T (isOperator class) → T (not (eqb class colon))
 operator-no-colon class h = at-operator (λ x. not (eqb x colon)) operators class h tt

@@ -4,10 +4,11 @@ use mathlib.Core.List.{List, [], _∷_, _++_}
 use mathlib.Core.Bool.{Bool, false, cond}
 use Prim.Native.Nat.{ℕ, _+_}
 use native.Mathlib.Omega.{arith}
-use Rattle.elements.specs.Elements.{elementAt}
+use Rattle.elements.specs.Elements.{stating, elementAt}
 use Rattle.elements.specs.declared.Element.{Element}
 use Rattle.elements.specs.declared.Next.{Next}
-use Rattle.grammar.specs.Cuts.{isCloser, recorded, Cuts, cut-end, cut-element, cut-slash, CutsInto}
+use Rattle.elements.specs.declared.Stated.{Stated}
+use Rattle.grammar.specs.Cuts.{isCloser, recorded, Cuts, cut-end, cut-element, cut-slash, cut-word, CutsInto}
 use Rattle.grammar.specs.Tokens.{Token, classOf, tokenOf, tokensFrom, tokens}
 use Rattle.grammar.specs.Grammar.{Program}
 use Rattle.grammar.specs.Derivations.{SameElements, no-elements, same-element, BeginsProgram}
@@ -54,14 +55,15 @@ tokens-append mark (e ∷ es) fs = ap (_∷_ (tokenOf mark e)) (tokens-append (c
 
 -- the first elements of a text, as pieces
 module _ (s : List ℕ) where
-  one-more : (place : ℕ) (e g : Element) (es : List Element) (answer : Bool) → elementAt s place answer ≡ Next.Found e → Pieces s es → recorded e ≡ g → Pieces s (g ∷ es)
-  one-more place e g es answer f rest q = subst (λ (x : Element). Pieces s (x ∷ es)) q (piece-more s place e es answer f rest)
+  one-more : (place : ℕ) (e g : Element) (es : List Element) (given : Stated) → elementAt s place given ≡ Next.Found e → Pieces s es → recorded e ≡ g → Pieces s (g ∷ es)
+  one-more place e g es given f rest q = subst (λ (x : Element). Pieces s (x ∷ es)) q (piece-more s place e es given f rest)
 
   first-pieces : {place : ℕ} {choice : List Bool} {all : List Element} → Cuts s place choice all → (es rest : List Element) → all ≡ es ++ rest → Pieces s es
   first-pieces cut [] rest q = record { pieces = []; same = λ u more. no-elements }
   first-pieces (cut-end x) (e ∷ es) rest q = absurd (let z : _≡_ {A = ℕ} 0 1 = cc in omega arith)
-  first-pieces (cut-element {place} {e} m f cut) (g ∷ es) rest q = one-more place e g es false f (first-pieces cut es rest (cc)) (cc)
-  first-pieces (cut-slash {place} {e} {answer} m f cut) (g ∷ es) rest q = one-more place e g es answer f (first-pieces cut es rest (cc)) (cc)
+  first-pieces (cut-element {place} {e} slash word f cut) (g ∷ es) rest q = one-more place e g es (stating false false) f (first-pieces cut es rest (cc)) (cc)
+  first-pieces (cut-slash {place} {e} {answer} m f cut) (g ∷ es) rest q = one-more place e g es (stating answer false) f (first-pieces cut es rest (cc)) (cc)
+  first-pieces (cut-word {place} {e} {answer} m f cut) (g ∷ es) rest q = one-more place e g es (stating false answer) f (first-pieces cut es rest (cc)) (cc)
 
 module _ (s : List ℕ) (all es rest : List Element) (cuts : CutsInto s 0 all) (split : all ≡ es ++ rest) where
   -- as long as it follows them, some text begins so and is a program

@@ -28,6 +28,7 @@ use Rattle.grammar.specs.Tokens.{
   returnWord,
   functionWord,
   ifWord,
+  wordName,
 }
 use Rattle.grammar.specs.Syntax.{Syntax, nil, syntaxRecords, programTree}
 use Rattle.grammar.specs.Machinery.Machine.{State, dead, live, consume, run, start, doneOf, endOfText}
@@ -35,7 +36,7 @@ use Rattle.grammar.proofs.ClassSteps.{closesGroup}
 use Rattle.grammar.proofs.InStep.{isLive}
 
 -- The texts are spelled with a byte for a token: `P` is a regular expression, `S` a string, and `F`, `I` and `R` are the words
--- `function`, `if` and `return`. Every other letter is a name.
+-- `function`, `if` and `return`; `W` is a reserved word that is taken as a name. Every other letter is a name.
 data Spelling : Type 0 where
   spells : ℕ → ℕ → Spelling
 
@@ -57,6 +58,7 @@ spellings =
     ∷ spells (byte "R") returnWord
     ∷ spells (byte "F") functionWord
     ∷ spells (byte "I") ifWord
+    ∷ spells (byte "W") wordName
     ∷ []
 
 abbrev spelledIn : List Spelling → ℕ → ℕ
@@ -178,6 +180,16 @@ table =
     ∷ refused 3 "x={1:a};"
     ∷ refused 2 "a.1;"
     ∷ refused 2 "({)"
+    -- document 02, U1: a reserved word that is taken as a name stands behind a dot alone
+    ∷ program "a.W(b)/c/d;"
+    ∷ refused 9 "a.W(b)/c/;"
+    ∷ program "a.W.W=b.W;"
+    ∷ refused 0 "W;"
+    ∷ refused 0 "W:a;"
+    ∷ refused 1 "I.W;"
+    ∷ refused 1 "F W(x){}"
+    ∷ refused 3 "F f(W){}"
+    ∷ refused 3 "x={W:a};"
     ∷ refused 2 "(a}"
     ∷ refused 3 "f(a;"
     -- records: kind, mark and size of each part

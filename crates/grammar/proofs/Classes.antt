@@ -15,7 +15,7 @@ use Rattle.vocabulary.proofs.ClassLaws.{isClass, is-class}
 use Rattle.signs.specs.Signs.{longestSign, longestOf}
 use Rattle.elements.specs.Elements.{nameKind, wordKind, numberKind, stringKind, patternKind, signKind, delimiterKind, delimiter, parenOpener, parenCloser, braceOpener, braceCloser}
 use Rattle.elements.specs.declared.Element.{Element}
-use Rattle.elements.proofs.Choices.{cond-known}
+use Rattle.elements.proofs.Choices.{cond-both, cond-known}
 use Rattle.rule.specs.Rule.{Class, elementClass}
 use Rattle.grammar.specs.Tokens.{
   name,
@@ -35,6 +35,8 @@ use Rattle.grammar.specs.Tokens.{
   returnWord,
   functionWord,
   ifWord,
+  wordName,
+  nameClass,
   wordClass,
   signClass,
   delimiterClass,
@@ -56,10 +58,11 @@ leaves =
     ∷ is assign Class.operator
     ∷ is colon Class.colon
     ∷ is semicolon Class.other
-    ∷ is dot Class.other
+    ∷ is dot Class.dot
     ∷ is returnWord Class.returnWord
     ∷ is functionWord Class.functionWord
     ∷ is ifWord Class.ifWord
+    ∷ is wordName Class.name
     ∷ []
 
 abbrev classesOf : List TreeRow → List ℕ
@@ -108,6 +111,12 @@ module _ (e : Element) where
           told-leaf n (and-left (isLeaf (tokenClass row)) (isClass (treeClass (tokenClass row)) (ruleClass row)) t)
           (c ∙ is-class (treeClass (tokenClass row)) (ruleClass row) (and-right (isLeaf (tokenClass row)) (isClass (treeClass (tokenClass row)) (ruleClass row)) t))
 
+  name-told : e .kind ≡ nameKind → Told e (nameClass (e .which))
+  unfolding elementClass isLeaf treeClass
+  name-told k =
+      cond-both (Told e) (eqb (e .which) 0) (told-leaf {class = name} (λ z. omega arith) tt (rw (elementClass, k)))
+      (told-leaf {class = wordName} (λ z. omega arith) tt (rw (elementClass, k)))
+
   word : e .kind ≡ wordKind → Told e (wordClass (e .which))
   unfolding elementClass
   word k = told-row (rowAt words (e .which)) (words-are-leaves (e .which)) (λ z. omega arith) (rw (elementClass, k))
@@ -137,7 +146,7 @@ module _ (e : Element) where
   pub told : Told e (classOf e)
   unfolding classOf elementClass isLeaf treeClass
   told =
-      by nameKind (λ k. told-leaf {class = name} (λ z. omega arith) tt (rw (elementClass, k))) λ z.
+      by nameKind name-told λ z.
       by wordKind word λ z.
       by numberKind (λ k. told-leaf {class = number} (λ z. omega arith) tt (rw (elementClass, k))) λ z.
       by stringKind (λ k. told-leaf {class = string} (λ z. omega arith) tt (rw (elementClass, k))) λ z.

@@ -12,6 +12,8 @@ use Rattle.grammar.specs.Grammar.{
   leaf-number,
   leaf-string,
   leaf-pattern,
+  identifier,
+  reserved-word,
   precedence,
   body,
   Form,
@@ -128,7 +130,8 @@ taken stop (chain-function {word = word} called) =
 taken stop (chain-call callee value) =
     λ ending target done starts waiting operand around.
     taken stop callee ending target done starts waiting operand around ∙ parens-passed (taken stop value byParen nil [] [] nil _ tt)
-taken stop (chain-member object) = taken stop object
+taken stop (chain-member identifier object) = taken stop object
+taken stop (chain-member reserved-word object) = taken stop object
 taken stop (binary-chain {value = value} chain) =
     λ ending target done starts waiting operand around loose. record {
       target = target;

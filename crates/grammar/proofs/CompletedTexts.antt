@@ -10,7 +10,7 @@ use Rattle.words.specs.Words.{placeIn, wordNumber, taken}
 use Rattle.signs.specs.Signs.{longestSign, longestOf}
 use Rattle.gaps.specs.Gaps.{gap}
 use Rattle.literals.specs.Strings.{quote}
-use Rattle.elements.specs.Elements.{elementAt, elementFrom, named, delimiter}
+use Rattle.elements.specs.Elements.{stating, elementAt, elementFrom, named, delimiter}
 use Rattle.elements.specs.declared.Element.{Element}
 use Rattle.elements.specs.declared.Next.{Next}
 use Rattle.grammar.specs.Cuts.{isCloser, recorded}
@@ -40,9 +40,9 @@ record Spelling (class : ℕ) : Type 0 where
   is : (n : ℕ) → classOf (recorded (moved n piece)) ≡ class
 
 -- a spelling by a text of its own
-made : (class : ℕ) (s : List ℕ) (e : Element) → elementAt s 0 false ≡ Next.Found e → classOf e ≡ class → Spelling class
+made : (class : ℕ) (s : List ℕ) (e : Element) → elementAt s 0 (stating false false) ≡ Next.Found e → classOf e ≡ class → Spelling class
 unfolding classOf
-made class s e found c = record { piece = record { source = s; place = 0; answer = false; element = e; found = found; newline = false }; is = λ n. c }
+made class s e found c = record { piece = record { source = s; place = 0; given = stating false false; element = e; found = found; newline = false }; is = λ n. c }
 
 spelling : {class : ℕ} → Spelled class → Spelling class
 unfolding elementAt gap elementFrom named letter digit nameByte blank lineEnd illegal quote placeIn wordNumber taken delimiter longestSign longestOf Runs.same Runs.run classOf

@@ -16,6 +16,9 @@ use Rattle.grammar.specs.Grammar.{
   isOperator,
   Form,
   Derives,
+  IdentifierName,
+  identifier,
+  reserved-word,
   chain-leaf,
   chain-empty,
   chain-object,
@@ -59,6 +62,10 @@ leaf-open leaf-pattern = tt
 pub operator-open : (class : ℕ) → T (isOperator class) → T (not (isClosing class))
 operator-open class op = at-operator (λ x. not (isClosing x)) operators class op tt
 
+pub name-open : {class : ℕ} → IdentifierName class → T (not (isClosing class))
+name-open identifier = tt
+name-open reserved-word = tt
+
 one-more : (class : ℕ) (spot : Spot) (rest : List Token) → T (not (isClosing class)) → countTreeTokens rest + 1 ≤ countTreeTokens (token class spot ∷ rest)
 one-more class spot rest h = go (isClosing class) h
   where
@@ -75,7 +82,8 @@ counted (chain-object value) = omega (arith, counted value)
 counted (chain-parens value) = omega (arith, counted value)
 counted (chain-function function) = omega (arith, counted function)
 counted (chain-call callee value) = omega (arith, counted callee, counted value)
-counted (chain-member object) = omega (arith, counted object)
+counted (chain-member {class = class} {property = property} {after = after} called object) =
+    omega (arith, counted object, one-more class property after (name-open called))
 counted (binary-chain chain) = counted chain
 counted (binary-operator {class = class} {sign = sign} {middle = middle} op tight left right) =
     omega (arith, counted left, counted right, one-more class sign middle (operator-open class op))

@@ -1,23 +1,24 @@
--- As long as the token machine goes on, each slash and each brace is taken as the prefix rule says, and the reader's step makes of the
+-- As long as the token machine goes on, each slash, each reserved word and each brace is taken as the prefix rule says, and the reader's step makes of the
 -- levels what the machine makes of its state.
 use mathlib.Core.Path.{_≡_, refl, sym, _∙_}
-use mathlib.Core.Bool.{Bool, true, false, cond, _||_}
+use mathlib.Core.Bool.{Bool, true, false, not, cond, _||_}
 use mathlib.Core.List.{List, _∷_, _++_}
 use Prim.Native.Nat.{ℕ, _+_, _<_, _≤_}
 use native.Mathlib.Omega.{arith}
 use borrow.Author.Tests.{leb-true, ne-eqb}
 use lib.Dec.{T, eqb, leb}
+use Rattle.text.proofs.Members.{allIn, at, isIn, found}
 use Rattle.elements.specs.declared.Element.{Element}
 use Rattle.elements.proofs.Choices.{cond-known}
 use Rattle.rule.specs.Trees.{Trees, count, leaf, group, parenKind, objectKind, blockKind}
 use Rattle.rule.specs.Rule.{backwards, groupClass}
-use Rattle.rule.specs.Levels.{Levels, wholeText, kindOf, slashOpens, braceOpens, depth, countSoFar}
+use Rattle.rule.specs.Levels.{Levels, wholeText, kindOf, slashOpens, wordIsName, braceOpens, depth, countSoFar}
 use Rattle.prefix.specs.Reading.{Limits, Step, stop, more, deep, treesFull, step}
-use Rattle.rule.specs.Machinery.Summary.{nothing, slashBy, summary}
+use Rattle.rule.specs.Machinery.Summary.{nothing, slashBy, nameBy, summary}
 use Rattle.prefix.proofs.StateLaws.{count-on-top}
 use Rattle.prefix.proofs.StepLaws.{step-leaf}
 use Rattle.grammar.specs.Cuts.{isCloser, recorded}
-use Rattle.grammar.specs.Tokens.{Spot, token, tokenOf, classOf, pattern, divide, openParen}
+use Rattle.grammar.specs.Tokens.{Spot, token, tokenOf, classOf, pattern, divide, openParen, wordName}
 use Rattle.grammar.specs.Syntax.{Syntax}
 use Rattle.grammar.specs.Machinery.Machine.{
   Frame,
@@ -49,8 +50,8 @@ use Rattle.grammar.specs.Machinery.Machine.{
 use Rattle.grammar.proofs.Classes.{isLeaf, treeClass, told, leaf-told}
 use Rattle.grammar.proofs.ClassSteps.{opensGroup, openedKind, closesGroup, closesKind, holds, fails, opener-step, closer-step, leaf-no-closer, opener-no-closer, closer-closer, newline-kept, no-end}
 use Rattle.grammar.proofs.Related.{related, on-kind, settled, takesOver, takes-over}
-use Rattle.grammar.proofs.Agreement.{slashRight, opensRight, allows, opens-right, goto-allowed, push-allowed, both, enter-allowed, leave-allowed, pop-allowed, finish-allowed, rule}
-use Rattle.grammar.proofs.LevelSummary.{summaryOf, summaryWith, slash-summary, brace-summary, summary-leaf, summary-group}
+use Rattle.grammar.proofs.Agreement.{wordClasses, takenRight, opensRight, allows, opens-right, goto-allowed, push-allowed, both, enter-allowed, leave-allowed, pop-allowed, finish-allowed, rule}
+use Rattle.grammar.proofs.LevelSummary.{summaryOf, summaryWith, slash-summary, name-summary, brace-summary, summary-leaf, summary-group}
 use Rattle.grammar.proofs.TakenBraces.{braceAt}
 use Rattle.grammar.proofs.ReadBraces.{bracesSoFar, leaf-braces, opener-braces, closer-braces}
 use Rattle.grammar.proofs.InStep.{Stacks, whole-text, in-group, in-nest, InStep, stopped, in-step, in-step-on-top, isLive}
@@ -67,6 +68,8 @@ pub data Outcome (limits : Limits) (levels : Levels) (e : Element) (after : Stat
 pub record Kept (limits : Limits) (levels : Levels) (e : Element) (after : State) : Type 0 where
   pub pattern-opens : classOf e ≡ pattern → slashOpens levels ≡ true
   pub divide-divides : classOf e ≡ divide → slashOpens levels ≡ false
+  pub name-named : classOf e ≡ wordName → wordIsName levels ≡ true
+  pub word-kept : T (isIn wordClasses (classOf e)) → wordIsName levels ≡ false
   pub outcome : Outcome limits levels e after (step limits levels e)
 
 -- an opener opens a group
@@ -125,18 +128,36 @@ closer-outcome limits levels e place value (in-group {behind = behind} {closing 
     (rw (closer-closer e (told e) t) (count-on-top (λ before. group before kind first (e .end) newline trees) (count trees + 1) (λ before. refl) around))
     (closer-braces around kind first (e .end) newline trees (live behind (close closing mark value f) rest) (classOf e) (e .first) t))
 
--- a slash is taken as the prefix rule says
-opens : (levels : Levels) (class : ℕ) → T (slashRight (summaryOf levels) class) → class ≡ pattern → slashOpens levels ≡ true
-unfolding slashRight
+-- a slash, and a reserved word, is taken as the prefix rule says
+opens : (levels : Levels) (class : ℕ) → T (takenRight (summaryOf levels) class) → class ≡ pattern → slashOpens levels ≡ true
+unfolding takenRight
 opens levels class t q = sym (slash-summary levels) ∙ holds (slashBy (summaryOf levels)) (rw q at t)
 
-divides : (levels : Levels) (class : ℕ) → T (slashRight (summaryOf levels) class) → class ≡ divide → slashOpens levels ≡ false
-unfolding slashRight
+divides : (levels : Levels) (class : ℕ) → T (takenRight (summaryOf levels) class) → class ≡ divide → slashOpens levels ≡ false
+unfolding takenRight
 divides levels class t q = sym (slash-summary levels) ∙ fails (slashBy (summaryOf levels)) (rw q at t)
 
+names : (levels : Levels) (class : ℕ) → T (takenRight (summaryOf levels) class) → class ≡ wordName → wordIsName levels ≡ true
+unfolding takenRight
+names levels class t q = sym (name-summary levels) ∙ holds (nameBy (summaryOf levels)) (rw q at t)
+
+keeps-word : (levels : Levels) (class : ℕ) → T (takenRight (summaryOf levels) class) → T (isIn wordClasses class) → wordIsName levels ≡ false
+unfolding takenRight
+keeps-word levels class t w =
+    let other : (x : ℕ) → T (allIn (λ class. not (eqb class x)) wordClasses) → eqb class x ≡ false =
+    λ x none. fails (eqb class x) (at (λ class. not (eqb class x)) (found wordClasses class w) none) in
+    sym (name-summary levels)
+    ∙ fails (nameBy (summaryOf levels)) (rw (other pattern tt, other divide tt, other wordName tt, holds (isIn wordClasses class) w) at t)
+
 module _ (limits : Limits) (levels : Levels) (e : Element) where
-  keep : {after : State} → T (slashRight (summaryOf levels) (classOf e)) → Outcome limits levels e after (step limits levels e) → Kept limits levels e after
-  keep t o = record { pattern-opens = opens levels (classOf e) t; divide-divides = divides levels (classOf e) t; outcome = o }
+  keep : {after : State} → T (takenRight (summaryOf levels) (classOf e)) → Outcome limits levels e after (step limits levels e) → Kept limits levels e after
+  keep t o = record {
+    pattern-opens = opens levels (classOf e) t;
+    divide-divides = divides levels (classOf e) t;
+    name-named = names levels (classOf e) t;
+    word-kept = keeps-word levels (classOf e) t;
+    outcome = o;
+  }
 
   -- what leaving a nest comes to, and then what an action comes to
   abbrev LeftKept : (Syntax → State) → Type 0

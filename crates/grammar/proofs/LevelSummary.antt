@@ -5,9 +5,9 @@ use Prim.Native.Nat.{ℕ}
 use Rattle.elements.specs.declared.Element.{Element}
 use Rattle.rule.specs.Trees.{Trees, leaf, group}
 use Rattle.rule.specs.Rule.{Class, elementClass, groupClass, backwards}
-use Rattle.rule.specs.Levels.{Levels, wholeText, inside, isExpression, kindOf, treesOf, slashOpens, braceOpens, onTop}
-use Rattle.rule.specs.Machinery.Summary.{Summary, braceBy, slashBy, add, summary}
-use Rattle.rule.proofs.SummaryLaws.{brace-right, slash-right}
+use Rattle.rule.specs.Levels.{Levels, wholeText, inside, isExpression, kindOf, treesOf, slashOpens, wordIsName, braceOpens, onTop}
+use Rattle.rule.specs.Machinery.Summary.{Summary, braceBy, slashBy, nameBy, add, summary}
+use Rattle.rule.proofs.SummaryLaws.{brace-right, slash-right, name-right}
 
 unfoldable pub summaryOf : Levels → Summary
 summaryOf levels = summary (isExpression (kindOf levels)) (backwards (treesOf levels))
@@ -19,6 +19,10 @@ summaryWith levels class newline = add (isExpression (kindOf levels)) (summaryOf
 pub slash-summary : (levels : Levels) → slashBy (summaryOf levels) ≡ slashOpens levels
 unfolding summaryOf
 slash-summary levels = slash-right (isExpression (kindOf levels)) (backwards (treesOf levels))
+
+pub name-summary : (levels : Levels) → nameBy (summaryOf levels) ≡ wordIsName levels
+unfolding summaryOf
+name-summary levels = name-right (isExpression (kindOf levels)) (backwards (treesOf levels))
 
 pub brace-summary : (levels : Levels) (newline : Bool) → braceBy (isExpression (kindOf levels)) (summaryOf levels) newline ≡ braceOpens levels newline
 unfolding summaryOf

@@ -16,6 +16,7 @@ pub mod InStep
 pub mod ReadBraces
 pub mod Programs
 pub mod ReadCuts
+pub mod ReadNames
 pub mod SameChoice
 pub mod Spelling
 pub mod Respelled
@@ -44,5 +45,6 @@ pub mod TreeSizes
 pub mod AllBraces
 pub mod Answers
 pub mod ShownRecords
+pub mod IndexedRecords
 pub mod FirstRefused
 pub mod Theorems

@@ -32,7 +32,7 @@ use Rattle.grammar.specs.Grammar.{
   add-declaration,
   Program,
 }
-use Rattle.grammar.proofs.Counts.{leaf-open, operator-open}
+use Rattle.grammar.proofs.Counts.{leaf-open, operator-open, name-open}
 use Rattle.grammar.specs.Demand3.{marksOf, Distinct}
 use Rattle.grammar.proofs.Ranges.{Marks, marks-both, from-lower, to-higher, no-marks, before-parts, between-parts, behind-part, Within, within, distinct}
 use Rattle.grammar.proofs.Counting.{Counting, counting-none, past-closer, at-mark, MarkOf, mark-of}
@@ -74,10 +74,10 @@ module _ {total : ℕ} where
       let m = at-mark openParen tt (c .rest) in
       let v = marked value (m .then) in
       record { high = v .high; rest = past-closer closeParen tt (v .rest); marks = between-parts (c .marks) (m .own) (v .marks) }
-  marked (chain-member object) counting =
+  marked (chain-member {class = class} called object) counting =
       let o = marked object counting in
       let d = at-mark dot tt (o .rest) in
-      let m = at-mark name tt (d .then) in
+      let m = at-mark class (name-open called) (d .then) in
       record { high = o .high + 1 + 1; rest = m .then; marks = behind-part (o .marks) (omega arith) (omega arith) }
   marked (binary-chain chain) counting = marked chain counting
   marked (binary-operator {class = class} op tight left right) counting =

@@ -4,64 +4,92 @@ use mathlib.Core.List.{List, [], _∷_, _++_, append-assoc, append-nil}
 use mathlib.Core.Bool.{Bool, true, false, cond}
 use Prim.Native.Nat.{ℕ, zero, suc, _+_, _≤_, _<_}
 use native.Mathlib.Omega.{arith}
+use borrow.Author.Tests.{ne-eqb}
+use lib.Dec.{T}
 use lib.ListN.{length}
 use Rattle.text.specs.Runs
+use Rattle.text.proofs.Members.{isIn}
+use Rattle.vocabulary.specs.Vocabulary.{words, tokenClass}
+use Rattle.vocabulary.proofs.RowLaws.{at-taken}
 use Rattle.signs.specs.Signs.{longestSign, longestOf}
-use Rattle.elements.specs.Elements.{elementAt, slashMet}
+use Rattle.elements.specs.Elements.{stating, elementAt, slashMet, wordMet, wordKind}
 use Rattle.elements.specs.declared.Element.{Element}
 use Rattle.elements.specs.declared.Next.{Next}
+use Rattle.elements.specs.declared.Stated.{Stated}
 use Rattle.elements.proofs.Bounds.{Placed, found-placed}
 use Rattle.elements.proofs.Delimiters.{delimiter-byte, delimiter-which}
-use Rattle.elements.proofs.Slashes.{Divide, slash-divides, either-slash, divide-found, pattern-found}
+use Rattle.elements.proofs.Slashes.{Divide, divide-found, pattern-found}
+use Rattle.elements.proofs.StatedAnswers.{as-asked, slash-no-word, word-no-slash, end-always, found-reserved}
+use Rattle.elements.proofs.Spellings.{word-spelling}
 use Rattle.rule.specs.Trees.{Trees, none, count}
-use Rattle.rule.specs.Levels.{Levels, wholeText, treesOf, slashOpens, depth, countSoFar}
-use Rattle.grammar.specs.Demand3.{RuleTakes, takes-end, takes-element, takes-slash}
+use Rattle.rule.specs.Levels.{Levels, wholeText, treesOf, slashOpens, wordIsName, statedBy, depth, countSoFar}
+use Rattle.grammar.specs.Demand3.{RuleTakes, takes-end, takes-element, takes-slash, takes-word}
 use Rattle.prefix.specs.Reading.{step, more, Limits, accepted, ending, readOn, reading, unlimited, unlimitedReading}
 use Rattle.prefix.proofs.ReadingLaws.{read-end, read-more}
 use Rattle.prefix.proofs.StepCases.{step-taken}
 use Rattle.prefix.proofs.Sizes.{Grown, taken-grown}
-use Rattle.grammar.specs.Cuts.{recorded, isCloser, Cuts, cut-end, cut-element, cut-slash}
-use Rattle.grammar.specs.Tokens.{classOf, tokenOf, tokens, tokensFrom, pattern, divide}
+use Rattle.grammar.specs.Cuts.{recorded, isCloser, Cuts, cut-end, cut-element, cut-slash, cut-word}
+use Rattle.grammar.specs.Tokens.{classOf, tokenOf, tokens, tokensFrom, pattern, divide, wordName}
 use Rattle.grammar.specs.TreeElements.{elementsOf}
 use Rattle.grammar.specs.Machinery.Machine.{State, live, consume, start, Frame, finished}
 use Rattle.grammar.proofs.TakenBraces.{braceAt, bracesFrom}
 use Rattle.grammar.proofs.ReadBraces.{treeBraces, bracesSoFar}
 use Rattle.grammar.proofs.SoFar.{elementsSoFar, step-elements}
 use Rattle.grammar.proofs.InStep.{InStep, start-in-step, ran-live}
+use Rattle.grammar.proofs.Agreement.{wordClasses}
 use Rattle.grammar.proofs.Kept.{Kept, kept, Stepped, stepped, Outermost, outermost, outermost-at-end}
 use Rattle.grammar.proofs.Ran.{ran, anywhere}
 
--- where nothing is left, nothing is left under either slash answer
-end-either : (bytes : List ℕ) (place : ℕ) → elementAt bytes place false ≡ Next.End → (answer : Bool) → elementAt bytes place answer ≡ Next.End
-end-either bytes place e false = e
-end-either bytes place e true = go (slashMet bytes place) refl
-  where
-    go : (met : Bool) → slashMet bytes place ≡ met → elementAt bytes place true ≡ Next.End
-    go true m = absurd (rw e at (slash-divides bytes place m))
-    go false m = either-slash bytes place m ∙ e
+-- what is found where neither a slash nor a reserved word is met is found under all answers; where one is met, its own answer counts
+module _ (bytes : List ℕ) (place : ℕ) (e : Element) where
+  found-plain : slashMet bytes place ≡ false → wordMet bytes place ≡ false → elementAt bytes place (stating false false) ≡ Next.Found e
+      → (given : Stated) → elementAt bytes place given ≡ Next.Found e
+  found-plain s w f given = as-asked bytes place given ∙ rw (s, w) f
 
-found-either : (bytes : List ℕ) (place : ℕ) (e : Element) → slashMet bytes place ≡ false → elementAt bytes place false ≡ Next.Found e
-    → (answer : Bool) → elementAt bytes place answer ≡ Next.Found e
-found-either bytes place e m f false = f
-found-either bytes place e m f true = either-slash bytes place m ∙ f
+  found-slash : (answer : Bool) → slashMet bytes place ≡ true → elementAt bytes place (stating answer false) ≡ Next.Found e
+      → (given : Stated) → given .pattern ≡ answer → elementAt bytes place given ≡ Next.Found e
+  found-slash answer m f given same = as-asked bytes place given ∙ rw (m, slash-no-word bytes place m, same) f
+
+  found-word : (answer : Bool) → wordMet bytes place ≡ true → elementAt bytes place (stating false answer) ≡ Next.Found e
+      → (given : Stated) → given .name ≡ answer → elementAt bytes place given ≡ Next.Found e
+  found-word answer m f given same = as-asked bytes place given ∙ rw (m, word-no-slash bytes place m, same) f
 
 -- a slash that a derivation takes as a regular expression, or as a sign, is one for the machine
 module _ (bytes : List ℕ) (place : ℕ) (e : Element) (met : slashMet bytes place ≡ true) where
-  opened-class : elementAt bytes place true ≡ Next.Found e → classOf e ≡ pattern
+  opened-class : elementAt bytes place (stating true false) ≡ Next.Found e → classOf e ≡ pattern
   unfolding classOf
-  opened-class f = rw (pattern-found bytes place met e f)
+  opened-class f = rw (pattern-found bytes place false met e f)
 
-  divided-class : elementAt bytes place false ≡ Next.Found e → classOf e ≡ divide
+  divided-class : elementAt bytes place (stating false false) ≡ Next.Found e → classOf e ≡ divide
   unfolding classOf longestSign longestOf Runs.same
   divided-class f =
-      let d : Divide e = divide-found bytes place met e f in
+      let d : Divide e = divide-found bytes place false met e f in
       rw (d .kind, d .which)
 
   -- so that the prefix rule answers as the derivation does
-  answered : (answer : Bool) → elementAt bytes place answer ≡ Next.Found e → {limits : Limits} {levels : Levels} {after : State}
+  answered : (answer : Bool) → elementAt bytes place (stating answer false) ≡ Next.Found e → {limits : Limits} {levels : Levels} {after : State}
       → Kept limits levels e after → slashOpens levels ≡ answer
   answered true f k = k .pattern-opens (opened-class f)
   answered false f k = k .divide-divides (divided-class f)
+
+-- and a reserved word that it takes as a name, or as a word, is one
+module _ (bytes : List ℕ) (place : ℕ) (e : Element) (met : wordMet bytes place ≡ true) where
+  name-class : elementAt bytes place (stating false true) ≡ Next.Found e → classOf e ≡ wordName
+  unfolding classOf
+  name-class f =
+      let r = found-reserved bytes place (stating false true) e f .reserved met in
+      rw (r .0, ne-eqb (e .which) 0 (r .1))
+
+  word-class : elementAt bytes place (stating false false) ≡ Next.Found e → T (isIn wordClasses (classOf e))
+  unfolding classOf
+  word-class f =
+      let k : e .kind ≡ wordKind = found-reserved bytes place (stating false false) e f .reserved met .0 in
+      rw k (at-taken (λ number row. isIn wordClasses (tokenClass row)) words tt (e .which) (word-spelling bytes place (stating false false) e f k .taken))
+
+  named : (answer : Bool) → elementAt bytes place (stating false answer) ≡ Next.Found e → {limits : Limits} {levels : Levels} {after : State}
+      → Kept limits levels e after → wordIsName levels ≡ answer
+  named true f k = k .name-named (name-class f)
+  named false f k = k .word-kept (word-class f)
 
 -- the machine has no group open: the elements so far are those of the whole text's level
 whole : {levels : Levels} → Outermost levels → elementsOf (treesOf levels) ≡ elementsSoFar levels
@@ -84,7 +112,7 @@ record Reads (bytes : List ℕ) (fuel : ℕ) (levels : Levels) (place : ℕ) (st
 module _ (bytes : List ℕ) where
   -- one element, which the derivation found
   module _ (fuel place n : ℕ) (state : State) (levels : Levels) (e : Element) (es : List Element)
-      (found : elementAt bytes place (slashOpens levels) ≡ Next.Found e)
+      (found : elementAt bytes place (statedBy levels) ≡ Next.Found e)
       (k : Kept (unlimited bytes) levels e (consume state (tokenOf n (recorded e))))
       (few : countSoFar levels ≤ place) (shallow : depth levels ≤ place) where
     -- the machine behind it, and what is read behind it
@@ -101,7 +129,7 @@ module _ (bytes : List ℕ) where
       trees = r .trees;
       reads = read-more bytes (unlimited bytes) less levels place e found (g .next) (g .steps) ∙ r .reads;
       same = r .same
-          ∙ rw (step-elements (unlimited bytes) levels e (delimiter-byte bytes place (slashOpens levels) e found) (delimiter-which bytes place (slashOpens levels) e found) (g .next) (g .steps))
+          ∙ rw (step-elements (unlimited bytes) levels e (delimiter-byte bytes place (statedBy levels) e found) (delimiter-which bytes place (statedBy levels) e found) (g .next) (g .steps))
           (append-assoc (elementsSoFar levels) (recorded e ∷ []) es);
       braces = r .braces
           ∙ rw (g .braces)
@@ -118,13 +146,13 @@ module _ (bytes : List ℕ) where
         go : (fuel : ℕ) → length bytes < place + fuel → Reads bytes fuel levels place state n (recorded e ∷ es)
         go zero enough = absurd (omega arith)
         go (suc fuel) enough =
-            let p : Placed bytes place e = found-placed bytes place (slashOpens levels) e found in
+            let p : Placed bytes place e = found-placed bytes place (statedBy levels) e found in
             let g = stepped k (omega arith) (omega arith) in
             let grown : Grown (unlimited bytes) levels (g .next) = taken-grown e (step-taken (unlimited bytes) e levels (g .next) (g .steps)) in
             with-element fuel g (rest (g .next) (g .follows) (omega arith) (omega arith) fuel (omega arith) (p .within))
 
   -- nothing is left
-  last : (fuel place n : ℕ) (state : State) (levels : Levels) → Outermost levels → elementAt bytes place false ≡ Next.End
+  last : (fuel place n : ℕ) (state : State) (levels : Levels) → Outermost levels → elementAt bytes place (stating false false) ≡ Next.End
       → Reads bytes fuel levels place state n []
   unfolding readOn tokensFrom
   last fuel place n state levels i none-left =
@@ -137,11 +165,18 @@ module _ (bytes : List ℕ) where
     where
       go : (fuel : ℕ) → readOn bytes (unlimited bytes) fuel levels place ≡ accepted (treesOf levels)
       go zero = at-end i
-      go (suc fuel) = read-end bytes (unlimited bytes) fuel levels place (end-either bytes place none-left (slashOpens levels)) ∙ at-end i
+      go (suc fuel) = read-end bytes (unlimited bytes) fuel levels place (end-always bytes place (stating false false) (statedBy levels) none-left) ∙ at-end i
 
   -- the machine follows what is left, and ends where a program may
   abbrev Followed : State → ℕ → List Element → Type 0
   Followed state n es = (f : Frame) × (ran anywhere state (tokensFrom n es) ≡ live finished f [])
+
+  -- what is kept by an element that the machine follows
+  followed : (n : ℕ) (state : State) (levels : Levels) (e : Element) (es : List Element) → InStep state levels → Followed state n (recorded e ∷ es)
+      → Kept (unlimited bytes) levels e (consume state (tokenOf n (recorded e)))
+  unfolding tokensFrom
+  followed n state levels e es i r =
+      kept (unlimited bytes) levels e n i (ran-live (consume state (tokenOf n (recorded e))) (tokensFrom (cond (isCloser (recorded e)) n (n + 1)) es) (rw (r .1) tt))
 
   reads-on : {place : ℕ} {choice : List Bool} {es : List Element} → Cuts bytes place choice es → (n : ℕ) (state : State) (levels : Levels)
       → InStep state levels → Followed state n es → countSoFar levels ≤ place → depth levels ≤ place
@@ -149,13 +184,16 @@ module _ (bytes : List ℕ) where
   unfolding tokensFrom
   reads-on (cut-end {place} end) n state levels i r few shallow fuel enough h =
       last fuel place n state levels (outermost-at-end levels anywhere i (rw (r .1) tt)) end
-  reads-on (cut-element {place} {e} {es = es} met found rest) n state levels i r few shallow fuel enough h =
-      let k = kept (unlimited bytes) levels e n i (ran-live (consume state (tokenOf n (recorded e))) (tokensFrom (cond (isCloser (recorded e)) n (n + 1)) es) (rw (r .1) tt)) in
-      some fuel place n state levels e es (found-either bytes place e met found (slashOpens levels)) k few shallow enough h
+  reads-on (cut-element {place} {e} {es = es} slash word found rest) n state levels i r few shallow fuel enough h =
+      some fuel place n state levels e es (found-plain bytes place e slash word found (statedBy levels)) (followed n state levels e es i r) few shallow enough h
       (λ after j few shallow less enough h. reads-on rest (cond (isCloser (recorded e)) n (n + 1)) (consume state (tokenOf n (recorded e))) after j r few shallow less enough h)
   reads-on (cut-slash {place} {e} {answer} {es = es} met found rest) n state levels i r few shallow fuel enough h =
-      let k = kept (unlimited bytes) levels e n i (ran-live (consume state (tokenOf n (recorded e))) (tokensFrom (cond (isCloser (recorded e)) n (n + 1)) es) (rw (r .1) tt)) in
-      some fuel place n state levels e es (rw (answered bytes place e met answer found k) found) k few shallow enough h
+      let k = followed n state levels e es i r in
+      some fuel place n state levels e es (found-slash bytes place e answer met found (statedBy levels) (answered bytes place e met answer found k)) k few shallow enough h
+      (λ after j few shallow less enough h. reads-on rest (cond (isCloser (recorded e)) n (n + 1)) (consume state (tokenOf n (recorded e))) after j r few shallow less enough h)
+  reads-on (cut-word {place} {e} {answer} {es = es} met found rest) n state levels i r few shallow fuel enough h =
+      let k = followed n state levels e es i r in
+      some fuel place n state levels e es (found-word bytes place e answer met found (statedBy levels) (named bytes place e met answer found k)) k few shallow enough h
       (λ after j few shallow less enough h. reads-on rest (cond (isCloser (recorded e)) n (n + 1)) (consume state (tokenOf n (recorded e))) after j r few shallow less enough h)
 
   -- the levels behind an element that the machine follows, and that few records and groups stand before what is behind it
@@ -167,10 +205,10 @@ module _ (bytes : List ℕ) where
     shallow : depth next ≤ e .end
     within : e .end ≤ length bytes
 
-  behind : {place : ℕ} {levels : Levels} {e : Element} {after : State} → elementAt bytes place (slashOpens levels) ≡ Next.Found e → Kept (unlimited bytes) levels e after
+  behind : {place : ℕ} {levels : Levels} {e : Element} {after : State} → elementAt bytes place (statedBy levels) ≡ Next.Found e → Kept (unlimited bytes) levels e after
       → countSoFar levels ≤ place → depth levels ≤ place → Behind place levels e after
   behind {place} {levels} {e} found k few shallow =
-      let p : Placed bytes place e = found-placed bytes place (slashOpens levels) e found in
+      let p : Placed bytes place e = found-placed bytes place (statedBy levels) e found in
       let g = stepped k (omega arith) (omega arith) in
       let grown : Grown (unlimited bytes) levels (g .next) = taken-grown e (step-taken (unlimited bytes) e levels (g .next) (g .steps)) in
       record { next = g .next; steps = g .steps; follows = g .follows; few = omega arith; shallow = omega arith; within = p .within }
@@ -180,15 +218,19 @@ module _ (bytes : List ℕ) where
       → InStep state levels → Followed state n es → countSoFar levels ≤ place → depth levels ≤ place → RuleTakes bytes levels place choice es
   unfolding tokensFrom
   takes-on (cut-end end) n state levels i r few shallow = takes-end end
-  takes-on (cut-element {place} {e} {es = es} met found rest) n state levels i r few shallow =
-      let k = kept (unlimited bytes) levels e n i (ran-live (consume state (tokenOf n (recorded e))) (tokensFrom (cond (isCloser (recorded e)) n (n + 1)) es) (rw (r .1) tt)) in
-      let b = behind (found-either bytes place e met found (slashOpens levels)) k few shallow in
-      takes-element met found (b .steps) (takes-on rest (cond (isCloser (recorded e)) n (n + 1)) (consume state (tokenOf n (recorded e))) (b .next) (b .follows) r (b .few) (b .shallow))
+  takes-on (cut-element {place} {e} {es = es} slash word found rest) n state levels i r few shallow =
+      let b = behind (found-plain bytes place e slash word found (statedBy levels)) (followed n state levels e es i r) few shallow in
+      takes-element slash word found (b .steps) (takes-on rest (cond (isCloser (recorded e)) n (n + 1)) (consume state (tokenOf n (recorded e))) (b .next) (b .follows) r (b .few) (b .shallow))
   takes-on (cut-slash {place} {e} {answer} {es = es} met found rest) n state levels i r few shallow =
-      let k = kept (unlimited bytes) levels e n i (ran-live (consume state (tokenOf n (recorded e))) (tokensFrom (cond (isCloser (recorded e)) n (n + 1)) es) (rw (r .1) tt)) in
+      let k = followed n state levels e es i r in
       let same = answered bytes place e met answer found k in
-      let b = behind (rw same found) k few shallow in
+      let b = behind (found-slash bytes place e answer met found (statedBy levels) same) k few shallow in
       takes-slash met same found (b .steps) (takes-on rest (cond (isCloser (recorded e)) n (n + 1)) (consume state (tokenOf n (recorded e))) (b .next) (b .follows) r (b .few) (b .shallow))
+  takes-on (cut-word {place} {e} {answer} {es = es} met found rest) n state levels i r few shallow =
+      let k = followed n state levels e es i r in
+      let same = named bytes place e met answer found k in
+      let b = behind (found-word bytes place e answer met found (statedBy levels) same) k few shallow in
+      takes-word met same found (b .steps) (takes-on rest (cond (isCloser (recorded e)) n (n + 1)) (consume state (tokenOf n (recorded e))) (b .next) (b .follows) r (b .few) (b .shallow))
 
   pub program-takes : {choice : List Bool} {es : List Element} (cut : Cuts bytes 0 choice es) → Followed start 0 es → RuleTakes bytes (wholeText none) 0 choice es
   unfolding count

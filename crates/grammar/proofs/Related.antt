@@ -10,6 +10,7 @@ use Rattle.rule.specs.Machinery.Summary.{
   operand,
   afterOperator,
   afterColon,
+  afterDot,
   afterOther,
   afterReturn,
   afterIf,
@@ -18,6 +19,7 @@ use Rattle.rule.specs.Machinery.Summary.{
   afterFunction,
   afterFunctionName,
   afterFunctionParens,
+  nameBy,
   code,
 }
 use Rattle.grammar.specs.Machinery.Machine.{
@@ -49,8 +51,9 @@ use Rattle.grammar.specs.Machinery.Machine.{
   finished,
 }
 use Rattle.text.proofs.Members.{allIn, at, isIn, found}
-use Rattle.text.proofs.Range.{and-left}
+use Rattle.text.proofs.Range.{and-left, and-right}
 use Rattle.rule.proofs.Finite.{allSummaries, at-summary}
+use borrow.Author.Tests.{eqb-true}
 use lib.Dec.{T}
 
 -- statement levels: the whole text, of kind 0, and blocks
@@ -127,7 +130,7 @@ abbrev isOperand : Role → Bool
 isOperand declared = false
 isOperand (operandIn ending target) = true
 
-abbrev summaries : Control → List Summary
+abbrev pub summaries : Control → List Summary
 summaries (statementDue true setting) = afterColon ∷ afterIfParens ∷ []
 summaries (statementDue false setting) = nothing ∷ afterOther ∷ afterBlock ∷ []
 summaries (statementDone nest) = afterOther ∷ afterBlock ∷ []
@@ -136,7 +139,7 @@ summaries (returnFirst setting) = afterReturn ∷ []
 summaries ifFirst = afterIf ∷ []
 summaries (operandDue ending target) = dueBehind ending
 summaries (operandDone ending target) = operand ∷ []
-summaries (dotLast ending target) = afterOther ∷ []
+summaries (dotLast ending target) = afterDot ∷ []
 summaries (functionFirst role) = afterFunction (isOperand role) ∷ []
 summaries (functionNamed role) = afterFunctionName (isOperand role) ∷ []
 summaries (parameterPast role) = afterFunctionParens (isOperand role) ∷ []
@@ -146,9 +149,17 @@ summaries parameterDue = nothing ∷ []
 summaries parameterNamed = operand ∷ []
 summaries finished = []
 
-abbrev codes : List Summary → List ℕ
+abbrev pub codes : List Summary → List ℕ
 codes [] = []
 codes (s ∷ rest) = code s ∷ codes rest
+
+abbrev pub implies : Bool → Bool → Bool
+implies true b = b
+implies false b = true
+
+pub implied : (a b : Bool) → T (implies a b) → T a → T b
+implied true b t s = t
+implied false b t s = absurd s
 
 -- whether a control may stand on a level of a kind, behind trees with a summary
 unfoldable pub related : Control → ℕ → Summary → Bool
@@ -158,17 +169,16 @@ pub on-kind : (control : Control) (kind : ℕ) (s : Summary) → T (related cont
 unfolding related
 on-kind control kind s r = and-left (isIn (kinds control) kind) (isIn (codes (summaries control)) (code s)) r
 
+-- where a reserved word is a name, a dot stands last
+pub behind-dot : (control : Control) (kind : ℕ) (s : Summary) → T (related control kind s) → nameBy s ≡ true → T (isIn (codes (summaries control)) (code afterDot))
+unfolding related
+behind-dot control kind s r n =
+    let only : code s ≡ code afterDot = eqb-true (code s) (code afterDot) n in
+    rw only at (and-right (isIn (kinds control) kind) (isIn (codes (summaries control)) (code s)) r)
+
 -- whether a statement may be complete there
 abbrev pub settled : ℕ → Summary → Bool
 settled kind s = related (statementDone ifNest) kind s
-
-abbrev pub implies : Bool → Bool → Bool
-implies true b = b
-implies false b = true
-
-pub implied : (a b : Bool) → T (implies a b) → T a → T b
-implied true b t s = t
-implied false b t s = absurd s
 
 -- what is asked of the control behind a nest: wherever a statement is complete, the machine may stand at it
 unfoldable pub takesOver : Control → Bool

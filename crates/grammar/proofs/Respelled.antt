@@ -6,10 +6,11 @@ use Prim.Native.Nat.{ℕ, _+_, _-_}
 use native.Mathlib.Omega.{arith}
 use lib.ListN.{length, take, drop, length-append}
 use lib.Seq.{take-at, drop-at}
-use Rattle.elements.specs.Elements.{elementAt}
+use Rattle.elements.specs.Elements.{stating, elementAt}
 use Rattle.elements.specs.declared.Element.{Element}
 use Rattle.elements.specs.declared.Next.{Next}
-use Rattle.grammar.specs.Cuts.{recorded, Cuts, cut-end, cut-element, cut-slash}
+use Rattle.elements.specs.declared.Stated.{Stated}
+use Rattle.grammar.specs.Cuts.{recorded, Cuts, cut-end, cut-element, cut-slash, cut-word}
 use Rattle.grammar.specs.Derivations.{SameElements, no-elements, same-element}
 use Rattle.grammar.proofs.Spelling.{Piece, spelling, before, spelled, moved, placedFrom, bytes-length, written, written-length, written-text}
 
@@ -30,9 +31,9 @@ pub record Pieces (s : List ℕ) (es : List Element) : Type 0 where
   pub same : (u : List ℕ) (more : List Piece) → SameElements s (u ++ spelled (pieces ++ more)) es (placedFrom (length u) pieces)
 
 module _ (s : List ℕ) where
-  pub piece-more : (place : ℕ) (e : Element) (es : List Element) (answer : Bool) → elementAt s place answer ≡ Next.Found e → Pieces s es → Pieces s (recorded e ∷ es)
-  piece-more place e es answer f rest =
-      let p : Piece = record { source = s; place = place; answer = answer; element = e; found = f; newline = e .newline } in
+  pub piece-more : (place : ℕ) (e : Element) (es : List Element) (given : Stated) → elementAt s place given ≡ Next.Found e → Pieces s es → Pieces s (recorded e ∷ es)
+  piece-more place e es given f rest =
+      let p : Piece = record { source = s; place = place; given = given; element = e; found = f; newline = e .newline } in
       record {
         pieces = p ∷ rest .pieces;
         same = λ u more.
@@ -44,5 +45,6 @@ module _ (s : List ℕ) where
 
   pub pieces-of : {place : ℕ} {choice : List Bool} {es : List Element} → Cuts s place choice es → Pieces s es
   pieces-of (cut-end e) = record { pieces = []; same = λ u more. no-elements }
-  pieces-of (cut-element {place} {e} {es = es} m f rest) = piece-more place e es false f (pieces-of rest)
-  pieces-of (cut-slash {place} {e} {answer} {es = es} m f rest) = piece-more place e es answer f (pieces-of rest)
+  pieces-of (cut-element {place} {e} {es = es} s w f rest) = piece-more place e es (stating false false) f (pieces-of rest)
+  pieces-of (cut-slash {place} {e} {answer} {es = es} m f rest) = piece-more place e es (stating answer false) f (pieces-of rest)
+  pieces-of (cut-word {place} {e} {answer} {es = es} m f rest) = piece-more place e es (stating false answer) f (pieces-of rest)

@@ -1,18 +1,18 @@
--- What the records of trees show: the braces of the trees, and the regular expressions among their elements.
+-- What the records of trees show: the braces of the trees, and the regular expressions and words among their elements.
 use mathlib.Core.Path.{_≡_, refl, sym, ap, _∙_}
 use mathlib.Core.List.{List, [], _∷_, _++_, append-assoc, append-nil}
-use Prim.Native.Nat.{ℕ, _+_}
+use Prim.Native.Nat.{ℕ, _+_, _-_, _≤_}
 use native.Mathlib.Omega.{arith}
 use borrow.Author.Tests.{ne-eqb}
-use Rattle.elements.specs.Elements.{patternKind}
+use Rattle.elements.specs.Elements.{delimiterKind, wordKind, patternKind}
 use Rattle.elements.specs.declared.Element.{Element}
 use Rattle.rule.specs.Trees.{Trees, none, leaf, group, count, objectKind, blockKind}
 use Rattle.tables.specs.Records.{treeRecord}
 use Rattle.storing.specs.Records.{records}
 use Rattle.reader.proofs.Formed.{Formed}
 use Rattle.grammar.specs.TreeElements.{openerOf, closerOf, elementsOf}
-use Rattle.grammar.specs.Shown.{shownIn, patternOf, braceOf}
-use Rattle.grammar.proofs.Answers.{patternsAmong}
+use Rattle.grammar.specs.Shown.{shownIn, patternOf, wordOf, braceOf}
+use Rattle.grammar.proofs.Answers.{among}
 use Rattle.grammar.proofs.ReadBraces.{treeBraces}
 
 -- what trees show, each by its kind and first byte
@@ -49,23 +49,26 @@ tree-braces (leaf before e) f =
 tree-braces (group before kind first end newline within) f = rw (tree-braces before (f .0), tree-braces within (f .3))
 
 -- groups have none of the kinds of elements
-among-append : (es fs : List Element) → patternsAmong (es ++ fs) ≡ patternsAmong es ++ patternsAmong fs
-among-append [] fs = refl
-among-append (e ∷ es) fs = rw (among-append es fs) (simp append-assoc)
+module _ (show : ℕ → ℕ → List ℕ) (no-delimiter : (first : ℕ) → show delimiterKind first ≡ []) (no-group : (kind first : ℕ) → 7 ≤ kind → show kind first ≡ []) where
+  among-append : (es fs : List Element) → among show (es ++ fs) ≡ among show es ++ among show fs
+  among-append [] fs = refl
+  among-append (e ∷ es) fs = rw (among-append es fs) (simp append-assoc)
 
-tree-patterns : (trees : Trees) → Formed trees → shownOf patternOf trees ≡ patternsAmong (elementsOf trees)
-unfolding shownOf elementsOf
-tree-patterns none f = refl
-tree-patterns (leaf before e) f = rw (among-append (elementsOf before) (e ∷ []), tree-patterns before (f .0), append-nil (patternOf (e .kind) (e .first)))
-tree-patterns (group before kind first end newline within) f =
-    rw (
-      ne-eqb kind patternKind (λ q. omega (arith, f .1)),
-      among-append (elementsOf before) (openerOf kind first newline ∷ (elementsOf within ++ (closerOf kind end ∷ []))),
-      among-append (elementsOf within) (closerOf kind end ∷ []),
-      append-nil (patternsAmong (elementsOf within)),
-      tree-patterns before (f .0),
-      tree-patterns within (f .3),
-    )
+  tree-among : (trees : Trees) → Formed trees → shownOf show trees ≡ among show (elementsOf trees)
+  unfolding shownOf elementsOf
+  tree-among none f = refl
+  tree-among (leaf before e) f = rw (among-append (elementsOf before) (e ∷ []), tree-among before (f .0), append-nil (show (e .kind) (e .first)))
+  tree-among (group before kind first end newline within) f =
+      rw (
+        no-group kind first (f .1),
+        among-append (elementsOf before) (openerOf kind first newline ∷ (elementsOf within ++ (closerOf kind end ∷ []))),
+        no-delimiter first,
+        among-append (elementsOf within) (closerOf kind end ∷ []),
+        no-delimiter (end - 1),
+        append-nil (among show (elementsOf within)),
+        tree-among before (f .0),
+        tree-among within (f .3),
+      )
 
 -- the records of formed trees
 module _ (trees : Trees) (f : Formed trees) where
@@ -77,5 +80,9 @@ module _ (trees : Trees) (f : Formed trees) where
   pub records-braces : shownIn braceOf (records trees) ≡ treeBraces trees
   records-braces = all-shown braceOf ∙ tree-braces trees f
 
-  pub records-patterns : shownIn patternOf (records trees) ≡ patternsAmong (elementsOf trees)
-  records-patterns = all-shown patternOf ∙ tree-patterns trees f
+  pub records-patterns : shownIn patternOf (records trees) ≡ among patternOf (elementsOf trees)
+  records-patterns =
+      all-shown patternOf ∙ tree-among patternOf (λ first. refl) (λ kind first h. rw (ne-eqb kind patternKind (λ q. omega arith))) trees f
+
+  pub records-words : shownIn wordOf (records trees) ≡ among wordOf (elementsOf trees)
+  records-words = all-shown wordOf ∙ tree-among wordOf (λ first. refl) (λ kind first h. rw (ne-eqb kind wordKind (λ q. omega arith))) trees f

@@ -7,10 +7,11 @@ use native.Mathlib.Omega.{arith}
 use lib.ListN.{length, drop, length-append, length-drop}
 use lib.Seq.{length-take-le}
 use Rattle.text.specs.Bytes.{blank, lineEnd}
-use Rattle.elements.specs.Elements.{elementAt}
+use Rattle.elements.specs.Elements.{stating, elementAt}
 use Rattle.elements.specs.Lexemes.{lexemeOf}
 use Rattle.elements.specs.declared.Element.{Element}
 use Rattle.elements.specs.declared.Next.{Next}
+use Rattle.elements.specs.declared.Stated.{Stated}
 use Rattle.elements.proofs.Bounds.{Placed, found-placed, past-end}
 use Rattle.elements.proofs.Separators.{lined, blank-first, line-end-first}
 use Rattle.elements.proofs.OwnBytes.{own-bytes}
@@ -21,9 +22,9 @@ use Rattle.grammar.proofs.ReadCuts.{cut-more}
 pub record Piece : Type 0 where
   pub source : List ℕ
   pub place : ℕ
-  pub answer : Bool
+  pub given : Stated
   pub element : Element
-  pub found : elementAt source place answer ≡ Next.Found element
+  pub found : elementAt source place given ≡ Next.Found element
   pub newline : Bool
 
 -- its bytes, and what is written before them
@@ -72,25 +73,25 @@ starts (p ∷ ps) = record { head = before p; tail = spelling p ++ spelled ps; i
 
 -- a piece is found behind what was written
 module _ (u : List ℕ) (p : Piece) (rest : List ℕ) (r : Starts rest) where
-  own : (b : ℕ) → elementAt (u ++ (b ∷ (spelling p ++ rest))) (length u + 1) (p .answer)
+  own : (b : ℕ) → elementAt (u ++ (b ∷ (spelling p ++ rest))) (length u + 1) (p .given)
       ≡ Next.Found (record { kind = p .element .kind; which = p .element .which; first = length u + 1; end = length u + 1 + (p .element .end - p .element .first); newline = false })
   own b =
       let size : length (u ++ (b ∷ [])) ≡ length u + 1 = length-append u (b ∷ []) in
-      let o = own-bytes (p .source) (p .place) (p .answer) (p .element) (p .found) (r .head) (r .separates) (u ++ (b ∷ [])) (r .tail) in
+      let o = own-bytes (p .source) (p .place) (p .given) (p .element) (p .found) (r .head) (r .separates) (u ++ (b ∷ [])) (r .tail) in
       rw (r .is) (rw (size, append-assoc u (b ∷ []) (spelling p ++ r .head ∷ r .tail)) at o)
 
-  found-again : elementAt (u ++ (before p ∷ (spelling p ++ rest))) (length u) (p .answer) ≡ Next.Found (moved (length u) p)
+  found-again : elementAt (u ++ (before p ∷ (spelling p ++ rest))) (length u) (p .given) ≡ Next.Found (moved (length u) p)
   unfolding blank lineEnd
   found-again = go (p .newline)
     where
-      go : (newline : Bool) → elementAt (u ++ (cond newline 0x0A 0x20 ∷ (spelling p ++ rest))) (length u) (p .answer)
+      go : (newline : Bool) → elementAt (u ++ (cond newline 0x0A 0x20 ∷ (spelling p ++ rest))) (length u) (p .given)
           ≡ Next.Found (record { kind = p .element .kind; which = p .element .which; first = length u + 1; end = length u + 1 + (p .element .end - p .element .first); newline = newline })
-      go true = line-end-first u (spelling p ++ rest) 0x0A (p .answer) refl ∙ ap lined (own 0x0A)
-      go false = blank-first u (spelling p ++ rest) 0x20 (p .answer) refl ∙ own 0x20
+      go true = line-end-first u (spelling p ++ rest) 0x0A (p .given) refl ∙ ap lined (own 0x0A)
+      go false = blank-first u (spelling p ++ rest) 0x20 (p .given) refl ∙ own 0x20
 
 pub bytes-length : (p : Piece) → length (spelling p) ≡ p .element .end - p .element .first
 bytes-length p =
-    let q : Placed (p .source) (p .place) (p .element) = found-placed (p .source) (p .place) (p .answer) (p .element) (p .found) in
+    let q : Placed (p .source) (p .place) (p .element) = found-placed (p .source) (p .place) (p .given) (p .element) (p .found) in
     length-take-le (p .element .end - p .element .first) (drop (p .element .first) (p .source)) (omega (arith, length-drop (p .element .first) (p .source)))
 
 -- the same text, with the bytes of a piece among what was written
@@ -109,10 +110,10 @@ module _ (u : List ℕ) (p : Piece) (ps : List Piece) where
 pub spelled-cuts : (u : List ℕ) (ps : List Piece) → CutsInto (u ++ spelled ps) (length u) (placedFrom (length u) ps)
 unfolding spelled blank lineEnd
 spelled-cuts u [] =
-    let past : elementAt (u ++ (0x0A ∷ [])) (length u + 1) false ≡ Next.End = past-end (u ++ (0x0A ∷ [])) (length u + 1) false (omega (arith, length-append u (0x0A ∷ []))) in
-    record { choice = []; cut = cut-end (line-end-first u [] 0x0A false refl ∙ ap lined past) }
+    let past : elementAt (u ++ (0x0A ∷ [])) (length u + 1) (stating false false) ≡ Next.End = past-end (u ++ (0x0A ∷ [])) (length u + 1) (stating false false) (omega (arith, length-append u (0x0A ∷ []))) in
+    record { choice = []; cut = cut-end (line-end-first u [] 0x0A (stating false false) refl ∙ ap lined past) }
 spelled-cuts u (p ∷ ps) =
-    cut-more (u ++ spelled (p ∷ ps)) (length u) (moved (length u) p) (placedFrom (length u + 1 + (p .element .end - p .element .first)) ps) (p .answer)
+    cut-more (u ++ spelled (p ∷ ps)) (length u) (moved (length u) p) (placedFrom (length u + 1 + (p .element .end - p .element .first)) ps) (p .given)
     (found-again u p (spelled ps) (starts ps))
     (rw (written-length u p ps, written-text u p ps) at (spelled-cuts (written u p ps) ps))
 

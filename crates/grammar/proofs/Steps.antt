@@ -4,7 +4,7 @@ use mathlib.Core.List.{List, [], _∷_}
 use Prim.Native.Nat.{ℕ}
 use Rattle.grammar.specs.Tokens.{Token, token, Spot, name, dot, openParen, closeParen, openBrace, returnWord, functionWord, ifWord}
 use Rattle.grammar.specs.Syntax.{nil, node, fullReturnSyntax}
-use Rattle.grammar.specs.Grammar.{leaf-name, body, Chain, chain-leaf, chain-empty, chain-member, statement-if, statement-bare-return, no-statements}
+use Rattle.grammar.specs.Grammar.{leaf-name, identifier, reserved-word, body, Chain, chain-leaf, chain-empty, chain-member, statement-if, statement-bare-return, no-statements}
 use Rattle.grammar.specs.Machinery.Machine.{
   pending,
   Frame,
@@ -145,7 +145,7 @@ module _ (all : List Token) (class : ℕ) (spot : Spot) (rest : List Token) wher
   step-keeps {f = f} {around = around} later (behind-dot {ending = ending} {target = target} {operand = last} {sign = sign}
       {before = before} outer waits chain) =
       by-row (row (dotLast ending target) (spot .newline)) f around (λ here. Chain before (token dot sign ∷ here) last)
-      ((λ s. behind-operand outer waits (chain-member s)), tt) chain
+      ((λ s. behind-operand outer waits (chain-member identifier s)), ((λ s. behind-operand outer waits (chain-member reserved-word s)), tt)) chain
   step-keeps {f = f} {around = around} later (behind-function {role = role} {done = done} {starts = starts} {waiting = waiting} {word = word} place) =
       by-row (row (functionFirst role) (spot .newline)) f around
       (λ here. FunctionAt all role done starts waiting around (token functionWord word ∷ here))

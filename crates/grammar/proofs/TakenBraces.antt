@@ -24,6 +24,8 @@ use Rattle.grammar.specs.Grammar.{
   statementForm,
   statementsForm,
   Derives,
+  identifier,
+  reserved-word,
   chain-leaf,
   chain-empty,
   chain-object,
@@ -158,7 +160,9 @@ past (chain-function called) = λ ending target f around. led-by refl (past call
 past (chain-call callee value) =
     λ ending target f around.
     and-then (past callee ending target f around) (record { f = _; passes = past value byParen empty _ .1 .passes })
-past (chain-member object) =
+past (chain-member identifier object) =
+    λ ending target f around. and-on (past object ending target f around) (record { f = _; passes = refl })
+past (chain-member reserved-word object) =
     λ ending target f around. and-on (past object ending target f around) (record { f = _; passes = refl })
 past (binary-chain chain) = λ ending target f around. (target, past chain ending target f around)
 past (binary-operator {class = class} {sign = sign} {middle = middle} op tight left right) =

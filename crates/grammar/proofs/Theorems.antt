@@ -1,7 +1,8 @@
 -- The theorems of derivations.
 use mathlib.Core.Path.{_≡_, sym, ap, subst, _∙_}
-use mathlib.Core.List.{List, [], _++_, map, append-assoc}
+use mathlib.Core.List.{List, [], _∷_, _++_, map, append-assoc}
 use Prim.Native.Nat.{ℕ, _*_}
+use native.Mathlib.Nat.{zero-add}
 use native.Mathlib.Omega.{arith}
 use lib.ListN.{length, take, drop}
 use lib.Seq.{take-at}
@@ -17,9 +18,9 @@ use Rattle.reader.proofs.Formed.{Formed, reading-formed}
 use Rattle.reader.proofs.LengthFirst.{first-accepted}
 use Rattle.reader.proofs.Theorems.{count-of-records}
 use Rattle.grammar.specs.Cuts.{CutsInto}
-use Rattle.grammar.specs.Tokens.{tokens}
+use Rattle.grammar.specs.Tokens.{Token, tokenOf, tokens}
 use Rattle.grammar.specs.Grammar.{Program}
-use Rattle.grammar.specs.Derivations.{Derivation, BeginsProgram}
+use Rattle.grammar.specs.Derivations.{Derivation, countTrees, BeginsProgram}
 use Rattle.grammar.specs.TreeElements.{elementsOf}
 use Rattle.grammar.specs.Machinery.Machine.{frame, start}
 use Rattle.grammar.proofs.Ran.{anywhere}
@@ -31,27 +32,29 @@ use Rattle.grammar.proofs.Counts.{few-parts}
 use Rattle.grammar.specs.Demand3.{answersOf, ReadAs, OneDerivation, FewParts, RuleTakes}
 use Rattle.grammar.proofs.TokenLaws.{element-marks}
 use Rattle.grammar.proofs.CountTrees.{count-tokens, program-distinct}
-use Rattle.grammar.proofs.Answers.{choice-answers, patternsAmong, cut-patterns}
-use Rattle.grammar.specs.Shown.{Shown, bracesOf, placeOf, openBracesOf}
+use Rattle.grammar.proofs.Answers.{choice-answers, among, cut-patterns, cut-words}
+use Rattle.grammar.specs.Shown.{Shown, Indexed, patternOf, wordOf, bracesOf, placeOf, openBracesOf}
 use Rattle.grammar.proofs.TakenBraces.{braces-taken}
 use Rattle.grammar.proofs.ReadBraces.{treeBraces}
 use Rattle.grammar.proofs.AllBraces.{places-from}
-use Rattle.grammar.proofs.ShownRecords.{records-braces, records-patterns}
+use Rattle.grammar.proofs.ShownRecords.{records-braces, records-patterns, records-words}
+use Rattle.grammar.proofs.IndexedRecords.{records-indexed, token-at}
 use Rattle.grammar.proofs.Begins.{same-split}
 
 -- Demand 3: "the prefix rule takes each slash of a program as its derivation does". The reading of a program without limits is
 -- accepted, and the elements of its trees, closers included, are the derivation's: a regular expression stands among them at
--- exactly the slashes that the derivation takes as one.
+-- exactly the slashes that the derivation takes as one, and of the reserved words among them exactly those are names that it takes as names.
 pub no-program-differs : (text : List ℕ) (d : Derivation text) → ReadAs text (d .elements)
 no-program-differs text d =
     let r = program-read text (d .cut) (frame (d .parts) [] [] _, complete anywhere (d .steps)) in
     record { trees = r .0; reads = r .1; same = r .2 }
 
--- Of each slash: where the derivation meets it, the prefix rule over the trees before answers as the derivation's choice does.
-pub rule-takes-each-slash : (text : List ℕ) (d : Derivation text) → RuleTakes text (wholeText none) 0 (d .choice) (d .elements)
-rule-takes-each-slash text d = program-takes text (d .cut) (frame (d .parts) [] [] _, complete anywhere (d .steps))
+-- Of each slash, and of each reserved word: where the derivation meets it, the prefix rule over the trees before answers as the derivation's
+-- choice does.
+pub rule-takes-each : (text : List ℕ) (d : Derivation text) → RuleTakes text (wholeText none) 0 (d .choice) (d .elements)
+rule-takes-each text d = program-takes text (d .cut) (frame (d .parts) [] [] _, complete anywhere (d .steps))
 
--- Demand 3: "any two grammar derivations take every slash alike and have one syntax tree".
+-- Demand 3: "any two grammar derivations take every slash alike and have one syntax tree"; every reserved word too.
 pub any-two-derivations : (text : List ℕ) (d f : Derivation text) → OneDerivation d f
 any-two-derivations text d f =
     let r = no-program-differs text d in
@@ -61,23 +64,30 @@ any-two-derivations text d f =
     let parts : d .parts ≡ f .parts = one-tree (subst (λ (es : List Element). Program (tokens es) (d .parts)) elements (d .steps)) (f .steps) in
     record { same-elements = elements; same-answers = same-choice text (d .cut) (f .cut) elements; same-syntax = cc }
 
--- The slashes that a derivation takes as regular expressions are those whose elements have kind 5.
-pub slashes-by-kind : (text : List ℕ) (d : Derivation text) → d .choice ≡ answersOf text (d .elements)
-slashes-by-kind text d = choice-answers text (d .cut)
+-- The slashes that a derivation takes as regular expressions are those whose elements have kind 5, and the reserved words that it takes
+-- as names are those whose elements have kind 1.
+pub answers-by-kind : (text : List ℕ) (d : Derivation text) → d .choice ≡ answersOf text (d .elements)
+answers-by-kind text d = choice-answers text (d .cut)
 
 -- Demand 3, of tree records: those of every accepted reading of a text with a derivation, whatever the limits, show its regular expressions,
--- its objects and, at all its other braces, blocks.
+-- its words, its objects and, at all its other braces, blocks; and each element but a closer has its record at its index.
 pub records-shown : (text : List ℕ) (limits : Limits) (trees : Trees) → reading text limits ≡ accepted trees → (d : Derivation text) → Shown d (records trees)
 records-shown text limits trees a d =
     let r = program-read text (d .cut) (frame (d .parts) [] [] _, complete anywhere (d .steps)) in
     let same : trees ≡ r .0 = cc (accepted-unlimited text limits trees a) in
     let formed : Formed trees = rw a at (reading-formed text limits) in
     record {
-      patterns = records-patterns trees formed ∙ ap patternsAmong (ap elementsOf same ∙ r .2) ∙ cut-patterns (d .cut);
+      patterns = records-patterns trees formed ∙ ap (among patternOf) (ap elementsOf same ∙ r .2) ∙ cut-patterns (d .cut);
+      words = records-words trees formed ∙ ap (among wordOf) (ap elementsOf same ∙ r .2) ∙ cut-words (d .cut);
       braces = records-braces trees formed ∙ ap treeBraces same ∙ r .3 ∙ braces-taken (d .steps);
+      indices = subst (λ (es : List Element). Indexed es (records trees)) (ap elementsOf same ∙ r .2) (records-indexed trees formed);
     }
 
--- So do the cells that `read` leaves in its table, as many as the records that it counts have.
+-- Of any accepted reading: each element but a closer has its record at its index, of its own kind.
+pub reading-indexed : (text : List ℕ) (limits : Limits) (trees : Trees) → reading text limits ≡ accepted trees → Indexed (elementsOf trees) (records trees)
+reading-indexed text limits trees a = records-indexed trees (rw a at (reading-formed text limits))
+
+-- Demand 3 of the cells that `read` leaves in its table, as many as the records that it counts have.
 pub read-shown : (text table : List ℕ) (trees : Trees) → readingFor text (length table) ≡ accepted trees → (d : Derivation text)
     → Shown d (take (treeWidth * count trees) (tableAfter (readingFor text (length table)) table))
 unfolding readingFor
@@ -86,6 +96,11 @@ read-shown text table trees a d =
     (sym (ap (λ (r : Reading). take (treeWidth * count trees) (tableAfter r table)) a
     ∙ take-at (records trees) (drop (treeWidth * count trees) table) (treeWidth * count trees) (count-of-records trees)))
     (records-shown text (readLimits (length table)) trees (first-accepted text (readLimits (length table)) trees a) d)
+
+-- A token is marked by the number of tree records before it, which is the index of its own.
+pub token-marked : (before : List Element) (e : Element) (after : List Element)
+    → (rest : List Token) × (tokens (before ++ (e ∷ after)) ≡ tokens before ++ (tokenOf (countTrees before) e ∷ rest))
+token-marked before e after = rw (zero-add (countTrees before)) at (token-at 0 before e after)
 
 -- A derivation says of every `{` among its elements, in their order, whether it is an object or a block.
 pub every-brace : (text : List ℕ) (d : Derivation text) → map placeOf (bracesOf (d .steps)) ≡ openBracesOf (d .elements)

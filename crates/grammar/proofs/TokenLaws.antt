@@ -1,10 +1,10 @@
 -- The tokens of elements: which of them are closers, and that they count their tree records.
-use mathlib.Core.Path.{_≡_, refl, sym, subst}
-use mathlib.Core.Bool.{Bool, true, false, not, cond, _&&_, _||_}
+use mathlib.Core.Path.{_≡_, refl, sym, subst, _∙_}
+use mathlib.Core.Bool.{Bool, true, false, false≢true, not, cond, _&&_, _||_}
 use mathlib.Core.List.{List, [], _∷_}
 use Prim.Native.Nat.{ℕ, _+_}
 use native.Mathlib.Omega.{arith}
-use borrow.Author.Tests.{eqb-true}
+use borrow.Author.Tests.{eqb-true, eqb-false}
 use lib.Dec.{T, eqb, eqb→eq}
 use Rattle.text.specs.Runs.{same}
 use Rattle.text.proofs.Members.{Has, here, there, allIn, at}
@@ -23,6 +23,8 @@ use Rattle.grammar.specs.Tokens.{
   string,
   pattern,
   openBrace,
+  wordName,
+  nameClass,
   wordClass,
   signClass,
   delimiterClass,
@@ -66,9 +68,9 @@ module _ (test : ℕ → Bool) (none : T (not (test 0))) where
 
 -- a test that the classes of some delimiters pass, and no others do
 module _ (test some : ℕ → Bool) (pass : (which : ℕ) → some which ≡ true → test (delimiterClass which) ≡ true)
-    (no-literal : T (allIn (λ class. not (test class)) (0 ∷ name ∷ number ∷ string ∷ pattern ∷ []))) (no-words : T (eachRow (λ number row. not (test (tokenClass row))) 1 words))
+    (no-literal : T (allIn (λ class. not (test class)) (0 ∷ name ∷ number ∷ string ∷ pattern ∷ wordName ∷ []))) (no-words : T (eachRow (λ number row. not (test (tokenClass row))) 1 words))
     (no-signs : T (eachOther (λ row. not (test (tokenClass row))) delimiter signs)) (no-others : T (eachOther (λ row. not (test (tokenClass row))) some signs)) where
-  at-literal : {class : ℕ} → Has class (0 ∷ name ∷ number ∷ string ∷ pattern ∷ []) → T (not (test class))
+  at-literal : {class : ℕ} → Has class (0 ∷ name ∷ number ∷ string ∷ pattern ∷ wordName ∷ []) → T (not (test class))
   at-literal h = at (λ class. not (test class)) h no-literal
 
   delimiter-passes : (which : ℕ) → test (delimiterClass which) ≡ some which
@@ -89,7 +91,9 @@ module _ (test some : ℕ → Bool) (pass : (which : ℕ) → some which ≡ tru
       go true is = rw (eqb→eq (e .kind) delimiterKind (subst (λ (b : Bool). T b) (sym is) tt)) (delimiter-passes (e .which))
       go false is =
           rw is
-          (neither test (eqb (e .kind) nameKind) _ _ (fails (test name) (at-literal (there here)))
+          (neither test (eqb (e .kind) nameKind) _ _
+          (neither test (eqb (e .which) 0) name wordName (fails (test name) (at-literal (there here)))
+          (fails (test wordName) (at-literal (there (there (there (there (there here))))))))
           (neither test (eqb (e .kind) wordKind) _ _ (no-word test (at-literal here) no-words (e .which))
           (neither test (eqb (e .kind) numberKind) _ _ (fails (test number) (at-literal (there (there here))))
           (neither test (eqb (e .kind) stringKind) _ _ (fails (test string) (at-literal (there (there (there here)))))
@@ -141,13 +145,48 @@ no-end-class : (e : Element) → eqb (classOf e) endOfText ≡ false
 unfolding classOf longestSign longestOf same
 no-end-class e =
     let test : ℕ → Bool = λ class. eqb class endOfText in
-    neither test (eqb (e .kind) nameKind) _ _ refl
+    neither test (eqb (e .kind) nameKind) _ _ (neither test (eqb (e .which) 0) name wordName refl refl)
     (neither test (eqb (e .kind) wordKind) _ _ (no-word test tt tt (e .which))
     (neither test (eqb (e .kind) numberKind) _ _ refl
     (neither test (eqb (e .kind) stringKind) _ _ refl
     (neither test (eqb (e .kind) patternKind) _ _ refl
     (neither test (eqb (e .kind) signKind) _ _ (no-sign test tt tt (e .which))
     (neither test (eqb (e .kind) delimiterKind) _ _ (no-delimiter test tt tt (e .which)) refl))))))
+
+-- only a reserved word that is taken as a name has the class of one
+pub word-name-class : (e : Element) → classOf e ≡ wordName → (e .kind ≡ nameKind) × (e .which ≡ 0 → ⊥)
+unfolding classOf longestSign longestOf same
+word-name-class e = go (eqb (e .kind) nameKind) refl
+  where
+    test : ℕ → Bool
+    test class = eqb class wordName
+
+    rest : ℕ
+    rest =
+        cond (eqb (e .kind) wordKind) (wordClass (e .which))
+        (cond (eqb (e .kind) numberKind) number
+        (cond (eqb (e .kind) stringKind) string
+        (cond (eqb (e .kind) patternKind) pattern
+        (cond (eqb (e .kind) signKind) (signClass (e .which))
+        (cond (eqb (e .kind) delimiterKind) (delimiterClass (e .which))
+        0)))))
+
+    others : test rest ≡ false
+    others =
+        neither test (eqb (e .kind) wordKind) _ _ (no-word test tt tt (e .which))
+        (neither test (eqb (e .kind) numberKind) _ _ refl
+        (neither test (eqb (e .kind) stringKind) _ _ refl
+        (neither test (eqb (e .kind) patternKind) _ _ refl
+        (neither test (eqb (e .kind) signKind) _ _ (no-sign test tt tt (e .which))
+        (neither test (eqb (e .kind) delimiterKind) _ _ (no-delimiter test tt tt (e .which)) refl)))))
+
+    named : (b : Bool) → eqb (e .which) 0 ≡ b → cond b name wordName ≡ wordName → e .which ≡ 0 → ⊥
+    named true q c = absurd (omega arith)
+    named false q c = eqb-false (e .which) 0 q
+
+    go : (b : Bool) → eqb (e .kind) nameKind ≡ b → cond b (nameClass (e .which)) rest ≡ wordName → (e .kind ≡ nameKind) × (e .which ≡ 0 → ⊥)
+    go true q c = (eqb-true (e .kind) nameKind q, named (eqb (e .which) 0) refl c)
+    go false q c = absurd (let same : eqb rest wordName ≡ true = rw c in false≢true (sym others ∙ same))
 
 pub tokens-before-end : (before : ℕ) (es : List Element) → BeforeEnd (tokensFrom before es)
 unfolding tokensFrom

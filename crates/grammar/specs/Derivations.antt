@@ -1,6 +1,7 @@
 -- Document 01, Grammar: "A derivation of a text is a choice together with grammar steps. With that choice the rules under
 -- Elements cut the whole text into elements and blanks .. The steps lead from Program to exactly these elements, closers
--- included. A derivation settles no slash by the prefix rule. A text with a derivation is a program."
+-- included. A derivation settles no slash by the prefix rule. A text with a derivation is a program." Nor does it settle a reserved
+-- word by that rule: it takes each as a word or as a name, and its steps see which (Grammar.antt).
 use Prim.Native.Nat.{ℕ, _+_, _-_, max}
 use mathlib.Core.Path.{_≡_}
 use mathlib.Core.Bool.{Bool, cond, _&&_, _||_}

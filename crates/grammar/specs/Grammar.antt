@@ -24,6 +24,7 @@ use Rattle.grammar.specs.Tokens.{
   returnWord,
   functionWord,
   ifWord,
+  wordName,
 }
 use Rattle.grammar.specs.Syntax.{Syntax, nil, node, snoc, objectSyntax, parenthesisedSyntax, functionSyntax, memberSyntax, callSyntax, expressionSyntax, bareReturnSyntax, fullReturnSyntax, blockSyntax, labelSyntax, ifSyntax, declarationSyntax}
 
@@ -33,6 +34,11 @@ pub data Leaf : ℕ → Type 0 where
   leaf-number : Leaf number
   leaf-string : Leaf string
   leaf-pattern : Leaf pattern
+
+-- what "`. name`" takes: a name, or (document 02, U1) a reserved word that is taken as a name. No other step takes such a word
+pub data IdentifierName : ℕ → Type 0 where
+  identifier : IdentifierName name
+  reserved-word : IdentifierName wordName
 
 -- "`/` and `+`; `/` binds tighter": the class of an operator, which is the kind of its part, and its precedence, from 1 up
 pub data Operator : Type 0 where
@@ -153,8 +159,8 @@ pub data Derives : Form → List Token → List Token → Syntax → Type 0 wher
   chain-call : {opener closer : Spot} {before inside after : List Token} {callee value : Syntax}
       → Derives chainForm before (token openParen opener ∷ inside) callee → Derives assignForm inside (token closeParen closer ∷ after) value
       → Derives chainForm before after (node callSyntax (opener .mark) callee value)
-  chain-member : {sign property : Spot} {before after : List Token} {object : Syntax}
-      → Derives chainForm before (token dot sign ∷ token name property ∷ after) object
+  chain-member : {class : ℕ} {sign property : Spot} {before after : List Token} {object : Syntax} → IdentifierName class
+      → Derives chainForm before (token dot sign ∷ token class property ∷ after) object
       → Derives chainForm before after (node memberSyntax (property .mark) object nil)
 
 abbrev pub Statements : Scope → List Token → List Token → Syntax → Type 0

@@ -1,15 +1,17 @@
--- What a derivation says of its slashes and braces, and what tree records show of them.
-use Prim.Native.Nat.{ℕ}
+-- What a derivation says of its slashes, reserved words and braces, and what tree records show of them.
+use Prim.Native.Nat.{ℕ, _+_, _*_, _≤_}
 use mathlib.Core.Path.{_≡_}
-use mathlib.Core.Bool.{Bool, cond, _&&_}
+use mathlib.Core.Bool.{Bool, false, cond, _&&_}
 use mathlib.Core.List.{List, [], _∷_, _++_}
 use lib.Dec.{eqb}
-use Rattle.elements.specs.Elements.{patternKind, delimiterKind, braceOpener}
+use lib.ListN.{length, getD}
+use Rattle.elements.specs.Elements.{wordKind, patternKind, delimiterKind, parenOpener, braceOpener}
 use Rattle.elements.specs.declared.Element.{Element}
-use Rattle.rule.specs.Trees.{objectKind, blockKind}
+use Rattle.rule.specs.Trees.{parenKind, objectKind, blockKind}
+use Rattle.tables.specs.Records.{treeWidth}
 use Rattle.grammar.specs.Tokens.{Token}
 use Rattle.grammar.specs.Syntax.{Syntax}
-use Rattle.grammar.specs.Cuts.{Cuts, cut-end, cut-element, cut-slash}
+use Rattle.grammar.specs.Cuts.{isCloser, Cuts, cut-end, cut-element, cut-slash, cut-word}
 use Rattle.grammar.specs.Grammar.{
   Form,
   Derives,
@@ -35,14 +37,22 @@ use Rattle.grammar.specs.Grammar.{
   chain-call,
   chain-member,
 }
-use Rattle.grammar.specs.Derivations.{Derivation}
+use Rattle.grammar.specs.Derivations.{Derivation, countTrees}
 
 -- Document 01, Grammar: a slash "is taken as a regular expression or as the longest sign at that place": the first bytes of those
 -- that a choice takes as regular expressions
 unfoldable pub patternsOf : {text : List ℕ} {place : ℕ} {choice : List Bool} {es : List Element} → Cuts text place choice es → List ℕ
 patternsOf (cut-end left) = []
-patternsOf (cut-element met found rest) = patternsOf rest
+patternsOf (cut-element slash word found rest) = patternsOf rest
 patternsOf (cut-slash {e = e} {answer = answer} met found rest) = cond answer (e .first ∷ []) [] ++ patternsOf rest
+patternsOf (cut-word met found rest) = patternsOf rest
+
+-- the first bytes of the reserved words that a choice takes as words; the others it takes as names
+unfoldable pub wordsOf : {text : List ℕ} {place : ℕ} {choice : List Bool} {es : List Element} → Cuts text place choice es → List ℕ
+wordsOf (cut-end left) = []
+wordsOf (cut-element slash word found rest) = wordsOf rest
+wordsOf (cut-slash met found rest) = wordsOf rest
+wordsOf (cut-word {e = e} {answer = answer} met found rest) = cond answer [] (e .first ∷ []) ++ wordsOf rest
 
 -- a brace that is an object or a block, by its first byte
 pub data Brace : Type 0 where
@@ -71,7 +81,7 @@ bracesOf (chain-object {opener = opener} value) = objectAt (opener .first) ∷ b
 bracesOf (chain-parens value) = bracesOf value
 bracesOf (chain-function called) = bracesOf called
 bracesOf (chain-call callee value) = bracesOf callee ++ bracesOf value
-bracesOf (chain-member object) = bracesOf object
+bracesOf (chain-member called object) = bracesOf object
 
 -- Document 01, Records: "Tree record, five numbers ..: kind; first byte; ..": what records show, each by its kind and first byte
 unfoldable pub shownIn : {A : Type 0} → (ℕ → ℕ → List A) → List ℕ → List A
@@ -86,15 +96,39 @@ shownIn show (kind ∷ first ∷ end ∷ number ∷ newline ∷ rest) = show kin
 abbrev pub patternOf : ℕ → ℕ → List ℕ
 patternOf kind first = cond (eqb kind patternKind) (first ∷ []) []
 
+-- "2 word"
+abbrev pub wordOf : ℕ → ℕ → List ℕ
+wordOf kind first = cond (eqb kind wordKind) (first ∷ []) []
+
 -- "8 object, 9 block"
 abbrev pub braceOf : ℕ → ℕ → List Brace
 braceOf kind first = cond (eqb kind objectKind) (objectAt first ∷ []) (cond (eqb kind blockKind) (blockAt first ∷ []) [])
 
+-- the record of an index in cells is that of an element or, if it is an opener, of its group: the group of a `(` is of kind 7 (of a `{`: `braces`
+-- of `Shown`), and where a group ends is no part of its opener
+pub record RecordOf (cells : List ℕ) (index : ℕ) (e : Element) : Type 0 where
+  pub within : treeWidth * index + treeWidth ≤ length cells
+  pub kind : (e .kind ≡ delimiterKind → ⊥) → getD cells (treeWidth * index) 0 ≡ e .kind
+  pub parens : e .kind ≡ delimiterKind → e .which ≡ parenOpener → getD cells (treeWidth * index) 0 ≡ parenKind
+  pub first : getD cells (treeWidth * index + 1) 0 ≡ e .first
+  pub end : (e .kind ≡ delimiterKind → ⊥) → getD cells (treeWidth * index + 2) 0 ≡ e .end
+  pub newline : getD cells (treeWidth * index + 4) 0 ≡ cond (e .newline) 1 0
+
+-- Document 01, Grammar: "Its tree records, for the marks, are its elements other than closers, in text order, a group standing at its
+-- opener": the index of an element's record is the number of those before it, which is its token's mark (`token-marked` of
+-- `grammar/proofs/Theorems.antt`)
+abbrev pub Indexed : List Element → List ℕ → Type 0
+Indexed es cells =
+    (before : List Element) (e : Element) (after : List Element) → es ≡ before ++ (e ∷ after) → isCloser e ≡ false → RecordOf cells (countTrees before) e
+
 -- Demand 3, of tree records in cells: those of kind 5 stand at exactly the slashes that the derivation takes as regular expressions; those of
--- kind 8 at its objects, and those of kind 9 at all its other braces
+-- kind 2 at exactly the reserved words that it takes as words; those of kind 8 at its objects, and those of kind 9 at all its other braces; and
+-- each element but a closer has its record at its index
 pub record Shown {text : List ℕ} (d : Derivation text) (cells : List ℕ) : Type 0 where
   pub patterns : shownIn patternOf cells ≡ patternsOf (d .cut)
+  pub words : shownIn wordOf cells ≡ wordsOf (d .cut)
   pub braces : shownIn braceOf cells ≡ bracesOf (d .steps)
+  pub indices : Indexed (d .elements) cells
 
 -- the first byte of a brace, and of the elements that are a `{`
 abbrev pub placeOf : Brace → ℕ

@@ -6,10 +6,10 @@ use lib.Dec.{eqb}
 use Rattle.elements.specs.Elements.{nameKind, wordKind, numberKind, stringKind, patternKind, signKind, delimiterKind, delimiter}
 use Rattle.elements.specs.declared.Element.{Element}
 use Rattle.vocabulary.specs.Vocabulary.{words, signs, tokenClass, rowAt}
-pub use Rattle.vocabulary.specs.TokenClasses.{name, number, string, pattern, divide, plus, assign, colon, semicolon, dot, openParen, closeParen, openBrace, closeBrace, returnWord, functionWord, ifWord}
+pub use Rattle.vocabulary.specs.TokenClasses.{name, number, string, pattern, divide, plus, assign, colon, semicolon, dot, openParen, closeParen, openBrace, closeBrace, returnWord, functionWord, ifWord, wordName}
 use Rattle.grammar.specs.Cuts.{isCloser}
 
--- where a token stands: whether a line end lies before it, the number of tree records before it, which is the index of its own, and its first byte
+-- where a token stands: whether a line end lies before it, the number of tree records before it, which is the index of its own if it has one, and its first byte
 pub record Spot : Type 0 where
   pub newline : Bool
   pub mark : ℕ
@@ -18,6 +18,10 @@ pub record Spot : Type 0 where
 -- a token: its class, and where it stands
 pub data Token : Type 0 where
   token : ℕ → Spot → Token
+
+-- the class of a name by its number among the reserved words: one of these that is taken as a name has a class of its own
+abbrev pub nameClass : ℕ → ℕ
+nameClass which = cond (eqb which 0) name wordName
 
 -- the class of a reserved word, of a sign that is no delimiter, and of a delimiter, which is a sign too
 abbrev pub wordClass : ℕ → ℕ
@@ -29,12 +33,12 @@ signClass which = cond (delimiter which) 0 (tokenClass (rowAt signs which))
 abbrev pub delimiterClass : ℕ → ℕ
 delimiterClass which = cond (delimiter which) (tokenClass (rowAt signs which)) 0
 
--- the class of an element; names, numbers, strings and regular expressions are told by their kinds alone. No element that is
--- found has the class 0
+-- the class of an element; numbers, strings and regular expressions are told by their kinds alone. No element that is found has
+-- the class 0
 unfoldable pub classOf : Element → ℕ
 unfolding rowAt delimiter
 classOf e =
-    cond (eqb (e .kind) nameKind) name
+    cond (eqb (e .kind) nameKind) (nameClass (e .which))
     (cond (eqb (e .kind) wordKind) (wordClass (e .which))
     (cond (eqb (e .kind) numberKind) number
     (cond (eqb (e .kind) stringKind) string

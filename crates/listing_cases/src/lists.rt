@@ -1,5 +1,5 @@
 // Each case has buffers and tables of its own, as the programs have.
-use cases::print;
+use case_answers::print;
 use listing::INPUT;
 use listing::SHORT_INPUT;
 

@@ -1,9 +1,9 @@
 // Prints what `listing` makes of the texts that standard input gives, one case to a line, for comparison with the stored answers: a
 // letter, a blank, and the text, as `spelling.rt` of `cases` says. `l` is what `treelist` prints, `t` trees, `s` syntax and `r` the
-// respaced text; `print.rt` of `cases` says what is shown of it.
+// respaced text; `print.rt` of `case_answers` says what is shown of it.
 mod lists;
 
-use cases::print;
+use case_answers::print;
 use cases::spelling;
 use cases::spelling::MOST;
 use cases::spelling::Size;

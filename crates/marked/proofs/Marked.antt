@@ -1,4 +1,4 @@
--- The readings that document 01 marks (M) hold of the definitions.
+-- The readings that document 01 marks (M), and those of document 02, U1, hold of the definitions.
 use lib.Dec.{T}
 use Rattle.text.specs.Bytes.{blank, lineEnd, illegal, letter, digit, nameByte}
 use Rattle.text.specs.Runs
@@ -10,7 +10,7 @@ use Rattle.literals.specs.Strings.{quote, stringRest}
 use Rattle.literals.specs.Patterns.{patternRest}
 use Rattle.elements.specs.Elements.{elementAt, elementFrom, named, delimiter}
 use Rattle.rule.specs.Trees.{count}
-use Rattle.rule.specs.Rule.{elementClass, groupClass, backwards, opensObject, opensPattern}
+use Rattle.rule.specs.Rule.{elementClass, groupClass, backwards, opensObject, opensPattern, namesWord}
 use Rattle.prefix.specs.Reading.{step, proceed, readOn, reading}
 use Rattle.storing.specs.Records.{records}
 use Rattle.reader.specs.Read.{readingFor}
@@ -23,5 +23,5 @@ use Rattle.respacer.specs.Respace.{wholeReading}
 use Rattle.marked.specs.Marked.{allHold, readings}
 
 pub all-hold : T (allHold readings)
-unfolding blank lineEnd illegal letter digit nameByte Runs.run Runs.same placeIn wordNumber taken longestSign longestOf gap numberFrom quote stringRest patternRest elementAt elementFrom named delimiter count elementClass groupClass backwards opensObject opensPattern step proceed readOn reading records readingFor classOf tokensFrom syntaxRecords elementsOf stateAfter parsingFor addElement addCloser addTrees wholeReading
+unfolding blank lineEnd illegal letter digit nameByte Runs.run Runs.same placeIn wordNumber taken longestSign longestOf gap numberFrom quote stringRest patternRest elementAt elementFrom named delimiter count elementClass groupClass backwards opensObject opensPattern namesWord step proceed readOn reading records readingFor classOf tokensFrom syntaxRecords elementsOf stateAfter parsingFor addElement addCloser addTrees wholeReading
 all-hold = tt

@@ -1,4 +1,5 @@
--- Document 01, Readings: those marked (M), as one table. Each has its text, and what reading, parsing and respacing give.
+-- Document 01, Readings: those marked (M), as one table, with the two of document 02, U1. Each has its text, and what reading, parsing and
+-- respacing give.
 use Prim.Native.Nat.{ℕ}
 use Prim.Native.String.{String}
 use mathlib.Core.Bool.{Bool, true, _&&_}
@@ -112,4 +113,10 @@ readings =
     marked "a/)/;" (gets 10 2)
     (gets 10 2)
     (gets 10 2) ∷
+    marked "a.if(b)/c/d;" (hasTrees (tree 1 0 1 1 0 ∷ tree 6 1 2 1 0 ∷ tree 1 2 4 1 0 ∷ tree 7 4 7 2 0 ∷ tree 1 5 6 1 0 ∷ tree 6 7 8 1 0 ∷ tree 1 8 9 1 0 ∷ tree 6 9 10 1 0 ∷ tree 1 10 11 1 0 ∷ tree 6 11 12 1 0 ∷ []))
+    (hasParts (part 1 0 1 ∷ part 8 2 2 ∷ part 1 4 1 ∷ part 9 3 4 ∷ part 1 6 1 ∷ part 10 5 6 ∷ part 1 8 1 ∷ part 10 7 8 ∷ part 13 9 9 ∷ part 20 10 10 ∷ []))
+    (writes "a . if ( b ) / c / d ;\n") ∷
+    marked "a.if(b)/c/;" (hasTrees (tree 1 0 1 1 0 ∷ tree 6 1 2 1 0 ∷ tree 1 2 4 1 0 ∷ tree 7 4 7 2 0 ∷ tree 1 5 6 1 0 ∷ tree 6 7 8 1 0 ∷ tree 1 8 9 1 0 ∷ tree 6 9 10 1 0 ∷ tree 6 10 11 1 0 ∷ []))
+    (gets 13 10)
+    (writes "a . if ( b ) / c / ;\n") ∷
     []

@@ -6,11 +6,14 @@ use Prim.Native.Nat.{ℕ, _≤_}
 use native.Mathlib.Omega.{arith}
 use lib.ListN.{length}
 use Rattle.answers.specs.Answers.{valueOf}
+use Rattle.elements.specs.Elements.{stating, elementAt}
 use Rattle.elements.specs.declared.Element.{Element}
+use Rattle.elements.specs.declared.Next.{Next}
+use Rattle.elements.specs.declared.Stated.{Stated}
 use Rattle.elements.proofs.Bounds.{found-placed}
 use Rattle.reader.specs.Read.{mostBytes, readLimits}
 use Rattle.reader.proofs.Theorems.{refused-place}
-use Rattle.grammar.specs.Cuts.{recorded, Cuts, cut-end, cut-element, cut-slash}
+use Rattle.grammar.specs.Cuts.{recorded, Cuts, cut-end, cut-element, cut-slash, cut-word}
 use Rattle.grammar.specs.Syntax.{size}
 use Rattle.grammar.proofs.ReadCuts.{reading-cuts}
 use Rattle.parser.specs.Parse.{Parsing, parsingFor, answerOf}
@@ -19,18 +22,19 @@ use Rattle.parser.specs.Verdict.{Refuses, at-element, at-end, Verdict, a
 use Rattle.parser.proofs.Theorems.{verdict}
 
 -- the elements that a text is cut into stand in it
+one-within : (text : List ℕ) (place : ℕ) (given : Stated) (f e : Element) → elementAt text place given ≡ Next.Found f → recorded f ≡ e → e .first ≤ length text
+one-within text place given f e found same = omega (arith, ap Element.first same, found-placed text place given f found)
+
 first-within : (text : List ℕ) {place : ℕ} {choice : List Bool} {es : List Element} → Cuts text place choice es
     → (before : List Element) (e : Element) (rest : List Element) → es ≡ before ++ (e ∷ rest) → e .first ≤ length text
 first-within text (cut-end x) [] e rest q = absurd (let z : _≡_ {A = ℕ} 0 1 = cc in omega arith)
 first-within text (cut-end x) (b ∷ before) e rest q = absurd (let z : _≡_ {A = ℕ} 0 1 = cc in omega arith)
-first-within text (cut-element {place} {e = f} m found more) [] e rest q =
-    let same : recorded f ≡ e = cc in
-    omega (arith, ap Element.first same, found-placed text place false f found)
-first-within text (cut-element m found more) (b ∷ before) e rest q = first-within text more before e rest (cc)
-first-within text (cut-slash {place} {e = f} {answer} m found more) [] e rest q =
-    let same : recorded f ≡ e = cc in
-    omega (arith, ap Element.first same, found-placed text place answer f found)
+first-within text (cut-element {place} {e = f} s w found more) [] e rest q = one-within text place (stating false false) f e found (cc)
+first-within text (cut-element s w found more) (b ∷ before) e rest q = first-within text more before e rest (cc)
+first-within text (cut-slash {place} {e = f} {answer} m found more) [] e rest q = one-within text place (stating answer false) f e found (cc)
 first-within text (cut-slash m found more) (b ∷ before) e rest q = first-within text more before e rest (cc)
+first-within text (cut-word {place} {e = f} {answer} m found more) [] e rest q = one-within text place (stating false answer) f e found (cc)
+first-within text (cut-word m found more) (b ∷ before) e rest q = first-within text more before e rest (cc)
 
 pub value-small : (text : List ℕ) (treeCells syntaxCells : ℕ) → valueOf (answerOf (parsingFor text treeCells syntaxCells)) ≤ mostBytes
 value-small text treeCells syntaxCells = by (verdict text treeCells syntaxCells)

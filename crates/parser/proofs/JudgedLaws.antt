@@ -21,7 +21,8 @@ use Rattle.grammar.specs.TreeElements.{elementsOf}
 use Rattle.grammar.specs.Machinery.Machine.{endOfText, State, dead, run, start}
 use Rattle.controls.specs.Machinery.Numbers.{settingBy}
 use Rattle.waiting.specs.Machinery.Written.{putRecord, putSyntax}
-use Rattle.segments.specs.Machinery.Segments.{Segment, segment, countOf, Fine, tokensAt}
+use Rattle.segments.specs.Machinery.Segments.{Segment, segment, countOf, Fine}
+use Rattle.grammar.proofs.ReadNames.{recorded-run}
 use Rattle.segments.proofs.ReadSegments.{reading-fine, reading-tokens}
 use Rattle.levels.specs.Machinery.Runs.{ran-through, ran-dead, RanStatements}
 use Rattle.levels.specs.declared.Parsed.{Parsed}
@@ -141,8 +142,11 @@ module _ {text table now : List ℕ} {n : ℕ} (d : ReadDone text table now n) w
   abbrev whole : Segment
   whole = segment text (records (d .trees)) 0 (length text)
 
-  all-tokens : tokensAt whole 0 ≡ tokens (elementsOf (d .trees))
-  all-tokens = reading-tokens text (readLimits (length table)) (d .trees) (known .reads) few-trees (length text)
+  -- the run over the tokens of the records is that over the tokens of the elements
+  same-run : stateBehind whole ≡ run start (tokens (elementsOf (d .trees)) ++ (endToken (length text) ∷ []))
+  same-run =
+      ap (λ (ts : List Token). run start (ts ++ (endToken (length text) ∷ []))) (reading-tokens text (readLimits (length table)) (d .trees) (known .reads) few-trees (length text))
+      ∙ recorded-run text (readLimits (length table)) (d .trees) (known .reads) (endToken (length text) ∷ [])
 
   all-count : countOf (records (d .trees)) ≡ count (d .trees)
   all-count = omega (arith, records-length (d .trees))
@@ -160,8 +164,7 @@ module _ {text table now : List ℕ} {n : ℕ} (d : ReadDone text table now n) w
   unfolding parsingFor stateAfter
   by-state room e =
       ap (parsed (length text) (syntaxRoom room)) (d .reads)
-      ∙ ap (λ (ts : List Token). fitting (length text) (syntaxRoom room) (judged (d .trees) (run start (ts ++ (endToken (length text) ∷ []))))) (sym all-tokens)
-      ∙ ap (λ (z : State). fitting (length text) (syntaxRoom room) (judged (d .trees) z)) e
+      ∙ ap (λ (z : State). fitting (length text) (syntaxRoom room) (judged (d .trees) z)) (sym same-run ∙ e)
 
   by-program : (room : ℕ) (v : Syntax) → Built whole v
       → parsingFor text (length table) room ≡ fitting (length text) (syntaxRoom room) (program (d .trees) (programTree (countOf (records (d .trees))) v))

@@ -150,11 +150,21 @@ pub call-verdict : (text trees syntax treesLeft syntaxLeft : List ℕ) (answer :
     → CallVerdict text trees syntax treesLeft syntaxLeft answer
 call-verdict text trees syntax treesLeft syntaxLeft answer p = go (verdict text (length trees) (length syntax)) (p .0) (p .1) (p .2)
   where
+    none : {number place : ℕ} → Verdict text (length trees) (length syntax) (denied number place)
+        → (d : Derivation text) → WithinLimits d → LongEnough d (length trees) (length syntax) → ⊥
+    none v d limits tables =
+        let a = accepts-all text (length trees) (length syntax) d limits tables in
+        let clash = only-verdict text (length trees) (length syntax) v ∙ a .1 in
+        let z : _≡_ {A = ℕ} 0 1 = cc in
+        omega arith
+
     go : {q : Parsing} → Verdict text (length trees) (length syntax) q → answer ≡ answerOf q → treesLeft ≡ treesAfter q trees
         → syntaxLeft ≡ syntaxAfter q syntax → CallVerdict text trees syntax treesLeft syntaxLeft answer
-    go (as-read r) e t s = rw e (call-refuses (as-read r) t s)
-    go (no-program n) e t s = rw e (call-refuses (no-program n) t s)
-    go (syntax-full f) e t s = rw e (call-refuses (syntax-full f) t s)
+    go (as-read r) e t s = rw e (call-refuses (as-read r) (none (as-read r)) t s)
+    go (no-program n) e t s = rw e (call-refuses (no-program n) (none (no-program n)) t s)
+    go (syntax-full f) e t s = rw e (call-refuses (syntax-full f) (none (syntax-full f)) t s)
     go (accepts a) e t s =
+        let d = a .derivation in
+        let left = accepted-left text trees syntax d (a .limits) (a .tables) in
         rw (e, a .same-syntax)
-        (call-accepts (a .derivation) (a .limits) (a .tables) (t ∙ ap (λ (r : Reading). tableAfter r trees) (sym (a .reads))) (rw (a .same-syntax) at s))
+        (call-accepts d (a .limits) (a .tables) (t ∙ ap (λ (r : Reading). tableAfter r trees) (sym (a .reads))) (rw (sym (p .1)) at (left .shown)) (rw (a .same-syntax) at s))

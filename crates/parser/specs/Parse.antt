@@ -43,7 +43,7 @@ stateAfter end trees = run start (tokens (elementsOf trees) ++ (endToken end ∷
 
 -- what the machine takes to the end is a program, with the syntax tree that it has built (behind the text's end it lives only where it
 -- has finished); else the place where it dies answers. It takes what has a derivation, and nothing else, and it dies at the first element with which those so far begin no
--- program (proofs/Theorems.antt).
+-- program, or at the text's end (proofs/Theorems.antt).
 abbrev pub judged : Trees → State → Parsing
 judged trees (live control f around) = program trees (programTree (count trees) (doneOf f))
 judged trees (dead place) = denied noProgram place

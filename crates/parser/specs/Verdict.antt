@@ -58,7 +58,7 @@ pub data Verdict (text : List ℕ) (treeCells syntaxCells : ℕ) : Parsing → T
   accepts : {trees : Trees} {syntax : Syntax} → Accepts text treeCells syntaxCells trees syntax → Verdict text treeCells syntaxCells (program trees syntax)
 
 -- what the call answers and leaves, of an accepted text: the count of the derivation's syntax records, these records and then the
--- old cells, and the tree cells that reading leaves, whose records show the derivation's regular expressions, objects and blocks
+-- old cells, and the tree cells that reading leaves, whose records show the derivation's regular expressions, words, objects and blocks, each record at its element's index
 pub record Left (text trees syntax : List ℕ) (d : Derivation text) (parsing : Parsing) : Type 0 where
   pub counts : answerOf parsing ≡ Answer.Accepted (size (syntaxTree d))
   pub tree-cells : treesAfter parsing trees ≡ tableAfter (readingFor text (length trees)) trees
@@ -66,12 +66,14 @@ pub record Left (text trees syntax : List ℕ) (d : Derivation text) (parsing : 
   pub syntax-cells : syntaxAfter parsing syntax ≡ syntaxRecords (syntaxTree d) ++ drop (syntaxWidth * size (syntaxTree d)) syntax
 
 -- the same of the call, by its answer and its two tables, before and after: what it accepts has a derivation within the limits and tables, whose
--- syntax records are counted and written; what it refuses has the verdict of a refusal, and every cell is 0
+-- syntax records are counted and written, and which the tree records show; what it refuses has none such, and the verdict of a refusal, and every
+-- cell is 0
 pub data CallVerdict (text trees syntax treesLeft syntaxLeft : List ℕ) : Answer → Type 0 where
   call-accepts : (d : Derivation text) → WithinLimits d → LongEnough d (length trees) (length syntax)
-      → treesLeft ≡ tableAfter (readingFor text (length trees)) trees
+      → treesLeft ≡ tableAfter (readingFor text (length trees)) trees → Shown d (take (treeWidth * countTrees (d .elements)) treesLeft)
       → syntaxLeft ≡ syntaxRecords (syntaxTree d) ++ drop (syntaxWidth * size (syntaxTree d)) syntax
       → CallVerdict text trees syntax treesLeft syntaxLeft (Answer.Accepted (size (syntaxTree d)))
   call-refuses : {number place : ℕ} → Verdict text (length trees) (length syntax) (denied number place)
+      → ((d : Derivation text) → WithinLimits d → LongEnough d (length trees) (length syntax) → ⊥)
       → treesLeft ≡ replicate (length trees) 0 → syntaxLeft ≡ replicate (length syntax) 0
       → CallVerdict text trees syntax treesLeft syntaxLeft (Answer.Refused number place)

@@ -6,14 +6,14 @@ use Rattle.elements.specs.Elements.{elementAt}
 use Rattle.elements.specs.declared.Element.{Element}
 use Rattle.elements.specs.declared.Next.{Next}
 use Rattle.rule.specs.Trees.{Trees, none}
-use Rattle.rule.specs.Levels.{Levels, wholeText, inside, slashOpens}
+use Rattle.rule.specs.Levels.{Levels, wholeText, inside, statedBy}
 use Rattle.prefix.specs.Reading.{Limits, more, step, Reading, accepted, refused, ending, reading}
 use Rattle.prefix.proofs.Induction.{reading-tells}
 
 -- from levels at a place to the trees of the whole text
 pub data Course (bytes : List ℕ) (limits : Limits) (trees : Trees) : Levels → ℕ → Type 0 where
   ended : {place : ℕ} → Course bytes limits trees (wholeText trees) place
-  went : {levels : Levels} {place : ℕ} (e : Element) (after : Levels) → elementAt bytes place (slashOpens levels) ≡ Next.Found e
+  went : {levels : Levels} {place : ℕ} (e : Element) (after : Levels) → elementAt bytes place (statedBy levels) ≡ Next.Found e
       → step limits levels e ≡ more after → Course bytes limits trees after (e .end) → Course bytes limits trees levels place
 
 module _ (bytes : List ℕ) (limits : Limits) where

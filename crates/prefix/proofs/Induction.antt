@@ -7,30 +7,30 @@ use Rattle.elements.specs.Elements.{elementAt}
 use Rattle.elements.specs.declared.Element.{Element}
 use Rattle.elements.specs.declared.Next.{Next}
 use Rattle.rule.specs.Trees.{Trees, none}
-use Rattle.rule.specs.Levels.{Levels, wholeText, inside, slashOpens}
+use Rattle.rule.specs.Levels.{Levels, wholeText, inside, statedBy}
 use Rattle.prefix.specs.Reading.{Limits, Step, stop, more, step, Reading, accepted, refused, ending, readOn, reading}
 use Rattle.prefix.proofs.ReadingLaws.{read-end, read-fault, read-stop, read-more}
 
 module _ (bytes : List ℕ) (limits : Limits) (P : Levels → ℕ → Type 0) (Q : Reading → Type 0)
     (ends : (levels : Levels) (place : ℕ) → P levels place → Q (ending levels))
-    (faults : (levels : Levels) (place number at : ℕ) → P levels place → elementAt bytes place (slashOpens levels) ≡ Next.Fault number at → Q (refused number at))
-    (stops : (levels : Levels) (place : ℕ) (e : Element) (number at : ℕ) → P levels place → elementAt bytes place (slashOpens levels) ≡ Next.Found e
+    (faults : (levels : Levels) (place number at : ℕ) → P levels place → elementAt bytes place (statedBy levels) ≡ Next.Fault number at → Q (refused number at))
+    (stops : (levels : Levels) (place : ℕ) (e : Element) (number at : ℕ) → P levels place → elementAt bytes place (statedBy levels) ≡ Next.Found e
     → step limits levels e ≡ stop number at → Q (refused number at))
-    (goes-on : (levels : Levels) (place : ℕ) (e : Element) (after : Levels) → P levels place → elementAt bytes place (slashOpens levels) ≡ Next.Found e
+    (goes-on : (levels : Levels) (place : ℕ) (e : Element) (after : Levels) → P levels place → elementAt bytes place (statedBy levels) ≡ Next.Found e
     → step limits levels e ≡ more after → P after (e .end))
   where
     pub read-on-tells : (fuel : ℕ) (levels : Levels) (place : ℕ) → P levels place → Q (readOn bytes limits fuel levels place)
     unfolding readOn
     read-on-tells zero levels place p = ends levels place p
-    read-on-tells (suc fuel) levels place p = found (elementAt bytes place (slashOpens levels)) refl (λ after next. read-on-tells fuel after next)
+    read-on-tells (suc fuel) levels place p = found (elementAt bytes place (statedBy levels)) refl (λ after next. read-on-tells fuel after next)
       where
-        stepped : (e : Element) (y : Step) → elementAt bytes place (slashOpens levels) ≡ Next.Found e → step limits levels e ≡ y
+        stepped : (e : Element) (y : Step) → elementAt bytes place (statedBy levels) ≡ Next.Found e → step limits levels e ≡ y
             → ((after : Levels) (next : ℕ) → P after next → Q (readOn bytes limits fuel after next))
             → Q (readOn bytes limits (suc fuel) levels place)
         stepped e (stop n q) f s rest = rw (read-stop bytes limits fuel levels place e f n q s) (stops levels place e n q p f s)
         stepped e (more after) f s rest = rw (read-more bytes limits fuel levels place e f after s) (rest after (e .end) (goes-on levels place e after p f s))
 
-        found : (next : Next) → elementAt bytes place (slashOpens levels) ≡ next
+        found : (next : Next) → elementAt bytes place (statedBy levels) ≡ next
             → ((after : Levels) (q : ℕ) → P after q → Q (readOn bytes limits fuel after q))
             → Q (readOn bytes limits (suc fuel) levels place)
         found Next.End f rest = rw (read-end bytes limits fuel levels place f) (ends levels place p)

@@ -4,6 +4,7 @@ pub mod ReadingLaws
 pub mod StepCases
 pub mod Induction
 pub mod Sizes
+pub mod Fuel
 pub mod Unlimited
 pub mod LimitLaws
 pub mod Course

@@ -8,16 +8,17 @@ use borrow.Author.Tests.{le-leb, lt-leb}
 use lib.ListN.{length, getD, set, length-set}
 use lib.Seq.{getD-set-same, getD-set-other}
 use Rattle.elements.specs.declared.Element.{Element}
+use Rattle.elements.specs.declared.Stated.{Stated}
 use Rattle.rule.specs.Trees.{Trees, none, leaf, group, count}
 use Rattle.rule.specs.Rule.{elementClass, groupClass, backwards}
-use Rattle.rule.specs.Levels.{Levels, wholeText, inside, depth, countSoFar, onTop, slashOpens, braceOpens}
+use Rattle.rule.specs.Levels.{Levels, wholeText, inside, depth, countSoFar, onTop, statedBy, braceOpens}
 use Rattle.prefix.specs.Reading.{Limits, addLeaf, openGroup, closes, closeGroup, deep, wrongCloser, treesFull}
 use Rattle.rule.specs.Machinery.Summary.{nothing, summary, code, summaries, levelCode}
-use Rattle.rule.specs.Machinery.LevelCodes.{slashByLevel, braceByLevel, levelAfter}
+use Rattle.rule.specs.Machinery.LevelCodes.{statedByLevel, braceByLevel, levelAfter}
 use Rattle.prefix.specs.Machinery.Represents.{Stack, Represents, closed, Follows, leaf-added, group-opened, group-closed, stopped}
 use Rattle.prefix.specs.declared.State.{State}
 use Rattle.prefix.specs.declared.Advanced.{Advanced}
-use Rattle.rule.proofs.LevelCodeLaws.{slash-opens-right, brace-opens-right, leaf-added-level, group-added-level, kind-of-level}
+use Rattle.rule.proofs.LevelCodeLaws.{stated-right, brace-opens-right, leaf-added-level, group-added-level, kind-of-level}
 
 -- a tree more on the innermost level
 module _ (add : Trees → Trees) where
@@ -47,8 +48,8 @@ unfolding levelCode summary backwards count
 represented-start tag stack = record { level-is = refl; depth-is = refl; records-is = refl; stacked = tt; fits = omega arith }
 
 module _ (tag : Levels → ℕ → ℕ) (stack : List ℕ) (state : State) (levels : Levels) (h : Represents tag stack state levels) where
-  pub represented-slash : (r : Bool) → r ≡ slashByLevel (state .level) → r ≡ slashOpens levels
-  represented-slash r e = e ∙ ap slashByLevel (h .level-is) ∙ slash-opens-right levels
+  pub represented-stated : (r : Stated) → r ≡ statedByLevel (state .level) → r ≡ statedBy levels
+  represented-stated r e = e ∙ ap statedByLevel (h .level-is) ∙ stated-right levels
 
   module _ (limits : Limits) (e : Element) where
     pub leaf-full : limits .room ≤ state .records → Follows (limits .room) tag stack e levels (Advanced.Stopped treesFull (e .first)) (addLeaf limits levels e)

@@ -13,7 +13,7 @@ use Rattle.elements.specs.declared.Next.{Next}
 use Rattle.elements.proofs.Choices.{cond-known}
 use Rattle.elements.proofs.Bounds.{found-placed, fault-number}
 use Rattle.rule.specs.Trees.{Trees, none, leaf, count, deepest, parenKind, objectKind, blockKind}
-use Rattle.rule.specs.Levels.{Levels, wholeText, inside, slashOpens, braceOpens, depth, countSoFar, onTop}
+use Rattle.rule.specs.Levels.{Levels, wholeText, inside, statedBy, braceOpens, depth, countSoFar, onTop}
 use Rattle.prefix.specs.Reading.{
   Limits,
   Step,
@@ -95,13 +95,13 @@ NoLimitRefused (accepted trees) = Unit {0}
 NoLimitRefused (refused number place) = NoLimit number
 
 module _ (bytes : List ℕ) where
-  module _ (levels : Levels) (place : ℕ) (e : Element) (p : Small levels place) (f : elementAt bytes place (slashOpens levels) ≡ Next.Found e) where
+  module _ (levels : Levels) (place : ℕ) (e : Element) (p : Small levels place) (f : elementAt bytes place (statedBy levels) ≡ Next.Found e) where
     -- each element has a byte of its own
     not-reached : (countSoFar levels < length bytes) × (depth levels < length bytes)
-    not-reached = omega (arith, found-placed bytes place (slashOpens levels) e f)
+    not-reached = omega (arith, found-placed bytes place (statedBy levels) e f)
 
     small-next : (limits : Limits) (after : Levels) → step limits levels e ≡ more after → Small after (e .end)
-    small-next limits after s = omega (arith, found-placed bytes place (slashOpens levels) e f, taken-grown e (step-taken limits e levels after s))
+    small-next limits after s = omega (arith, found-placed bytes place (statedBy levels) e f, taken-grown e (step-taken limits e levels after s))
 
     stop-no-limit : (number : ℕ) → Stopped (unlimited bytes) levels number → NoLimit number
     stop-no-limit number (at-depth h) = absurd (omega (arith, not-reached))
@@ -117,7 +117,7 @@ module _ (bytes : List ℕ) where
   unlimited-refused =
       reading-tells bytes (unlimited bytes) Small NoLimitRefused
       (λ levels place p. ending-no-limit levels)
-      (λ levels place number at p f. omega (arith, fault-number bytes place (slashOpens levels) number at f))
+      (λ levels place number at p f. omega (arith, fault-number bytes place (statedBy levels) number at f))
       (λ levels place e number at p f s. stop-no-limit levels place e p f number (step-reason (unlimited bytes) e levels number at s))
       (λ levels place e after p f s. small-next levels place e p f (unlimited bytes) after s)
       (omega arith)
@@ -133,9 +133,9 @@ module _ (bytes : List ℕ) where
     read-under : (fuel : ℕ) (levels : Levels) (place : ℕ) → Small levels place → UnderFrom fuel levels place
     unfolding readOn
     read-under zero levels place p = same
-    read-under (suc fuel) levels place p = found (elementAt bytes place (slashOpens levels)) refl (λ after next. read-under fuel after next)
+    read-under (suc fuel) levels place p = found (elementAt bytes place (statedBy levels)) refl (λ after next. read-under fuel after next)
       where
-        steps : (e : Element) → elementAt bytes place (slashOpens levels) ≡ Next.Found e
+        steps : (e : Element) → elementAt bytes place (statedBy levels) ≡ Next.Found e
             → {x y : Step} → StepUnder limits x y → step limits levels e ≡ x → step (unlimited bytes) levels e ≡ y
             → ((after : Levels) (next : ℕ) → Small after next → UnderFrom fuel after next) → UnderFrom (suc fuel) levels place
         steps e f (same-step {s = stop n at}) x y rest =
@@ -150,7 +150,7 @@ module _ (bytes : List ℕ) where
             rw (read-stop bytes limits fuel levels place e f deep at x, read-more bytes (unlimited bytes) fuel levels place e f after y)
             (deeper (passed bytes (unlimited bytes) reached (λ l a g. g .reached-kept) (limits .groups) fuel after (e .end) h))
 
-        found : (next : Next) → elementAt bytes place (slashOpens levels) ≡ next
+        found : (next : Next) → elementAt bytes place (statedBy levels) ≡ next
             → ((after : Levels) (at : ℕ) → Small after at → UnderFrom fuel after at) → UnderFrom (suc fuel) levels place
         found Next.End f rest = rw (read-end bytes limits fuel levels place f, read-end bytes (unlimited bytes) fuel levels place f) same
         found (Next.Fault n at) f rest = rw (read-fault bytes limits fuel levels place n at f, read-fault bytes (unlimited bytes) fuel levels place n at f) same

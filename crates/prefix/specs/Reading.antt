@@ -9,7 +9,7 @@ use Rattle.elements.specs.Elements.{elementAt, delimiterKind, parenOpener, pare
 use Rattle.elements.specs.declared.Element.{Element}
 use Rattle.elements.specs.declared.Next.{Next}
 use Rattle.rule.specs.Trees.{Trees, none, leaf, group, parenKind, objectKind, blockKind}
-use Rattle.rule.specs.Levels.{Levels, wholeText, inside, slashOpens, braceOpens, depth, countSoFar, onTop}
+use Rattle.rule.specs.Levels.{Levels, wholeText, inside, statedBy, braceOpens, depth, countSoFar, onTop}
 
 -- Document 01, Refused texts, row 9, deep: "opener inside 100 open groups"; place: the opener
 abbrev pub deep : ℕ
@@ -100,11 +100,11 @@ met limits levels Next.End = over (ending levels)
 met limits levels (Next.Fault number place) = over (refused number place)
 met limits levels (Next.Found e) = stepped (e .end) (step limits levels e)
 
--- the next element at a place, where the prefix rule states what a slash does there
+-- the next element at a place, where the prefix rule states what a slash does there, and whether a reserved word is a name
 unfoldable pub proceed : List ℕ → Limits → Levels → ℕ → Progress
-proceed bytes limits levels place = met limits levels (elementAt bytes place (slashOpens levels))
+proceed bytes limits levels place = met limits levels (elementAt bytes place (statedBy levels))
 
--- the rest of a reading; there are fewer elements than `fuel`, so that it is not used up (`reading-covers` of `grammar/proofs/Theorems.antt`)
+-- the rest of a reading; there are fewer elements than `fuel`, so that it is not used up (`enough-fuel` of `prefix/proofs/Fuel.antt`)
 unfoldable pub readOn : List ℕ → Limits → ℕ → Levels → ℕ → Reading
 readOn bytes limits zero levels place = ending levels
 readOn bytes limits (suc fuel) levels place =
@@ -114,7 +114,7 @@ readOn bytes limits (suc fuel) levels place =
 unfoldable pub reading : List ℕ → Limits → Reading
 reading bytes limits = readOn bytes limits (suc (length bytes)) (wholeText none) 0
 
--- Reading without limits, which demand 3 is about. Each element has a byte of its own, so that no reading reaches limits as large as its text is
+-- Reading without limits, which demand 3 is about. Each element has a byte of its own, so that no reading passes limits as large as its text is
 -- long: `unlimited-number` of `prefix/proofs/Unlimited.antt`.
 abbrev pub unlimited : List ℕ → Limits
 unlimited bytes = record { groups = length bytes; room = length bytes }

@@ -6,8 +6,9 @@ ghost use lib.ListN.{length};
 ghost use Rattle.rule.specs.Trees.{none};
 ghost use Rattle.rule.specs.Levels.{Levels, wholeText};
 ghost use Rattle.prefix.specs.Reading.{addLeaf, openGroup, closes, closeGroup};
-ghost use Rattle.prefix.specs.Machinery.Represents.{Represents, Follows, SettlesSlash, Advances};
+ghost use Rattle.prefix.specs.Machinery.Represents.{Represents, Follows, States, Advances};
 use elements::Element;
+use elements::Stated;
 
 // The kinds of groups, as document 01 numbers those of its tree records.
 pub const PARENS: u32 = rule::PARENS;
@@ -25,7 +26,7 @@ pub const UNCLOSED: u32 = 11;
 
 pub const TREES_FULL: u32 = 12;
 
-// The state of a reading: the number of the innermost level, how many groups are open, how many records there are so far.
+// The state of a reading: the code of the innermost level, how many groups are open, how many records there are so far.
 // The stack that is lent beside it has two numbers for each open group.
 pub struct State {
     pub level: u32,
@@ -53,11 +54,11 @@ pub fn start() -> State
     }
 }
 
-// Whether a slash that is met in a state opens a regular expression.
-pub fn slash_opens(state: State) -> bool
-    ensures { λ r. ⌜ SettlesSlash state r ⌝ }
+// What the prefix rule states of the next element in a state.
+pub fn stated_by(state: State) -> Stated
+    ensures { λ r. ⌜ States state r ⌝ }
 {
-    rule::slash_opens(state.level)
+    rule::stated_by(state.level)
 }
 
 fn add_leaf(state: State, room: usize, e: Element) -> Advanced

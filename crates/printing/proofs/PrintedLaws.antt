@@ -16,7 +16,7 @@ use Rattle.printing.specs.Printed.{digitByte, digits, decimal, after, li
 use Rattle.printing.specs.Machinery.Writing.{Adds, Written}
 use Rattle.printing.proofs.WritingLaws.{from-nothing}
 
--- a digitByte alone
+-- a digit alone
 pub decimal-one : (n : ℕ) → n < 10 → decimal n ≡ digitByte (n % 10) ∷ []
 unfolding decimal digits
 decimal-one n h = rw (lt-ltb n 10 h)

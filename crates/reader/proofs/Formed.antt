@@ -11,7 +11,7 @@ use Rattle.elements.specs.declared.Next.{Next}
 use Rattle.elements.proofs.Bounds.{found-placed, fault-placed}
 use Rattle.elements.proofs.FoundKinds.{found-kind}
 use Rattle.rule.specs.Trees.{Trees, none, leaf, group, count}
-use Rattle.rule.specs.Levels.{Levels, wholeText, inside, slashOpens, onTop}
+use Rattle.rule.specs.Levels.{Levels, wholeText, inside, statedBy, onTop}
 use Rattle.prefix.specs.Reading.{Limits, Reading, accepted, refused, ending, reading}
 use Rattle.prefix.proofs.Induction.{reading-tells}
 use Rattle.prefix.proofs.StepCases.{Taken, leaf-taken, open-taken, close-taken, step-taken, step-stopped}
@@ -53,7 +53,7 @@ reading-formed bytes limits =
     (λ levels place p. formed-ending levels p)
     (λ levels place number at p f. tt)
     (λ levels place e number at p f s. tt)
-    (λ levels place e after p f s. formed-taken e (found-kind bytes place (slashOpens levels) e f) (step-taken limits e levels after s) p)
+    (λ levels place e after p f s. formed-taken e (found-kind bytes place (statedBy levels) e f) (step-taken limits e levels after s) p)
     tt
 
 -- the records of such trees are well nested
@@ -103,12 +103,12 @@ pub reading-within-text : (bytes : List ℕ) (limits : Limits) → RefusedWithin
 reading-within-text bytes limits =
     reading-tells bytes limits (λ levels place. Opened (length bytes) levels) (RefusedWithin (length bytes))
     (λ levels place p. ending-within (length bytes) levels p)
-    (λ levels place number at p f. omega (arith, fault-placed bytes place (slashOpens levels) number at f))
+    (λ levels place number at p f. omega (arith, fault-placed bytes place (statedBy levels) number at f))
     (λ levels place e number at p f s. rw (step-stopped limits e levels number at s) (starts levels place e f))
     (λ levels place e after p f s. opened-taken (length bytes) e (starts levels place e f) (step-taken limits e levels after s) p)
     tt
   where
-    starts : (levels : Levels) (place : ℕ) (e : Element) → elementAt bytes place (slashOpens levels) ≡ Next.Found e → e .first ≤ length bytes
+    starts : (levels : Levels) (place : ℕ) (e : Element) → elementAt bytes place (statedBy levels) ≡ Next.Found e → e .first ≤ length bytes
     starts levels place e f =
-        let placed = found-placed bytes place (slashOpens levels) e f in
+        let placed = found-placed bytes place (statedBy levels) e f in
         omega (arith, placed .some, placed .within)

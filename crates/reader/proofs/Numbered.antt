@@ -7,7 +7,7 @@ use native.Mathlib.Omega.{arith}
 use lib.Dec.{leb}
 use lib.ListN.{length}
 use Rattle.elements.proofs.Bounds.{fault-number}
-use Rattle.rule.specs.Levels.{Levels, wholeText, inside, slashOpens}
+use Rattle.rule.specs.Levels.{Levels, wholeText, inside, statedBy}
 use Rattle.prefix.specs.Reading.{Limits, Reading, accepted, refused, ending, reading}
 use Rattle.prefix.proofs.Induction.{reading-tells}
 use Rattle.prefix.proofs.StepCases.{Stopped, at-depth, at-room, at-closer, step-reason}
@@ -30,7 +30,7 @@ stopped-numbered at-closer = (omega arith, omega arith)
 reading-numbered : (bytes : List ℕ) (limits : Limits) → Numbered (reading bytes limits)
 reading-numbered bytes limits =
     reading-tells bytes limits (λ levels place. Unit {0}) Numbered (λ levels place p. ending-numbered levels)
-    (λ levels place number at p f. let n = fault-number bytes place (slashOpens levels) number at f in (omega arith, omega arith))
+    (λ levels place number at p f. let n = fault-number bytes place (statedBy levels) number at f in (omega arith, omega arith))
     (λ levels place e number at p f s. stopped-numbered (step-reason limits e levels number at s))
     (λ levels place e after p f s. tt) tt
 

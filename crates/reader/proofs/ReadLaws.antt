@@ -10,9 +10,10 @@ use Rattle.elements.specs.Elements.{elementAt}
 use Rattle.answers.specs.declared.Answer.{Answer}
 use Rattle.elements.specs.declared.Element.{Element}
 use Rattle.elements.specs.declared.Next.{Next}
+use Rattle.elements.specs.declared.Stated.{Stated}
 use Rattle.elements.proofs.Bounds.{Placed, found-placed}
 use Rattle.rule.specs.Trees.{Trees, none, count}
-use Rattle.rule.specs.Levels.{Levels, wholeText, inside, slashOpens, depth, countSoFar}
+use Rattle.rule.specs.Levels.{Levels, wholeText, inside, statedBy, depth, countSoFar}
 use Rattle.prefix.specs.Reading.{Limits, Step, step, Reading, accepted, refused, ending, readOn, reading, unclosed}
 use Rattle.prefix.specs.declared.Advanced.{Advanced}
 use Rattle.prefix.specs.declared.State.{State}
@@ -77,25 +78,25 @@ module _ (bytes before : List ℕ) where
             { represented = s .represented; cells-are = refl; some = omega arith; room-fits = omega (arith, s .room-is); room-small = omega (arith, s .room-is); length-is = refl; stack-is = s .stack-is };
       }
 
-  module _ (now stack : List ℕ) (room : ℕ) (state : State) (place : ℕ) (at : At bytes before now stack room state place) (pattern : Bool) (p : pattern ≡ slashOpens (at .levels)) where
+  module _ (now stack : List ℕ) (room : ℕ) (state : State) (place : ℕ) (at : At bytes before now stack room state place) (stated : Stated) (p : stated ≡ statedBy (at .levels)) where
     limits : Limits
     limits = record { groups = mostGroups; room = room }
 
     -- the element that the rule's answer gives
-    here : (next : Next) → elementAt bytes place pattern ≡ next → elementAt bytes place (slashOpens (at .levels)) ≡ next
+    here : (next : Next) → elementAt bytes place stated ≡ next → elementAt bytes place (statedBy (at .levels)) ≡ next
     here next e = rw p at e
 
-    pub at-end : elementAt bytes place pattern ≡ Next.End → Runs bytes before now stack room (ReadOn.End state)
+    pub at-end : elementAt bytes place stated ≡ Next.End → Runs bytes before now stack room (ReadOn.End state)
     unfolding limits
     at-end e = ran (at .holds) (at .meets ∙ read-end bytes limits (at .fuel) (at .levels) place (here Next.End e))
 
-    pub at-fault : (n q : ℕ) → elementAt bytes place pattern ≡ Next.Fault n q → Runs bytes before now stack room (ReadOn.Stop n q)
+    pub at-fault : (n q : ℕ) → elementAt bytes place stated ≡ Next.Fault n q → Runs bytes before now stack room (ReadOn.Stop n q)
     unfolding limits
     at-fault n q e = halted (at .meets ∙ read-fault bytes limits (at .fuel) (at .levels) place n q (here (Next.Fault n q) e))
 
-    module _ (e : Element) (found : elementAt bytes place pattern ≡ Next.Found e) where
+    module _ (e : Element) (found : elementAt bytes place stated ≡ Next.Found e) where
       placed : Placed bytes place e
-      placed = found-placed bytes place pattern e found
+      placed = found-placed bytes place stated e found
 
       stopped-by : (after st : List ℕ) {n q : ℕ} {y : Step} → step limits (at .levels) e ≡ y → Turned before after st room (Stored.Stop n q) y
           → Runs bytes before after st room (ReadOn.Stop n q)

@@ -48,8 +48,8 @@ fn read_on(
     let mut state = from;
     let mut place = at;
     loop {
-        let pattern = prefix::slash_opens(state);
-        let next = elements::element_at(text, place, pattern);
+        let stated = prefix::stated_by(state);
+        let next = elements::element_at(text, place, stated);
         match next {
             Next::End => {
                 return ReadOn::End(state);

@@ -1,18 +1,18 @@
 // Prints how `reader::read` reads, `respacer::respace` respaces and `parser::parse` parses the texts that standard input gives, one
 // case to a line, for comparison with the stored answers. `case.rt`, and `spelling.rt` of `cases`, say what a line holds, `print.rt` of
-// `cases` what is printed.
+// `case_answers` what is printed.
 mod case;
 
 use answers::Answer;
 use case::Case;
-use cases::outputs;
-use cases::outputs::BYTES;
-use cases::print;
+use case_answers::outputs;
+use case_answers::outputs::BYTES;
+use case_answers::print;
+use case_answers::table;
+use case_answers::table::CELLS;
+use case_answers::table::SYNTAX_CELLS;
 use cases::spelling::MOST;
 use cases::spelling::part;
-use cases::table;
-use cases::table::CELLS;
-use cases::table::SYNTAX_CELLS;
 use libc::STDIN_FILENO;
 
 fn main() {

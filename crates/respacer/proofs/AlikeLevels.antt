@@ -6,7 +6,7 @@ use Prim.Native.Nat.{ℕ, _+_, _-_}
 use Rattle.elements.specs.declared.Element.{Element}
 use Rattle.rule.specs.Trees.{Trees, leaf, group, count}
 use Rattle.rule.specs.Rule.{elementClass, backwards}
-use Rattle.rule.specs.Levels.{Levels, wholeText, inside, kindOf, treesOf, slashOpens, braceOpens, depth, countSoFar, onTop}
+use Rattle.rule.specs.Levels.{Levels, wholeText, inside, kindOf, treesOf, statedBy, braceOpens, depth, countSoFar, onTop}
 use Rattle.elements.specs.Lexemes.{bytesOf, SameElement}
 use Rattle.respacer.specs.Respaced.{space, separator, addElement, addCloser, addTrees}
 use Rattle.respacer.specs.Alike.{Alike, alike-none, alike-leaf, alike-group}
@@ -45,8 +45,8 @@ module _ {s t : List ℕ} where
   alike-trees (alike-text trees) = alike-backwards trees
   alike-trees (alike-inside around opener trees) = alike-backwards trees
 
-  pub alike-slash : {levels others : Levels} → AlikeLevels s t levels others → slashOpens levels ≡ slashOpens others
-  alike-slash alike = rw (alike-kind alike, alike-trees alike)
+  pub alike-stated : {levels others : Levels} → AlikeLevels s t levels others → statedBy levels ≡ statedBy others
+  alike-stated alike = rw (alike-kind alike, alike-trees alike)
 
   pub alike-brace : {levels others : Levels} → AlikeLevels s t levels others → (newline : Bool) → braceOpens levels newline ≡ braceOpens others newline
   alike-brace alike newline = rw (alike-kind alike, alike-trees alike)

@@ -6,7 +6,7 @@ use native.Mathlib.Omega.{arith}
 use lib.ListN.{length, length-append}
 use Rattle.elements.specs.declared.Element.{Element}
 use Rattle.elements.proofs.Bounds.{Placed, found-placed}
-use Rattle.rule.specs.Levels.{Levels, wholeText, inside, slashOpens}
+use Rattle.rule.specs.Levels.{Levels, wholeText, inside, statedBy}
 use Rattle.prefix.specs.Reading.{Limits, Reading, accepted, refused, ending, reading}
 use Rattle.prefix.proofs.Induction.{reading-tells}
 use Rattle.prefix.proofs.StepCases.{Taken, leaf-taken, open-taken, close-taken, step-taken}
@@ -64,6 +64,6 @@ reading-short bytes limits =
     (λ levels place number at p f. tt)
     (λ levels place e number at p f s. tt)
     (λ levels place e after p f s.
-    let placed = found-placed bytes place (slashOpens levels) e f in
+    let placed = found-placed bytes place (statedBy levels) e f in
     (placed .within, short-taken bytes place e placed (step-taken limits e levels after s) (p .1)))
     (omega arith, omega arith)

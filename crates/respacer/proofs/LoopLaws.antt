@@ -11,7 +11,7 @@ use Rattle.elements.specs.declared.Element.{Element}
 use Rattle.elements.specs.declared.Next.{Next}
 use Rattle.elements.proofs.Bounds.{Placed, found-placed}
 use Rattle.rule.specs.Trees.{none}
-use Rattle.rule.specs.Levels.{Levels, wholeText, slashOpens}
+use Rattle.rule.specs.Levels.{Levels, wholeText, statedBy}
 use Rattle.prefix.specs.Reading.{Step, step, Reading, accepted, refused, ending, readOn, reading}
 use Rattle.prefix.specs.Machinery.Represents.{Represents, Follows}
 use Rattle.prefix.specs.declared.Advanced.{Advanced}
@@ -69,7 +69,7 @@ module _ (bytes old : List ℕ) where
 
     -- an element, and the step that was taken at it
     found-by : {e : Element} {advanced : Advanced} → Takes bytes stack after mostTrees state place (here .levels) (ReadOn.Taken e advanced)
-        → elementAt bytes place (slashOpens (here .levels)) ≡ Next.Found e
+        → elementAt bytes place (statedBy (here .levels)) ≡ Next.Found e
     found-by (at-element f s) = f
 
     pub follows : {e : Element} {advanced : Advanced} → Takes bytes stack after mostTrees state place (here .levels) (ReadOn.Taken e advanced)
@@ -77,11 +77,11 @@ module _ (bytes old : List ℕ) where
     follows (at-element f s) = rw (here .writes .stack-is) at s
 
     module _ (e : Element) (advanced : Advanced) (taken : Takes bytes stack after mostTrees state place (here .levels) (ReadOn.Taken e advanced)) where
-      found : elementAt bytes place (slashOpens (here .levels)) ≡ Next.Found e
+      found : elementAt bytes place (statedBy (here .levels)) ≡ Next.Found e
       found = found-by taken
 
       pub placed : Placed bytes place e
-      placed = found-placed bytes place (slashOpens (here .levels)) e found
+      placed = found-placed bytes place (statedBy (here .levels)) e found
 
       stopped-by : (next st : List ℕ) {n q : ℕ} {y : Step} → step respaceLimits (here .levels) e ≡ y → Turned bytes old next st (e .end) (Wrote.Stop n q) y
           → Told bytes old next (wholeReading bytes) (Answer.Refused n q)

@@ -10,7 +10,7 @@ use Rattle.elements.specs.declared.Element.{Element}
 use Rattle.elements.specs.declared.Next.{Next}
 use Rattle.elements.proofs.Delimiters.{delimiter-byte}
 use Rattle.rule.specs.Trees.{Trees, none}
-use Rattle.rule.specs.Levels.{Levels, wholeText, slashOpens, depth}
+use Rattle.rule.specs.Levels.{Levels, wholeText, statedBy, depth}
 use Rattle.prefix.specs.Reading.{Limits, more, step, accepted, readOn, reading}
 use Rattle.prefix.proofs.ReadingLaws.{read-end, read-more}
 use Rattle.prefix.proofs.Course.{Course, ended, went, accepted-course}
@@ -18,7 +18,7 @@ use Rattle.elements.specs.Lexemes.{bytesOf}
 use Rattle.respacer.specs.Respaced.{separator, addElement, addTrees, respaced}
 use Rattle.respacer.specs.Machinery.Written.{writtenOf}
 use Rattle.respacer.specs.Alike.{alike-none, Kept}
-use Rattle.respacer.proofs.AlikeLevels.{AlikeLevels, alike-text, alike-slash}
+use Rattle.respacer.proofs.AlikeLevels.{AlikeLevels, alike-text, alike-stated}
 use Rattle.respacer.proofs.StepWrites.{lineWritten}
 use Rattle.respacer.proofs.FoundAgain.{moved, found-again, found-end, found-bytes, nothing-more}
 use Rattle.respacer.proofs.StepAgain.{Reaches, step-again}
@@ -33,7 +33,7 @@ module _ (s : List ℕ) (limits : Limits) (trees : Trees) where
   standsAt levels e = length (writtenOf s levels ++ separator (writtenOf s levels) (lineWritten e))
 
   -- one element
-  module _ (levels others after : Levels) (place : ℕ) (e : Element) (found : elementAt s place (slashOpens levels) ≡ Next.Found e)
+  module _ (levels others after : Levels) (place : ℕ) (e : Element) (found : elementAt s place (statedBy levels) ≡ Next.Found e)
       (begun : 0 < depth levels → 0 < length (writtenOf s levels)) (steps : step limits levels e ≡ more after) (course : Course s limits trees after (e .end))
       (alike : AlikeLevels s t levels others) where
     goes : GoesOn t (addElement s (writtenOf s levels) (e .first) (e .end) (lineWritten e))
@@ -41,19 +41,19 @@ module _ (s : List ℕ) (limits : Limits) (trees : Trees) where
         let more = more-written s limits levels after place e found begun steps in
         rw (element-written s limits levels after place e found begun steps) at (goes-on s limits trees course (omega arith))
 
-    found-there : elementAt t (length (writtenOf s levels)) (slashOpens others) ≡ Next.Found (moved e (standsAt levels e) (lineWritten e))
-    found-there = rw (goes .is, ← alike-slash alike) (found-again s place (slashOpens levels) e found (goes .next) (goes .separates) (goes .rest) (writtenOf s levels) (lineWritten e))
+    found-there : elementAt t (length (writtenOf s levels)) (statedBy others) ≡ Next.Found (moved e (standsAt levels e) (lineWritten e))
+    found-there = rw (goes .is, ← alike-stated alike) (found-again s place (statedBy levels) e found (goes .next) (goes .separates) (goes .rest) (writtenOf s levels) (lineWritten e))
 
     bytes-there : bytesOf s (e .first) (e .end) ≡ bytesOf t (standsAt levels e) (standsAt levels e + (e .end - e .first))
-    bytes-there = rw (goes .is) (found-bytes s place (slashOpens levels) e found (goes .next) (goes .separates) (goes .rest) (writtenOf s levels) (lineWritten e))
+    bytes-there = rw (goes .is) (found-bytes s place (statedBy levels) e found (goes .next) (goes .separates) (goes .rest) (writtenOf s levels) (lineWritten e))
 
     reaches : Reaches s t after (step limits others (moved e (standsAt levels e) (lineWritten e)))
-    reaches = step-again s t limits e (standsAt levels e) after bytes-there alike (delimiter-byte s place (slashOpens levels) e found) steps
+    reaches = step-again s t limits e (standsAt levels e) after bytes-there alike (delimiter-byte s place (statedBy levels) e found) steps
 
     ends-there : standsAt levels e + (e .end - e .first) ≡ length (writtenOf s after)
     ends-there =
         rw (element-written s limits levels after place e found begun steps)
-        (sym (found-end s place (slashOpens levels) e found (goes .next) (goes .separates) (goes .rest) (writtenOf s levels) (lineWritten e)))
+        (sym (found-end s place (statedBy levels) e found (goes .next) (goes .separates) (goes .rest) (writtenOf s levels) (lineWritten e)))
 
     -- the respaced text is not at its end behind it
     not-last : length (writtenOf s after) < length t
@@ -79,7 +79,7 @@ module _ (s : List ℕ) (limits : Limits) (trees : Trees) where
   last-again (alike-text {others = kept} alike) fuel =
       record {
         kept = kept;
-        reads = read-end t limits fuel (wholeText kept) (length (addTrees s [] trees)) (nothing-more (addTrees s [] trees) (slashOpens (wholeText kept)));
+        reads = read-end t limits fuel (wholeText kept) (length (addTrees s [] trees)) (nothing-more (addTrees s [] trees) (statedBy (wholeText kept)));
         alike = alike;
       }
 

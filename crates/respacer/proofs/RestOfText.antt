@@ -12,7 +12,7 @@ use Rattle.elements.specs.declared.Next.{Next}
 use Rattle.elements.proofs.Bounds.{Placed, found-placed}
 use Rattle.elements.proofs.Delimiters.{delimiter-byte}
 use Rattle.rule.specs.Trees.{Trees}
-use Rattle.rule.specs.Levels.{Levels, slashOpens, depth}
+use Rattle.rule.specs.Levels.{Levels, statedBy, depth}
 use Rattle.prefix.specs.Reading.{Limits, more, step}
 use Rattle.prefix.proofs.Course.{Course, ended, went}
 use Rattle.elements.specs.Lexemes.{bytesOf}
@@ -47,14 +47,14 @@ element-adds s written first end newline h k =
     (omega arith)
 
 -- one element of an accepted reading
-module _ (s : List ℕ) (limits : Limits) (levels after : Levels) (place : ℕ) (e : Element) (found : elementAt s place (slashOpens levels) ≡ Next.Found e)
+module _ (s : List ℕ) (limits : Limits) (levels after : Levels) (place : ℕ) (e : Element) (found : elementAt s place (statedBy levels) ≡ Next.Found e)
     (begun : 0 < depth levels → 0 < length (writtenOf s levels)) (steps : step limits levels e ≡ more after) where
   pub element-written : writtenOf s after ≡ addElement s (writtenOf s levels) (e .first) (e .end) (lineWritten e)
-  element-written = step-written s limits e after levels (delimiter-byte s place (slashOpens levels) e found) begun steps
+  element-written = step-written s limits e after levels (delimiter-byte s place (statedBy levels) e found) begun steps
 
   pub more-written : length (writtenOf s levels) < length (writtenOf s after)
   more-written =
-      let p : Placed s place e = found-placed s place (slashOpens levels) e found in
+      let p : Placed s place e = found-placed s place (statedBy levels) e found in
       rw element-written (omega (arith, element-adds s (writtenOf s levels) (e .first) (e .end) (lineWritten e) (omega (arith, p .some)) (p .within), p .some))
 
 pub goes-on : (s : List ℕ) (limits : Limits) (trees : Trees) {levels : Levels} {place : ℕ} → Course s limits trees levels place → 0 < length (writtenOf s levels)

@@ -1,13 +1,14 @@
 -- The theorems of respacing.
-use mathlib.Core.Path.{_≡_, refl}
+use mathlib.Core.Path.{_≡_, refl, sym, ap, _∙_}
 use mathlib.Core.List.{List, [], _∷_}
 use mathlib.Core.Bool.{Bool, true, false, cond}
 use Prim.Native.Nat.{ℕ, _+_, _*_, _≤_, _<_}
 use native.Mathlib.Omega.{arith}
 use borrow.Author.Tests.{leb-true}
 use lib.Dec.{leb}
-use lib.ListN.{length, length-append}
+use lib.ListN.{length, drop, length-append}
 use Rattle.answers.specs.Answers.{valueOf}
+use Rattle.answers.specs.declared.Answer.{Answer}
 use Rattle.rule.specs.Trees.{Trees, count, deepest}
 use Rattle.prefix.specs.Reading.{Reading, accepted, refused, reading, unlimitedReading, deep, treesFull}
 use Rattle.tables.specs.Records.{mostTrees}
@@ -16,7 +17,7 @@ use Rattle.reader.proofs.Formed.{reading-within-text}
 use Rattle.reader.proofs.Numbered.{first-numbered}
 use Rattle.reader.proofs.LengthFirst.{first-fits, first-full, first-deep}
 use Rattle.respacer.specs.Respaced.{lineFeed, addTrees, respaced}
-use Rattle.respacer.specs.Respace.{Short, respaceLimits, wholeReading, outputFull, written, denied, fitted, respacingFor, answerOf}
+use Rattle.respacer.specs.Respace.{Short, respaceLimits, wholeReading, outputFull, Respacing, written, denied, fitted, respacingFor, answerOf, outputAfter, Respaces}
 use Rattle.respacer.proofs.Lengths.{reading-short}
 
 abbrev Bounded : List ℕ → Reading → Type 0
@@ -42,6 +43,16 @@ bounded text = go (leb (length text) mostBytes) refl
 -- A respaced text is short.
 pub respaced-length : (text : List ℕ) (trees : Trees) → wholeReading text ≡ accepted trees → Short text trees
 respaced-length text trees e = rw e at (bounded text)
+
+-- What `respace` says that it wrote is within the output, so that `&output[..count]` may be taken of it.
+pub written-within : (text before after : List ℕ) (answer : Answer) → Respaces text before after answer → (n : ℕ) → answer ≡ Answer.Accepted n → n ≤ length after
+written-within text before after answer r n e = go (respacingFor text (length before)) (sym e ∙ r .0) (r .1)
+  where
+    go : (q : Respacing) → Answer.Accepted n ≡ answerOf q → after ≡ outputAfter q before → n ≤ length after
+    go (written bytes) a t =
+        let m : n ≡ length bytes = cc in
+        omega (arith, ap length t, length-append bytes (drop (length bytes) before))
+    go (denied number place) a t = absurd (let z : _≡_ {A = ℕ} 0 1 = cc in omega arith)
 
 -- The trees of a text of at most 262,144 bytes are read if they fit,
 pub respace-fits : (text : List ℕ) (trees : Trees) → unlimitedReading text ≡ accepted trees

@@ -7,12 +7,12 @@ use lib.Dec.{T, eqb, eqb→eq, ltb, ltb→lt}
 use Rattle.text.proofs.Range.{alike, alike→eq}
 use Rattle.elements.specs.declared.Element.{Element}
 use Rattle.rule.specs.Trees.{Trees, leaf, group}
-use Rattle.rule.specs.Rule.{Class, name, literal, operator, colon, other, returnWord, functionWord, ifWord, parens, object, block, elementClass, groupClass, backwards}
-use Rattle.rule.specs.Levels.{Levels, wholeText, inside, isExpression, kindOf, treesOf, slashOpens, braceOpens, onTop}
-use Rattle.rule.specs.Machinery.Summary.{Summary, afterFunctionParens, braceBy, slashBy, addName, addParens, addBlock, add, summary, code, summaries, levelFor, levelCode}
-use Rattle.rule.specs.Machinery.LevelCodes.{with, slashByLevel, braceByCode, braceByLevel, nameCode, levelAfterName, parensCode, levelAfterParens, blockCode, levelAfterBlock, levelAfter}
+use Rattle.rule.specs.Rule.{Class, name, literal, operator, colon, dot, other, returnWord, functionWord, ifWord, parens, object, block, elementClass, groupClass, backwards}
+use Rattle.rule.specs.Levels.{Levels, wholeText, inside, isExpression, kindOf, treesOf, slashOpens, wordIsName, statedBy, braceOpens, onTop}
+use Rattle.rule.specs.Machinery.Summary.{Summary, afterFunctionParens, braceBy, slashBy, nameBy, addName, addParens, addBlock, add, summary, code, summaries, levelFor, levelCode}
+use Rattle.rule.specs.Machinery.LevelCodes.{with, slashByLevel, nameByLevel, statedByLevel, braceByCode, braceByLevel, nameCode, levelAfterName, parensCode, levelAfterParens, blockCode, levelAfterBlock, levelAfter}
 use Rattle.rule.proofs.Finite.{bothBools, at-bool, allSummaries, at-summary}
-use Rattle.rule.proofs.SummaryLaws.{brace-right, slash-right}
+use Rattle.rule.proofs.SummaryLaws.{brace-right, slash-right, name-right}
 
 code-small : (s : Summary) → code s < summaries
 code-small s = ltb→lt (code s) summaries (at-summary (λ s. ltb (code s) summaries) tt s)
@@ -48,6 +48,10 @@ module _ (k : ℕ) (s : Summary) where
       (alike→eq (ltb (code (afterFunctionParens Bool.true)) (code s)) (slashBy s)
       (at-summary (λ s. alike (ltb (code (afterFunctionParens Bool.true)) (code s)) (slashBy s)) tt s))
 
+  word-level : nameByLevel (levelFor k s) ≡ nameBy s
+  unfolding nameByLevel
+  word-level = rw code-part
+
   brace-level : (newline : Bool) → braceByLevel (levelFor k s) newline ≡ braceBy (isExpression k) s newline
   unfolding braceByLevel
   brace-level newline = rw (kind-part, code-part) (brace-by-code (isExpression k) newline s)
@@ -71,6 +75,7 @@ module _ (k : ℕ) (s : Summary) where
   level-after literal newline = rw kind-part
   level-after operator newline = rw kind-part
   level-after colon newline = rw kind-part
+  level-after dot newline = rw kind-part
   level-after other newline = rw kind-part
   level-after returnWord newline = rw kind-part
   level-after functionWord newline = rw (kind-part, brace-level newline)
@@ -81,11 +86,20 @@ module _ (k : ℕ) (s : Summary) where
 
 -- the same of the levels of a reading
 module _ (levels : Levels) where
-  pub slash-opens-right : slashByLevel (levelCode levels) ≡ slashOpens levels
+  slash-opens-right : slashByLevel (levelCode levels) ≡ slashOpens levels
   unfolding levelCode
   slash-opens-right =
       slash-level (kindOf levels) (summary (isExpression (kindOf levels)) (backwards (treesOf levels)))
       ∙ slash-right (isExpression (kindOf levels)) (backwards (treesOf levels))
+
+  names-word-right : nameByLevel (levelCode levels) ≡ wordIsName levels
+  unfolding levelCode
+  names-word-right =
+      word-level (kindOf levels) (summary (isExpression (kindOf levels)) (backwards (treesOf levels)))
+      ∙ name-right (isExpression (kindOf levels)) (backwards (treesOf levels))
+
+  pub stated-right : statedByLevel (levelCode levels) ≡ statedBy levels
+  stated-right = rw (slash-opens-right, names-word-right)
 
   pub brace-opens-right : (newline : Bool) → braceByLevel (levelCode levels) newline ≡ braceOpens levels newline
   unfolding levelCode

@@ -4,8 +4,8 @@ use mathlib.Core.Bool.{Bool, true, false, not, cond}
 use mathlib.Core.List.{List, [], _∷_}
 use lib.Dec.{T}
 use Rattle.text.proofs.Range.{alike, alike→eq}
-use Rattle.rule.specs.Rule.{Class, name, literal, operator, colon, other, returnWord, functionWord, ifWord, parens, object, block, Before, tree, is, endsWith, objectAfter, opensObject, plainly, opensPattern}
-use Rattle.rule.specs.Machinery.Summary.{Summary, braceBy, slashBy, addName, addParens, addBlock, add, summary}
+use Rattle.rule.specs.Rule.{Class, name, literal, operator, colon, dot, other, returnWord, functionWord, ifWord, parens, object, block, Before, tree, is, endsWith, objectAfter, opensObject, plainly, opensPattern, namesWord}
+use Rattle.rule.specs.Machinery.Summary.{Summary, braceBy, slashBy, nameBy, addName, addParens, addBlock, add, summary}
 use Rattle.rule.proofs.Finite.{bothBools, at-bool, allClasses, at-class, allSummaries, at-summary}
 
 -- an equation between two Booleans that holds after every tree
@@ -92,6 +92,7 @@ slash-right e (tree name l ∷ ts) =
 slash-right e (tree literal l ∷ ts) = not-excepted e l literal refl ts
 slash-right e (tree operator l ∷ ts) = not-excepted e l operator refl ts
 slash-right e (tree colon l ∷ ts) = not-excepted e l colon refl ts
+slash-right e (tree dot l ∷ ts) = not-excepted e l dot refl ts
 slash-right e (tree other l ∷ ts) = not-excepted e l other refl ts
 slash-right e (tree returnWord l ∷ ts) = not-excepted e l returnWord refl ts
 slash-right e (tree functionWord l ∷ ts) = not-excepted e l functionWord refl ts
@@ -99,3 +100,9 @@ slash-right e (tree ifWord l ∷ ts) = not-excepted e l ifWord refl ts
 slash-right e (tree parens l ∷ ts) = after-parens e ts ∙ not-excepted e l parens refl ts
 slash-right e (tree object l ∷ ts) = not-excepted e l object refl ts
 slash-right e (tree block l ∷ ts) = after-block e l ts
+
+-- whether a reserved word is a name
+pub name-right : (e : Bool) (ts : List Before) → nameBy (summary e ts) ≡ namesWord ts
+unfolding summary namesWord
+name-right e [] = refl
+name-right e (tree c l ∷ ts) = always (λ e s c l. nameBy (add e s c l)) (λ e s c l. is dot c) tt e (summary e ts) c l

@@ -3,8 +3,10 @@
 use Prim.Native.Nat.{ℕ, _+_}
 use mathlib.Core.Bool.{Bool, _||_}
 use lib.Dec.{eqb}
+use Rattle.elements.specs.Elements.{stating}
+use Rattle.elements.specs.declared.Stated.{Stated}
 use Rattle.rule.specs.Trees.{Trees, count, parenKind, objectKind}
-use Rattle.rule.specs.Rule.{backwards, opensObject, opensPattern}
+use Rattle.rule.specs.Rule.{backwards, opensObject, opensPattern, namesWord}
 
 -- the levels that are open at a place: the text's own, or the inside of a group that is open, with the levels around it,
 -- its kind, its first byte, whether a line end lies before it, and the trees in it so far
@@ -33,6 +35,14 @@ slashOpens levels = opensPattern (isExpression (kindOf levels)) (backwards (tree
 
 abbrev pub braceOpens : Levels → Bool → Bool
 braceOpens levels newline = opensObject (isExpression (kindOf levels)) (backwards (treesOf levels)) newline
+
+-- whether a reserved word is a name there
+abbrev pub wordIsName : Levels → Bool
+wordIsName levels = namesWord (backwards (treesOf levels))
+
+-- what the prefix rule states of the next element
+abbrev pub statedBy : Levels → Stated
+statedBy levels = stating (slashOpens levels) (wordIsName levels)
 
 -- groups that are open, and records so far
 abbrev pub depth : Levels → ℕ

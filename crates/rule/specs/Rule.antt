@@ -1,4 +1,4 @@
--- Document 01, Prefix rule: over the trees before on the same level. "Last" is the tree before, on the same level.
+-- Document 01, Prefix rule, and document 02, U1: over the trees before on the same level. "Last" is the tree before, on the same level.
 use Prim.Native.Nat.{ℕ}
 use mathlib.Core.Bool.{Bool, true, false, not, cond, _&&_}
 use mathlib.Core.List.{List, [], _∷_}
@@ -6,7 +6,7 @@ use lib.Dec.{eqb}
 use Rattle.elements.specs.Elements.{nameKind, wordKind, signKind}
 use Rattle.elements.specs.declared.Element.{Element}
 use Rattle.vocabulary.specs.Vocabulary.{words, signs, ruleClass, rowAt}
-pub use Rattle.vocabulary.specs.RuleClasses.{Class, name, literal, operator, colon, other, returnWord, functionWord, ifWord, parens, object, block, rank}
+pub use Rattle.vocabulary.specs.RuleClasses.{Class, name, literal, operator, colon, dot, other, returnWord, functionWord, ifWord, parens, object, block, rank}
 use Rattle.rule.specs.Trees.{Trees, none, leaf, group, parenKind, objectKind}
 
 -- the class of the reserved word, and of the sign, of a number
@@ -46,6 +46,7 @@ objectAfter expression name newline = false
 objectAfter expression literal newline = false
 objectAfter expression operator newline = true
 objectAfter expression colon newline = expression
+objectAfter expression dot newline = false
 objectAfter expression other newline = false
 objectAfter expression returnWord newline = not newline
 objectAfter expression functionWord newline = false
@@ -75,6 +76,7 @@ patternAfter name before = false
 patternAfter literal before = false
 patternAfter operator before = true
 patternAfter colon before = true
+patternAfter dot before = true
 patternAfter other before = true
 patternAfter returnWord before = true
 patternAfter functionWord before = true
@@ -100,3 +102,7 @@ excepted expression (tree four k ∷ tree three l ∷ tree two m ∷ tree one ne
 
 unfoldable pub opensPattern : Bool → List Before → Bool
 opensPattern expression ts = excepted expression ts (plainly ts)
+
+-- Document 02, U1: "A reserved word whose last tree is the sign `.` becomes a name"
+unfoldable pub namesWord : List Before → Bool
+namesWord ts = endsWith dot ts

@@ -1,4 +1,4 @@
-// The prefix rule by a summary of the trees before on a level. The number of a level is that of its summary, which is below 64,
+// The prefix rule by a summary of the trees before on a level. The code of a level is that of its summary, which is below 64,
 // and 64 times the kind of its group, which is below 32 (0 for the whole text). From 2,048 up there is room for a count, which is
 // 0 so far.
 ghost use mathlib.Core.Path.{_≡_};
@@ -7,8 +7,9 @@ ghost use mathlib.Core.Bool.{Bool};
 ghost use Rattle.rule.specs.Levels.{isExpression};
 ghost use Rattle.rule.specs.Rule.{wordClass, signClass, elementClass, groupClass};
 ghost use Rattle.rule.specs.Machinery.Summary.{summaries};
-ghost use Rattle.rule.specs.Machinery.LevelCodes.{slashByLevel, braceByLevel, levelAfterName, levelAfterParens, levelAfterBlock, levelAfter};
+ghost use Rattle.rule.specs.Machinery.LevelCodes.{slashByLevel, nameByLevel, statedByLevel, braceByLevel, levelAfterName, levelAfterParens, levelAfterBlock, levelAfter};
 use elements::Element;
+use elements::Stated;
 
 // The kinds of groups, as document 01 numbers those of its tree records.
 pub const PARENS: u32 = 7;
@@ -17,7 +18,7 @@ pub const OBJECT: u32 = 8;
 
 pub const BLOCK: u32 = 9;
 
-// Room for summaries in the number of a level.
+// Room for summaries in the code of a level.
 pub const SUMMARIES: u32 = 64;
 
 // The summaries: after an operand; after the name, the parentheses and the word of a function, in a statement's place and in
@@ -52,11 +53,30 @@ const AFTER_IF_PARENS: u32 = 13;
 
 const AFTER_BLOCK: u32 = 14;
 
+const AFTER_DOT: u32 = 15;
+
 // Whether a slash opens a regular expression.
-pub fn slash_opens(level: u32) -> bool
+fn slash_opens(level: u32) -> bool
     ensures { λ r. ⌜ r ≡ slashByLevel level ⌝ }
 {
     OPERAND_FUNCTION_PARENS < level % SUMMARIES
+}
+
+// Whether a reserved word is a name.
+fn names_word(level: u32) -> bool
+    ensures { λ r. ⌜ r ≡ nameByLevel level ⌝ }
+{
+    level % SUMMARIES == AFTER_DOT
+}
+
+// What is stated of the next element of a level.
+pub fn stated_by(level: u32) -> Stated
+    ensures { λ r. ⌜ r ≡ statedByLevel level ⌝ }
+{
+    Stated {
+        pattern: slash_opens(level),
+        name: names_word(level),
+    }
 }
 
 // Whether a level is an expression level.
@@ -141,6 +161,9 @@ fn after_sign(level: u32, which: u32) -> u32
     }
     if which == signs::COLON {
         return base + AFTER_COLON;
+    }
+    if which == signs::DOT {
+        return base + AFTER_DOT;
     }
     base + AFTER_OTHER
 }

@@ -1,7 +1,7 @@
--- The class of an element that is found is told by its kind, its length and its first byte.
+-- The class of an element that is found, as its record shows it, is told by its kind, its length and its first byte.
 use mathlib.Core.Path.{_≡_, refl}
 use mathlib.Core.List.{List}
-use mathlib.Core.Bool.{Bool, true, false, _&&_}
+use mathlib.Core.Bool.{Bool, true, false, cond, _&&_}
 use Prim.Native.Nat.{ℕ, _+_, _-_, _≤_}
 use native.Mathlib.Omega.{arith}
 use borrow.Author.Tests.{leb-true, leb-false}
@@ -14,11 +14,13 @@ use Rattle.signs.specs.Signs.{longestSign, longestOf}
 use Rattle.elements.specs.Elements.{elementAt, delimiter, nameKind, wordKind, numberKind, stringKind, patternKind, signKind}
 use Rattle.elements.specs.declared.Element.{Element}
 use Rattle.elements.specs.declared.Next.{Next}
+use Rattle.elements.specs.declared.Stated.{Stated}
 use Rattle.elements.proofs.FoundKinds.{found-kind}
 use Rattle.elements.proofs.Spellings.{word-passes, sign-passes}
 use Rattle.rule.specs.Trees.{parenKind, objectKind, blockKind}
 use Rattle.grammar.specs.Cuts.{isCloser}
-use Rattle.grammar.specs.Tokens.{wordClass, signClass, classOf}
+use Rattle.grammar.specs.Tokens.{name, wordName, wordClass, signClass, classOf}
+use Rattle.grammar.proofs.ReadNames.{recordClass}
 use Rattle.grammar.specs.TreeElements.{openerOf, closerOf}
 use Rattle.controls.specs.Machinery.Steps.{isOpener}
 use Rattle.segments.specs.Machinery.Segments.{wordBy, signBy, spelledBy, kindBy, classBy}
@@ -26,15 +28,15 @@ use Rattle.segments.proofs.SegmentLaws.{isElement}
 
 -- a length and a first byte tell the class of the word, or of the sign, of that number
 abbrev wordTold : ℕ → ℕ → ℕ → Bool
-wordTold len b which = eqb (wordBy len b) (wordClass which) && isElement (wordBy len b)
+wordTold len b which = eqb (wordBy len b) (recordClass (wordClass which)) && isElement (wordBy len b)
 
 abbrev signTold : ℕ → ℕ → ℕ → Bool
-signTold len b which = eqb (signBy len b) (signClass which) && isElement (signBy len b)
+signTold len b which = eqb (signBy len b) (recordClass (signClass which)) && isElement (signBy len b)
 
 -- an element of a text, by its kind, its length and its first byte
 pub record Told (text : List ℕ) (e : Element) : Type 0 where
-  pub told : classBy (e .kind) (e .end - e .first) (getD text (e .first) 0) ≡ classOf e
-  pub element : T (isElement (classOf e))
+  pub told : classBy (e .kind) (e .end - e .first) (getD text (e .first) 0) ≡ recordClass (classOf e)
+  pub element : T (isElement (recordClass (classOf e)))
   pub no-closer : isCloser e ≡ false
 
 -- a number that is at least `low` is it, or more
@@ -53,46 +55,51 @@ module _ (by class : ℕ) (t : T (eqb by class && isElement by)) where
   by-element : T (isElement class)
   by-element = rw by-spelling at (and-right (eqb by class) (isElement by) t)
 
-module _ (text : List ℕ) (place : ℕ) (opens : Bool) (e : Element) (found : elementAt text place opens ≡ Next.Found e) where
+module _ (text : List ℕ) (place : ℕ) (given : Stated) (e : Element) (found : elementAt text place given ≡ Next.Found e) where
   word-tells : e .kind ≡ wordKind → T (wordTold (e .end - e .first) (getD text (e .first) 0) (e .which))
   unfolding wordBy rowAt
-  word-tells q = word-passes text place opens e found wordTold tt q
+  word-tells q = word-passes text place given e found wordTold tt q
 
   sign-tells : e .kind ≡ signKind → T (signTold (e .end - e .first) (getD text (e .first) 0) (e .which))
   unfolding signBy rowAt delimiter longestSign longestOf same
-  sign-tells q = sign-passes text place opens e found signTold tt q
+  sign-tells q = sign-passes text place given e found signTold tt q
 
   word-told : e .kind ≡ wordKind → Told text e
   unfolding classOf classBy spelledBy
   word-told q =
       let by = wordBy (e .end - e .first) (getD text (e .first) 0) in
-      let class = wordClass (e .which) in
+      let class = recordClass (wordClass (e .which)) in
       record { told = rw q (by-spelling by class (word-tells q)); element = rw q (by-element by class (word-tells q)); no-closer = rw q }
 
   sign-told : e .kind ≡ signKind → Told text e
   unfolding classOf classBy spelledBy
   sign-told q =
       let by = signBy (e .end - e .first) (getD text (e .first) 0) in
-      let class = signClass (e .which) in
+      let class = recordClass (signClass (e .which)) in
       record { told = rw q (by-spelling by class (sign-tells q)); element = rw q (by-element by class (sign-tells q)); no-closer = rw q }
+
+  -- a record shows no difference between names
+  name-recorded : (none : Bool) → recordClass (cond none name wordName) ≡ name
+  name-recorded true = refl
+  name-recorded false = refl
 
   pub found-told : (e .kind ≡ 0 → ⊥) → Told text e
   unfolding classOf classBy kindBy
   found-told some =
       let P : ℕ → Type 0 = λ k. e .kind ≡ k → Told text e in
-      or-more P nameKind (λ q. record { told = rw q; element = rw q tt; no-closer = rw q })
+      or-more P nameKind (λ q. record { told = rw (q, name-recorded (eqb (e .which) 0)); element = rw (q, name-recorded (eqb (e .which) 0)) tt; no-closer = rw q })
       (or-more P wordKind word-told
       (or-more P numberKind (λ q. record { told = rw q; element = rw q tt; no-closer = rw q })
       (or-more P stringKind (λ q. record { told = rw q; element = rw q tt; no-closer = rw q })
       (or-more P patternKind (λ q. record { told = rw q; element = rw q tt; no-closer = rw q })
       (or-more P signKind sign-told
-      (λ h. absurd (omega (arith, found-kind text place opens e found))))))))
+      (λ h. absurd (omega (arith, found-kind text place given e found))))))))
       (omega arith) refl
 
 -- a group's opener and closer, by the kind alone
 pub record GroupTold (kind : ℕ) : Type 0 where
-  pub opener : (len b first : ℕ) (newline : Bool) → classBy kind len b ≡ classOf (openerOf kind first newline)
-  pub closer : (len b end : ℕ) → classBy kind len b + 1 ≡ classOf (closerOf kind end)
+  pub opener : (len b first : ℕ) (newline : Bool) → classBy kind len b ≡ recordClass (classOf (openerOf kind first newline))
+  pub closer : (len b end : ℕ) → classBy kind len b + 1 ≡ recordClass (classOf (closerOf kind end))
   pub opens : (len b : ℕ) → T (isOpener (classBy kind len b))
   pub opener-opens : (first : ℕ) (newline : Bool) → isCloser (openerOf kind first newline) ≡ false
   pub closer-closes : (end : ℕ) → isCloser (closerOf kind end) ≡ true

@@ -13,6 +13,7 @@ use Rattle.tables.specs.Records.{mostTrees}
 use Rattle.storing.specs.Records.{records}
 use Rattle.storing.proofs.CellLaws.{records-length}
 use Rattle.grammar.specs.Tokens.{classOf}
+use Rattle.grammar.proofs.ReadNames.{recordClass}
 use Rattle.segments.specs.Machinery.Segments.{countOf, sizeAt, classBy, classAt, segment, Fine}
 use Rattle.segments.proofs.SegmentLaws.{element-known, opener-known}
 use Rattle.segments.proofs.ClassLaws.{Told, GroupTold}
@@ -35,7 +36,7 @@ module _ (bytes cells : List ℕ) where
   leaf-below high {e = e} t r h =
       let size = r .size-is in
       record {
-        known = rw (record-class bytes r, t .told) (element-known (classOf e) (t .element) .0);
+        known = rw (record-class bytes r, t .told) (element-known (recordClass (classOf e)) (t .element) .0);
         some = omega arith;
         below = omega arith;
         nested = λ j l k. absurd (omega arith);

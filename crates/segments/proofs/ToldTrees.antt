@@ -4,7 +4,7 @@ use mathlib.Core.List.{List}
 use Prim.Native.Nat.{ℕ}
 use Rattle.elements.specs.declared.Element.{Element}
 use Rattle.rule.specs.Trees.{Trees, none, leaf, group}
-use Rattle.rule.specs.Levels.{Levels, wholeText, inside, slashOpens, onTop}
+use Rattle.rule.specs.Levels.{Levels, wholeText, inside, statedBy, onTop}
 use Rattle.prefix.specs.Reading.{Limits, reading}
 use Rattle.prefix.proofs.Induction.{reading-tells, Accepts, ending-accepts}
 use Rattle.prefix.proofs.StepCases.{Taken, leaf-taken, open-taken, close-taken, step-taken}
@@ -38,5 +38,5 @@ reading-told bytes limits =
     (λ levels place p. ending-accepts (ToldLevels bytes) levels p)
     (λ levels place number at p f. tt)
     (λ levels place e number at p f s. tt)
-    (λ levels place e after p f s. told-taken bytes e (found-told bytes place (slashOpens levels) e f) (step-taken limits e levels after s) p)
+    (λ levels place e after p f s. told-taken bytes e (found-told bytes place (statedBy levels) e f) (step-taken limits e levels after s) p)
     tt

@@ -4,7 +4,7 @@ use mathlib.Core.List.{List}
 use lib.ListN.{length}
 use Rattle.streams.specs.declared.Input.{Input}
 
--- the bytes that were read are in the buffer
+-- no more bytes are said to be read than the buffer has
 abbrev pub InBuffer : List ℕ → Input → Type 0
 InBuffer buffer (Input.Bytes n) = n ≤ length buffer
 InBuffer buffer Input.Failed = Unit {0}

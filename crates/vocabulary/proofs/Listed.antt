@@ -7,6 +7,7 @@ use lib.Dec.{eqb, leb}
 use Prim.Native.Nat.{ℕ}
 use lib.ListN.{length}
 use Rattle.vocabulary.specs.RuleClasses.{Class, rank}
+use Rattle.vocabulary.specs.TokenClasses.{divide, plus, assign, colon, semicolon, dot, openParen, closeParen, openBrace, closeBrace, returnWord, functionWord, ifWord}
 use Rattle.vocabulary.specs.Vocabulary.{Row, barred, taken, words, signs}
 
 abbrev takenIn : List Row → List String
@@ -40,6 +41,18 @@ boundIn least [] = []
 boundIn least (barred t ∷ rows) = boundIn least rows
 boundIn least (taken t rule token precedence ∷ rows) = cond (leb least precedence) (t ∷ boundIn least rows) (boundIn least rows)
 
+-- the classes of the same words and signs for the grammar, in the same order
+abbrev tokensIn : List Row → List ℕ
+tokensIn [] = []
+tokensIn (barred t ∷ rows) = tokensIn rows
+tokensIn (taken t rule token precedence ∷ rows) = token ∷ tokensIn rows
+
+pub words-token : tokensIn words ≡ returnWord ∷ functionWord ∷ ifWord ∷ []
+words-token = refl
+
+pub signs-token : tokensIn signs ≡ openBrace ∷ closeBrace ∷ openParen ∷ closeParen ∷ dot ∷ semicolon ∷ plus ∷ colon ∷ assign ∷ divide ∷ []
+signs-token = refl
+
 -- "last is `/`, `+` or `=`; last is `:` ..", and no word is one of these
 pub signs-operator : classedIn Class.operator signs ≡ "+" ∷ "=" ∷ "/" ∷ []
 signs-operator = refl
@@ -49,6 +62,16 @@ signs-colon = refl
 
 pub words-operator : classedIn Class.operator words ≡ []
 words-operator = refl
+
+pub words-colon : classedIn Class.colon words ≡ []
+words-colon = refl
+
+-- document 02, U1: "the sign `.`"
+pub signs-dot : classedIn Class.dot signs ≡ "." ∷ []
+signs-dot = refl
+
+pub words-dot : classedIn Class.dot words ≡ []
+words-dot = refl
 
 -- "last is `return` ..; last is `( )` preceded by `if`", and the `function` of the exception
 pub words-return : classedIn Class.returnWord words ≡ "return" ∷ []

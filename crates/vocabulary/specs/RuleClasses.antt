@@ -10,6 +10,8 @@ pub data Class : Type 0 where
   operator : Class
   -- `:`
   colon : Class
+  -- `.`
+  dot : Class
   -- any other sign or reserved word
   other : Class
   -- the words `return`, `function` and `if`
@@ -27,10 +29,11 @@ rank name = 0
 rank literal = 1
 rank operator = 2
 rank colon = 3
-rank other = 4
-rank returnWord = 5
-rank functionWord = 6
-rank ifWord = 7
-rank parens = 8
-rank object = 9
-rank block = 10
+rank dot = 4
+rank other = 5
+rank returnWord = 6
+rank functionWord = 7
+rank ifWord = 8
+rank parens = 9
+rank object = 10
+rank block = 11

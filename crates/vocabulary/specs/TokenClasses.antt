@@ -1,7 +1,7 @@
 -- Tokens as far as the grammar tells them apart: their classes, by number.
 use Prim.Native.Nat.{ℕ}
 
--- a name, number, string, regular expression, `/`, `+` or `=` has the number of the part that it makes by itself
+-- a name, number, string, regular expression, `/`, `+` or `=` has the number of the part that it marks
 abbrev pub name : ℕ
 name = 1
 
@@ -23,7 +23,7 @@ plus = 11
 abbrev pub assign : ℕ
 assign = 12
 
--- the others make none by themselves, and what they mark has a kind of its own: their numbers, from 128 up, meet no kind of a part. 128 is
+-- what the others mark has a kind of its own: their numbers, from 128 up, meet no kind of a part. 128 is
 -- the end of the text (Machine.antt of `grammar`), and a closer has the number behind its opener's
 abbrev pub colon : ℕ
 colon = 129
@@ -54,3 +54,7 @@ functionWord = 137
 
 abbrev pub ifWord : ℕ
 ifWord = 138
+
+-- a reserved word that is taken as a name
+abbrev pub wordName : ℕ
+wordName = 139

@@ -39,7 +39,7 @@ abbrev pub signs : List Row
 signs =
     taken "{" Class.other openBrace 0 ∷ taken "}" Class.other closeBrace 0 ∷
     taken "(" Class.other openParen 0 ∷ taken ")" Class.other closeParen 0 ∷ barred "[" ∷ barred "]" ∷
-    taken "." Class.other dot 0 ∷ taken ";" Class.other semicolon 0 ∷ barred "," ∷ barred "<" ∷ barred ">" ∷ barred "<=" ∷
+    taken "." Class.dot dot 0 ∷ taken ";" Class.other semicolon 0 ∷ barred "," ∷ barred "<" ∷ barred ">" ∷ barred "<=" ∷
     barred ">=" ∷ barred "==" ∷ barred "!=" ∷ barred "===" ∷ barred "!==" ∷
     taken "+" Class.operator plus 1 ∷ barred "-" ∷ barred "*" ∷ barred "%" ∷ barred "++" ∷ barred "--" ∷
     barred "<<" ∷ barred ">>" ∷ barred ">>>" ∷ barred "&" ∷ barred "|" ∷ barred "^" ∷

@@ -6,6 +6,7 @@ ghost use Rattle.elements.specs.Lexemes.{lexemeOf};
 ghost use Rattle.walk.specs.Walks.{placeAfter, begun, met, moved, turnAt};
 use elements::Element;
 use elements::Next;
+use elements::Stated;
 
 // The text, and the place from which the next element is looked for.
 pub struct Walk<'a> {
@@ -53,12 +54,12 @@ impl<'a> Walk<'a> {
         Walk { text, at: 0 }
     }
 
-    // The next element, where `pattern` says whether a slash met opens a regular expression. The walk then stands behind
-    // it; at the text's end and at a fault it stays where it is.
-    pub fn next(&mut self, pattern: bool) -> Next
-        ensures { λ r. ⌜ (r ≡ met (now (self .entry)) pattern) × (now (self .exit) ≡ moved (now (self .entry)) r) ⌝ }
+    // The next element, under stated answers. The walk then stands behind it; at the text's end and at a fault it stays
+    // where it is.
+    pub fn next(&mut self, stated: Stated) -> Next
+        ensures { λ r. ⌜ (r ≡ met (now (self .entry)) stated) × (now (self .exit) ≡ moved (now (self .entry)) r) ⌝ }
     {
-        let next = elements::element_at(self.text, self.at, pattern);
+        let next = elements::element_at(self.text, self.at, stated);
         self.at = place_after(self.at, next);
         next
     }
@@ -72,10 +73,10 @@ impl<'a> Walk<'a> {
 }
 
 // One turn of a walk over `text` that stands at `at`.
-pub fn turn_at(text: &[u8], at: usize, pattern: bool) -> Turn
-    ensures { λ r. ⌜ r ≡ turnAt (now (text .entry)) at pattern ⌝ }
+pub fn turn_at(text: &[u8], at: usize, stated: Stated) -> Turn
+    ensures { λ r. ⌜ r ≡ turnAt (now (text .entry)) at stated ⌝ }
 {
     let mut walk = Walk { text, at };
-    let next = walk.next(pattern);
+    let next = walk.next(stated);
     Turn { next, at: walk.at }
 }

@@ -8,7 +8,7 @@ use Rattle.grammar.specs.Machinery.Machine.{goto, on, look, keep, fail, propert
 use Rattle.controls.specs.Machinery.Numbers.{settingBy, endingBy, controlBy, effectBy, closingBy, insideBy}
 use Rattle.controls.specs.Machinery.Steps.{to-member, to-label, to-property, to-value, to-parameter, past-condition}
 use Rattle.controls.proofs.EndLaws.{at-closers, besides-closers, only-closers}
-use Rattle.controls.proofs.StepLaws.{at-place, only-to, opens-to}
+use Rattle.controls.proofs.StepLaws.{at-place, names-to, only-to, opens-to}
 use Rattle.controls.proofs.RowLaws.{label-row}
 use Rattle.controls.proofs.NumberLaws.{beyond}
 use Rattle.controls.proofs.form_row.Statement.{statement}
@@ -17,14 +17,14 @@ use Rattle.controls.proofs.form_row.Tie as tie
 stand-requires : tie.Need-stand-requires
 stand-requires c κs = search needs
 
-only-requires : tie.Need-only-requires
-only-requires c κs = search needs
+only-names-requires : tie.Need-only-names-requires
+only-names-requires c κs = search needs
 
 stand-requires-2 : tie.Need-stand-requires-2
 stand-requires-2 c κs = search needs
 
-only-requires-2 : tie.Need-only-requires-2
-only-requires-2 c κs = search needs
+only-requires : tie.Need-only-requires
+only-requires c κs = search needs
 
 stand-requires-3 : tie.Need-stand-requires-3
 stand-requires-3 c κs = search needs
@@ -35,20 +35,20 @@ opens-requires c κs = search needs
 stand-requires-4 : tie.Need-stand-requires-4
 stand-requires-4 c κs = search needs
 
-only-requires-3 : tie.Need-only-requires-3
-only-requires-3 c κs = search needs
+only-requires-2 : tie.Need-only-requires-2
+only-requires-2 c κs = search needs
 
 stand-requires-5 : tie.Need-stand-requires-5
 stand-requires-5 c κs = search needs
 
-only-requires-4 : tie.Need-only-requires-4
-only-requires-4 c κs = search needs
+only-requires-3 : tie.Need-only-requires-3
+only-requires-3 c κs = search needs
 
 stand-requires-6 : tie.Need-stand-requires-6
 stand-requires-6 c κs = search needs
 
-only-requires-5 : tie.Need-only-requires-5
-only-requires-5 c κs = search needs
+only-requires-4 : tie.Need-only-requires-4
+only-requires-4 c κs = search needs
 
 function-row-requires : tie.Need-function-row-requires
 function-row-requires c κs = search needs
@@ -57,14 +57,14 @@ returns : tie.Need-returns
 unfolding controlBy effectBy
 returns c = λ h settled newline.
     rw (at-place (c .before .before .before .args .at) 7 (c .before .before .match .keys1))
-    (only-to (c .before .stand .result) name 2 (c .before .stand .ensures) (c .only .ensures) tt to-member)
+    (names-to (c .before .stand .result) 2 (c .before .stand .ensures) (c .only-names .ensures) to-member)
 
 returns-2 : tie.Need-returns-2
 unfolding controlBy effectBy
 returns-2 c = λ h settled newline.
     let a = c .before .before .before .args in
     rw (at-place (a .at) 5 (c .before .before .match .keys2), label-row (a .class) (settingBy (a .at .setting)) newline (settled .no-name (c .before .before .match .keys2)))
-    (only-to (c .before .stand2 .result) colon 4 (c .before .stand2 .ensures) (c .only2 .ensures) tt to-label)
+    (only-to (c .before .stand2 .result) colon 4 (c .before .stand2 .ensures) (c .only .ensures) tt to-label)
 
 returns-3 : tie.Need-returns-3
 unfolding controlBy settingBy closingBy insideBy
@@ -76,7 +76,7 @@ returns-4 : tie.Need-returns-4
 unfolding controlBy effectBy
 returns-4 c = λ h settled newline.
     rw (at-place (c .before .before .before .args .at) 8 (c .before .before .match .keys4))
-    (besides-closers (only-to (c .before .stand4 .result) name 0 (c .before .stand4 .ensures) (c .only3 .ensures) tt to-property)
+    (besides-closers (only-to (c .before .stand4 .result) name 0 (c .before .stand4 .ensures) (c .only2 .ensures) tt to-property)
     (at-closers (λ (k : ℕ). look k (on name (goto propertyNamed keep) ∷ []) ≡ fail) refl refl refl (c .before .before .before .args .class))
     (λ none. rw (none .no-brace)))
 
@@ -84,13 +84,13 @@ returns-5 : tie.Need-returns-5
 unfolding controlBy endingBy effectBy
 returns-5 c = λ h settled newline.
     rw (at-place (c .before .before .before .args .at) 9 (c .before .before .match .keys5))
-    (only-to (c .before .stand5 .result) colon 0 (c .before .stand5 .ensures) (c .only4 .ensures) tt to-value)
+    (only-to (c .before .stand5 .result) colon 0 (c .before .stand5 .ensures) (c .only3 .ensures) tt to-value)
 
 returns-6 : tie.Need-returns-6
 unfolding controlBy effectBy
 returns-6 c = λ h settled newline.
     rw (at-place (c .before .before .before .args .at) 10 (c .before .before .match .keys6))
-    (only-to (c .before .stand6 .result) name 0 (c .before .stand6 .ensures) (c .only5 .ensures) tt to-parameter)
+    (only-to (c .before .stand6 .result) name 0 (c .before .stand6 .ensures) (c .only4 .ensures) tt to-parameter)
 
 returns-7 : tie.Need-returns-7
 unfolding controlBy
@@ -110,17 +110,17 @@ form-row-spec =
     tie.close
     (tie.spec
     stand-requires
-    only-requires
+    only-names-requires
     stand-requires-2
-    only-requires-2
+    only-requires
     stand-requires-3
     opens-requires
     stand-requires-4
-    only-requires-3
+    only-requires-2
     stand-requires-5
-    only-requires-4
+    only-requires-3
     stand-requires-6
-    only-requires-5
+    only-requires-4
     function-row-requires
     returns
     returns-2

@@ -2,6 +2,7 @@
 use borrow.Author.Needs.{needs}
 use native.Mathlib.Omega.{arith}
 use mathlib.Core.Path.{sym, _∙_}
+use borrow.Author.Tests.{eq-eqb, ne-eqb}
 use Rattle.text.specs.Bytes.{nameByte}
 use Rattle.text.proofs.Laws.{run-within}
 use Rattle.elements.proofs.ElementLaws.{named-name, named-word, named-barred}
@@ -27,24 +28,31 @@ word-number-requires : tie.Need-word-number-requires
 word-number-requires c κs = search needs
 
 returns : tie.Need-returns
-returns c = sym (named-name _ _ _ _ _ (c .before .before .before .name-end .ensures) (c .before .word-number .ensures) (c .if1 .taken))
+returns c =
+    let n = c .before in
+    sym (named-name _ _ _ _ _ _ (n .before .before .name-end .ensures) (n .word-number .ensures) (rw (eq-eqb _ 0 (c .if1 .taken))))
+
+returns-2 : tie.Need-returns-2
+returns-2 c =
+    let n = c .before .before in
+    sym (named-name _ _ _ _ _ _ (n .before .before .name-end .ensures) (n .word-number .ensures) (rw (ne-eqb _ 0 (c .before .if1 .left), c .if2 .taken)))
 
 is-taken-requires : tie.Need-is-taken-requires
 is-taken-requires c κs = search needs
 
-returns-2 : tie.Need-returns-2
-returns-2 c =
-    let n = c .before .before .before in
-    sym
-    (named-word _ _ _ _ _ (n .before .before .name-end .ensures) (n .word-number .ensures)
-    (c .before .before .if1 .left) (sym (c .before .is-taken .ensures) ∙ c .if2 .taken))
-
 returns-3 : tie.Need-returns-3
 returns-3 c =
-    let n = c .before .before .before in
+    let n = c .before .before .before .before in
     sym
-    (named-barred _ _ _ _ _ (n .before .before .name-end .ensures) (n .word-number .ensures)
-    (c .before .before .if1 .left) (sym (c .before .is-taken .ensures) ∙ c .if2 .left))
+    (named-word _ _ _ _ _ _ (n .before .before .name-end .ensures) (n .word-number .ensures)
+    (rw (ne-eqb _ 0 (c .before .before .before .if1 .left), c .before .before .if2 .left)) (sym (c .before .is-taken .ensures) ∙ c .if3 .taken))
+
+returns-4 : tie.Need-returns-4
+returns-4 c =
+    let n = c .before .before .before .before in
+    sym
+    (named-barred _ _ _ _ _ _ (n .before .before .name-end .ensures) (n .word-number .ensures)
+    (rw (ne-eqb _ 0 (c .before .before .before .if1 .left), c .before .before .if2 .left)) (sym (c .before .is-taken .ensures) ∙ c .if3 .left))
 
 pub name-element-spec : {M : Type 1} → statement M
 name-element-spec =
@@ -56,6 +64,7 @@ name-element-spec =
     part-word-number-end
     word-number-requires
     returns
-    is-taken-requires
     returns-2
-    returns-3)
+    is-taken-requires
+    returns-3
+    returns-4)

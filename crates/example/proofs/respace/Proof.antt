@@ -1,21 +1,10 @@
 -- What was written is in the output: the output afterwards starts with all of it.
 use borrow.Author.Needs.{needs}
-use mathlib.Core.Path.{_≡_, sym, ap, _∙_}
-use mathlib.Core.List.{List}
-use Prim.Native.Nat.{ℕ, _≤_}
-use native.Mathlib.Omega.{arith}
-use lib.ListN.{length, drop, length-append}
+use mathlib.Core.Path.{sym}
 use lib.Seq.{length-take-le}
-use Rattle.answers.specs.declared.Answer.{Answer}
-use Rattle.respacer.specs.Respace.{Respacing, written, denied, respacingFor, answerOf, outputAfter}
+use Rattle.respacer.proofs.Theorems.{written-within}
 use Rattle.example.proofs.respace.Statement.{statement}
 use Rattle.example.proofs.respace.Tie as tie
-
-fits : (r : Respacing) (n : ℕ) (before after : List ℕ) → Answer.Accepted n ≡ answerOf r → after ≡ outputAfter r before → n ≤ length after
-fits (written bytes) n before after e t =
-    let m : n ≡ length bytes = cc in
-    omega (arith, ap length t, length-append bytes (drop (length bytes) before))
-fits (denied number place) n before after e t = absurd (let z : _≡_ {A = ℕ} 0 1 = cc in omega arith)
 
 respace-requires : tie.Need-respace-requires
 respace-requires c κs = search needs
@@ -27,7 +16,7 @@ slice-reshare-prefix-bytes : tie.Need-slice-reshare-prefix-bytes
 slice-reshare-prefix-bytes c =
     let a = c .before .before .before .before .before .before .before .before .before .args in
     let r = c .before .before .before .before .before .respace in
-    fits (respacingFor (a .text .now) (length (a .output .now))) _ (a .output .now) _ (sym (c .before .answer .given .1) ∙ r .ensures .0) (r .ensures .1)
+    written-within (a .text .now) (a .output .now) (r .last .1 .0) (r .result) (r .ensures) _ (c .before .answer .given .1)
 
 slice-aggregate-bytes : tie.Need-slice-aggregate-bytes
 slice-aggregate-bytes c =

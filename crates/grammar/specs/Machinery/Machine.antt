@@ -4,7 +4,7 @@ use Prim.Native.Nat.{ℕ}
 use mathlib.Core.Bool.{Bool, true, false, cond}
 use mathlib.Core.List.{List, [], _∷_}
 use lib.Dec.{eqb, leb}
-use Rattle.grammar.specs.Tokens.{Token, token, Spot, name, number, string, pattern, assign, colon, semicolon, dot, openParen, closeParen, openBrace, closeBrace, returnWord, functionWord, ifWord}
+use Rattle.grammar.specs.Tokens.{Token, token, Spot, name, number, string, pattern, assign, colon, semicolon, dot, openParen, closeParen, openBrace, closeBrace, returnWord, functionWord, ifWord, wordName}
 use Rattle.grammar.specs.Syntax.{Syntax, nil, node, snoc, objectSyntax, parenthesisedSyntax, functionSyntax, memberSyntax, callSyntax, expressionSyntax, bareReturnSyntax, fullReturnSyntax, blockSyntax, labelSyntax, ifSyntax, declarationSyntax}
 use Rattle.grammar.specs.Grammar.{Scope, body, block, Operator, operator, operators, precedence}
 
@@ -173,6 +173,10 @@ look class [] = fail
 look class (on x action ∷ rest) = cond (eqb class x) action (look class rest)
 look class (otherwise action ∷ rest) = action
 
+-- a name, or a reserved word that is taken as one
+abbrev pub names : Action → List Entry → List Entry
+names action rest = on name action ∷ on wordName action ∷ rest
+
 abbrev pub leaves : Ending → Bool → List Entry → List Entry
 leaves ending target rest =
     on number (goto (operandDone ending target) (takeLeaf number))
@@ -245,7 +249,7 @@ row (returnFirst setting) newline = on semicolon (goto (behindStatement setting)
 row ifFirst newline = on openParen (push (operandDue byParen true) (statementDue true (inNest ifNest)) toCondition) ∷ []
 row (operandDue ending target) newline = operand ending target
 row (operandDone ending target) newline = afterOperand ending target
-row (dotLast ending target) newline = on name (goto (operandDone ending target) takeMember) ∷ []
+row (dotLast ending target) newline = names (goto (operandDone ending target) takeMember) []
 row (functionFirst role) newline = on name (goto (functionNamed role) keep) ∷ []
 row (functionNamed role) newline = on openParen (push parameterDue (parameterPast role) toParameter) ∷ []
 row (parameterPast role) newline = afterParameter role ∷ []

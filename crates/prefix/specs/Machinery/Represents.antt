@@ -1,19 +1,19 @@
 -- How the code's state and its stack hold the levels of a reading, and what a step must make of them. Machinery.
 use Prim.Native.Nat.{ℕ, _+_, _*_, _/_, _≤_, _<_}
 use mathlib.Core.Path.{_≡_}
-use mathlib.Core.Bool.{Bool}
 use mathlib.Core.List.{List}
 use lib.ListN.{length, getD}
 use Rattle.elements.specs.declared.Element.{Element}
+use Rattle.elements.specs.declared.Stated.{Stated}
 use Rattle.rule.specs.Trees.{Trees, none, leaf, group}
-use Rattle.rule.specs.Levels.{Levels, wholeText, inside, depth, countSoFar, onTop, slashOpens}
+use Rattle.rule.specs.Levels.{Levels, wholeText, inside, depth, countSoFar, onTop, statedBy}
 use Rattle.prefix.specs.Reading.{Step, stop, more, step}
 use Rattle.rule.specs.Machinery.Summary.{levelCode}
-use Rattle.rule.specs.Machinery.LevelCodes.{slashByLevel}
+use Rattle.rule.specs.Machinery.LevelCodes.{statedByLevel}
 use Rattle.prefix.specs.declared.State.{State}
 use Rattle.prefix.specs.declared.Advanced.{Advanced}
 
--- the stack has, for each open group, the word of the level around it, and the caller's tag for the group: a number that
+-- the stack has, for each open group, the code of the level around it, and the caller's tag for the group: a number that
 -- depends on the levels around it and its first byte
 abbrev pub Stack : (Levels → ℕ → ℕ) → List ℕ → Levels → Type 0
 Stack tag stack (wholeText trees) = Unit {0}
@@ -43,11 +43,11 @@ pub data Follows (room : ℕ) (tag : Levels → ℕ → ℕ) (stack : List ℕ) 
       → Follows room tag stack e levels (Advanced.Closed m state) (more after)
   stopped : {number place : ℕ} → Follows room tag stack e levels (Advanced.Stopped number place) (stop number place)
 
--- What `slash_opens` promises of every state: the answer by the number of its level, which is the prefix rule's of all levels that it holds.
-abbrev pub SettlesSlash : State → Bool → Type 0
-SettlesSlash state answer =
-    (answer ≡ slashByLevel (state .level))
-    × ((tag : Levels → ℕ → ℕ) (stack : List ℕ) (levels : Levels) → Represents tag stack state levels → answer ≡ slashOpens levels)
+-- What `stated_by` promises of every state: the answers by the code of its level, which are the prefix rule's of all levels that it holds.
+abbrev pub States : State → Stated → Type 0
+States state stated =
+    (stated ≡ statedByLevel (state .level))
+    × ((tag : Levels → ℕ → ℕ) (stack : List ℕ) (levels : Levels) → Represents tag stack state levels → stated ≡ statedBy levels)
 
 -- What `advance` promises of a state that holds levels: the definition's step is taken from them, with as many groups as the stack has room
 -- for. It is left free what becomes of a state that holds none, of the stack's cells above the open groups, and of the stack where it stops.

@@ -30,8 +30,8 @@ loop-holds c =
       on = λ n. start-at _ _ _ _ _ _ (c .before .before .before .pre .0) (c .before .before .before .pre .1 n);
     }
 
-slash-opens-requires : tie.Need-slash-opens-requires Inv-loop μ-loop
-slash-opens-requires c κs = search needs
+stated-by-requires : tie.Need-stated-by-requires Inv-loop μ-loop
+stated-by-requires c κs = search needs
 
 element-at-requires : tie.Need-element-at-requires Inv-loop μ-loop
 element-at-requires c κs = search needs
@@ -48,7 +48,7 @@ same-length-2 c = c .before .before .before .before .loop .inv .stack-length
 returns : tie.Need-returns Inv-loop μ-loop
 returns c =
     let loop = c .before .before .before .before .loop .inv in
-    let rule = c .before .before .before .slash-opens .ensures .1 in
+    let rule = c .before .before .before .stated-by .ensures .1 in
     let end = sym (c .before .before .element-at .ensures .0) ∙ c .enum-told .given .1 in (
       λ o levels represented. turn-end _ _ _ _ _ _ _ _ (loop .first o) _ rule levels represented end,
       λ n. let at = loop .on n in at-end _ _ _ _ _ _ _ at _ (rule recordIndex _ (at .levels) (at .holds .represented)) end,
@@ -66,7 +66,7 @@ same-length-4 c = c .before .before .before .before .before .loop .inv .stack-le
 returns-2 : tie.Need-returns-2 Inv-loop μ-loop
 returns-2 c =
     let loop = c .before .before .before .before .before .loop .inv in
-    let rule = c .before .before .before .before .slash-opens .ensures .1 in
+    let rule = c .before .before .before .before .stated-by .ensures .1 in
     let fault = sym (c .before .before .before .element-at .ensures .0) ∙ c .before .next .given .1 in (
       λ o levels represented. turn-fault _ _ _ _ _ _ _ _ (loop .first o) _ rule levels represented _ _ fault,
       λ n. let at = loop .on n in at-fault _ _ _ _ _ _ _ at _ (rule recordIndex _ (at .levels) (at .holds .represented)) _ _ fault,
@@ -98,7 +98,7 @@ returns-3 : tie.Need-returns-3 Inv-loop μ-loop
 returns-3 c =
     let marked = ⊎-elim (λ w. w .2) (λ w. absurd (true≢false (sym (c .if2 .taken) ∙ w .0 .left))) (c .before .before .before .before .before .if1 .came) in (
       λ o levels represented.
-          turn-element _ _ _ _ _ _ _ _ (c .before .before .before .before .before .before .before .before .before .before .before .loop .inv .first o) _ (c .before .before .before .before .before .before .before .before .before .before .slash-opens .ensures .1) levels represented _ _ _
+          turn-element _ _ _ _ _ _ _ _ (c .before .before .before .before .before .before .before .before .before .before .before .loop .inv .first o) _ (c .before .before .before .before .before .before .before .before .before .before .stated-by .ensures .1) levels represented _ _ _
           (sym (c .before .before .before .before .before .before .before .before .before .element-at .ensures .0) ∙ c .before .before .before .before .before .before .before .next2 .given .1)
           (λ now. c .before .before .before .advance .ensures openerPlace levels now marked),
       λ n. absurd (true≢false (sym (c .if2 .taken) ∙ n)),
@@ -135,7 +135,7 @@ loop-again c =
       first = λ o. absurd (true≢false (sym o ∙ n));
       on =
           λ n.
-          at-more _ _ _ _ _ _ _ at _ (c .before .before .before .before .before .before .before .before .before .before .before .before .before .before .before .before .before .slash-opens .ensures .1 recordIndex _ (at .levels) (at .holds .represented)) _ (sym (c .before .before .before .before .before .before .before .before .before .before .before .before .before .before .before .before .element-at .ensures .0) ∙ c .before .before .before .before .before .before .before .before .before .before .before .before .before .before .next2 .given .1) _ _ _
+          at-more _ _ _ _ _ _ _ at _ (c .before .before .before .before .before .before .before .before .before .before .before .before .before .before .before .before .before .stated-by .ensures .1 recordIndex _ (at .levels) (at .holds .represented)) _ (sym (c .before .before .before .before .before .before .before .before .before .before .before .before .before .before .before .before .element-at .ensures .0) ∙ c .before .before .before .before .before .before .before .before .before .before .before .before .before .before .next2 .given .1) _ _ _
           (rw (c .before .stored .given .1) at (c .before .before .before .before .before .store .ensures _ _ _ _ (at .levels) _ (at .holds) (c .before .before .before .before .before .before .before .before .before .stack .given) (rw (at .holds .stack-is) at follows)));
     }
 
@@ -156,7 +156,7 @@ returns-4 c =
     let follows = c .before .before .before .before .before .before .before .before .before .before .advance .ensures recordIndex (at .levels) (at .holds .represented) (marked ∙ at .holds .represented .records-is) in (
       λ o. absurd (true≢false (sym o ∙ c .before .before .before .before .before .before .before .if2 .left)),
       λ n.
-          at-stop _ _ _ _ _ _ _ at _ (c .before .before .before .before .before .before .before .before .before .before .before .before .before .before .before .before .before .slash-opens .ensures .1 recordIndex _ (at .levels) (at .holds .represented)) _ (sym (c .before .before .before .before .before .before .before .before .before .before .before .before .before .before .before .before .element-at .ensures .0) ∙ c .before .before .before .before .before .before .before .before .before .before .before .before .before .before .next2 .given .1) _ _ _ _
+          at-stop _ _ _ _ _ _ _ at _ (c .before .before .before .before .before .before .before .before .before .before .before .before .before .before .before .before .before .stated-by .ensures .1 recordIndex _ (at .levels) (at .holds .represented)) _ (sym (c .before .before .before .before .before .before .before .before .before .before .before .before .before .before .before .before .element-at .ensures .0) ∙ c .before .before .before .before .before .before .before .before .before .before .before .before .before .before .next2 .given .1) _ _ _ _
           (rw (c .before .stored2 .given .1) at (c .before .before .before .before .before .store .ensures _ _ _ _ (at .levels) _ (at .holds) (c .before .before .before .before .before .before .before .before .before .stack .given) (rw (at .holds .stack-is) at follows))),
     )
 
@@ -167,7 +167,7 @@ read-on-spec =
     Inv-loop
     μ-loop
     loop-holds
-    slash-opens-requires
+    stated-by-requires
     element-at-requires
     enum-told
     same-length

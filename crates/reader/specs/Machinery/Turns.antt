@@ -7,7 +7,7 @@ use Rattle.elements.specs.Elements.{elementAt}
 use Rattle.elements.specs.declared.Element.{Element}
 use Rattle.elements.specs.declared.Next.{Next}
 use Rattle.rule.specs.Trees.{none}
-use Rattle.rule.specs.Levels.{Levels, wholeText, slashOpens}
+use Rattle.rule.specs.Levels.{Levels, wholeText, statedBy}
 use Rattle.prefix.specs.Reading.{Reading, accepted, refused, step, ending}
 use Rattle.prefix.specs.Machinery.Represents.{Represents, Follows}
 use Rattle.prefix.specs.declared.Advanced.{Advanced}
@@ -36,10 +36,10 @@ pub data Runs (bytes before now stack : List ℕ) (room : ℕ) : ReadOn → Type
 
 -- what one turn comes to, where the levels are held and nothing is stored: what stands there, and the element's step
 pub data Takes (bytes stack after : List ℕ) (room : ℕ) (state : State) (place : ℕ) (levels : Levels) : ReadOn → Type 0 where
-  at-end : after ≡ stack → elementAt bytes place (slashOpens levels) ≡ Next.End → Takes bytes stack after room state place levels (ReadOn.End state)
-  at-fault : {number fault : ℕ} → elementAt bytes place (slashOpens levels) ≡ Next.Fault number fault
+  at-end : after ≡ stack → elementAt bytes place (statedBy levels) ≡ Next.End → Takes bytes stack after room state place levels (ReadOn.End state)
+  at-fault : {number fault : ℕ} → elementAt bytes place (statedBy levels) ≡ Next.Fault number fault
       → Takes bytes stack after room state place levels (ReadOn.Stop number fault)
-  at-element : {e : Element} {advanced : Advanced} → elementAt bytes place (slashOpens levels) ≡ Next.Found e
+  at-element : {e : Element} {advanced : Advanced} → elementAt bytes place (statedBy levels) ≡ Next.Found e
       → Follows room openerPlace after e levels advanced (step (record { groups = length stack / 2; room = room }) levels e)
       → Takes bytes stack after room state place levels (ReadOn.Taken e advanced)
 

@@ -13,11 +13,11 @@ use Rattle.rule.specs.Machinery.LevelCodes.{levelAfter}
 use Rattle.rule.proofs.after_sign.Statement.{statement}
 use Rattle.rule.proofs.after_sign.Tie as tie
 
-other-signs : (which : ℕ) → (which ≡ 47 → ⊥) → (which ≡ 18 → ⊥) → (which ≡ 36 → ⊥) → (which ≡ 35 → ⊥) → signClass which ≡ Class.other
-other-signs which a b c d =
+other-signs : (which : ℕ) → (which ≡ 47 → ⊥) → (which ≡ 18 → ⊥) → (which ≡ 36 → ⊥) → (which ≡ 35 → ⊥) → (which ≡ 7 → ⊥) → signClass which ≡ Class.other
+other-signs which a b c d e =
     is-class Class.other (signClass which)
-    (at-other (λ row. isClass Class.other (ruleClass row)) (isIn (47 ∷ 18 ∷ 36 ∷ 35 ∷ [])) signs tt tt which
-    (rw (ne-eqb which 47 a, ne-eqb which 18 b, ne-eqb which 36 c, ne-eqb which 35 d)))
+    (at-other (λ row. isClass Class.other (ruleClass row)) (isIn (47 ∷ 18 ∷ 36 ∷ 35 ∷ 7 ∷ [])) signs tt tt which
+    (rw (ne-eqb which 47 a, ne-eqb which 18 b, ne-eqb which 36 c, ne-eqb which 35 d, ne-eqb which 7 e)))
 
 mul-base : tie.Need-mul-base
 mul-base c = search needs
@@ -54,9 +54,16 @@ add-result-5 : tie.Need-add-result-5
 add-result-5 c = search needs
 
 returns-5 : tie.Need-returns-5
+unfolding levelAfter rowAt
+returns-5 c = λ newline. rw (c .if5 .taken)
+
+add-result-6 : tie.Need-add-result-6
+add-result-6 c = search needs
+
+returns-6 : tie.Need-returns-6
 unfolding levelAfter
-returns-5 c =
-    λ newline. rw (other-signs _ (c .before .before .before .if1 .left) (c .before .before .if2 .left) (c .before .if3 .left) (c .if4 .left))
+returns-6 c =
+    λ newline. rw (other-signs _ (c .before .before .before .before .if1 .left) (c .before .before .before .if2 .left) (c .before .before .if3 .left) (c .before .if4 .left) (c .if5 .left))
 
 pub after-sign-spec : {M : Type 1} → statement M
 after-sign-spec =
@@ -72,4 +79,6 @@ after-sign-spec =
     add-result-4
     returns-4
     add-result-5
-    returns-5)
+    returns-5
+    add-result-6
+    returns-6)

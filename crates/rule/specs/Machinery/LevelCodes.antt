@@ -1,18 +1,26 @@
--- The numbers that the code computes with the number of a level, one definition for each of its functions. Machinery.
+-- The numbers that the code computes with the code of a level, one definition for each of its functions. Machinery.
 use Prim.Native.Nat.{ℕ, _+_, _*_, _/_, _%_}
 use mathlib.Core.Bool.{Bool, true, false, not, cond, _||_}
 use lib.Dec.{eqb, ltb}
-use Rattle.rule.specs.Rule.{Class, name, literal, operator, colon, other, returnWord, functionWord, ifWord, parens, object, block}
+use Rattle.elements.specs.Elements.{stating}
+use Rattle.elements.specs.declared.Stated.{Stated}
+use Rattle.rule.specs.Rule.{Class, name, literal, operator, colon, dot, other, returnWord, functionWord, ifWord, parens, object, block}
 use Rattle.rule.specs.Levels.{isExpression}
-use Rattle.rule.specs.Machinery.Summary.{nothing, operand, afterOperator, afterColon, afterOther, afterReturn, afterIf, afterIfParens, afterBlock, afterFunction, afterFunctionName, afterFunctionParens, code, summaries}
+use Rattle.rule.specs.Machinery.Summary.{nothing, operand, afterOperator, afterColon, afterDot, afterOther, afterReturn, afterIf, afterIfParens, afterBlock, afterFunction, afterFunctionName, afterFunctionParens, code, summaries}
 
 -- the level with another summary
 abbrev pub with : ℕ → ℕ → ℕ
 with level code = summaries * (level / summaries) + code
 
--- whether a slash opens a regular expression, and a brace an object
+-- whether a slash opens a regular expression, a reserved word is a name, and a brace opens an object
 unfoldable pub slashByLevel : ℕ → Bool
 slashByLevel level = ltb (code (afterFunctionParens true)) (level % summaries)
+
+unfoldable pub nameByLevel : ℕ → Bool
+nameByLevel level = eqb (level % summaries) (code afterDot)
+
+abbrev pub statedByLevel : ℕ → Stated
+statedByLevel level = stating (slashByLevel level) (nameByLevel level)
 
 abbrev pub braceByCode : Bool → ℕ → Bool → Bool
 braceByCode expression n newline =
@@ -56,6 +64,7 @@ levelAfter level name newline = levelAfterName level
 levelAfter level literal newline = with level (code operand)
 levelAfter level operator newline = with level (code afterOperator)
 levelAfter level colon newline = with level (code afterColon)
+levelAfter level dot newline = with level (code afterDot)
 levelAfter level other newline = with level (code afterOther)
 levelAfter level returnWord newline = with level (code afterReturn)
 levelAfter level functionWord newline = with level (code (afterFunction (braceByLevel level newline)))

@@ -2,13 +2,14 @@
 use Prim.Native.Nat.{ℕ, _+_, _*_}
 use mathlib.Core.Bool.{Bool, true, false, not, cond}
 use mathlib.Core.List.{List, [], _∷_}
-use Rattle.rule.specs.Rule.{Class, name, literal, operator, colon, other, returnWord, functionWord, ifWord, parens, object, block, Before, tree, backwards}
+use lib.Dec.{eqb}
+use Rattle.rule.specs.Rule.{Class, name, literal, operator, colon, dot, other, returnWord, functionWord, ifWord, parens, object, block, Before, tree, backwards}
 use Rattle.rule.specs.Levels.{Levels, isExpression, kindOf, treesOf}
 
 -- what stands last. `if ( )` is told from other `( )`, and the trees of a function from other trees, with whether a brace in
 -- place of `function` would open an object
 pub data Summary : Type 0 where
-  nothing operand afterOperator afterColon afterOther afterReturn afterIf afterIfParens afterBlock : Summary
+  nothing operand afterOperator afterColon afterDot afterOther afterReturn afterIf afterIfParens afterBlock : Summary
   afterFunction afterFunctionName afterFunctionParens : Bool → Summary
 
 -- its answers: what a brace opens, and what a slash does
@@ -17,6 +18,7 @@ braceBy expression nothing newline = expression
 braceBy expression operand newline = false
 braceBy expression afterOperator newline = true
 braceBy expression afterColon newline = expression
+braceBy expression afterDot newline = false
 braceBy expression afterOther newline = false
 braceBy expression afterReturn newline = not newline
 braceBy expression afterIf newline = false
@@ -31,6 +33,7 @@ slashBy nothing = true
 slashBy operand = false
 slashBy afterOperator = true
 slashBy afterColon = true
+slashBy afterDot = true
 slashBy afterOther = true
 slashBy afterReturn = true
 slashBy afterIf = true
@@ -46,6 +49,7 @@ addName nothing = operand
 addName operand = operand
 addName afterOperator = operand
 addName afterColon = operand
+addName afterDot = operand
 addName afterOther = operand
 addName afterReturn = operand
 addName afterIf = operand
@@ -60,6 +64,7 @@ addParens nothing = operand
 addParens operand = operand
 addParens afterOperator = operand
 addParens afterColon = operand
+addParens afterDot = operand
 addParens afterOther = operand
 addParens afterReturn = operand
 addParens afterIf = afterIfParens
@@ -79,6 +84,7 @@ addBlock nothing = afterBlock
 addBlock operand = afterBlock
 addBlock afterOperator = afterBlock
 addBlock afterColon = afterBlock
+addBlock afterDot = afterBlock
 addBlock afterOther = afterBlock
 addBlock afterReturn = afterBlock
 addBlock afterIf = afterBlock
@@ -94,6 +100,7 @@ add expression s name newline = addName s
 add expression s literal newline = operand
 add expression s operator newline = afterOperator
 add expression s colon newline = afterColon
+add expression s dot newline = afterDot
 add expression s other newline = afterOther
 add expression s returnWord newline = afterReturn
 add expression s functionWord newline = afterFunction (braceBy expression s newline)
@@ -106,7 +113,7 @@ unfoldable pub summary : Bool → List Before → Summary
 summary expression [] = nothing
 summary expression (tree class newline ∷ before) = add expression (summary expression before) class newline
 
--- the number that the code keeps for a summary
+-- the number of a summary in it
 abbrev pub code : Summary → ℕ
 code operand = 0
 code (afterFunctionName inObject) = cond inObject 2 1
@@ -120,16 +127,21 @@ code afterReturn = 11
 code afterIf = 12
 code afterIfParens = 13
 code afterBlock = 14
+code afterDot = 15
 
--- room for summaries in the number of a level
+-- whether a reserved word is a name
+abbrev pub nameBy : Summary → Bool
+nameBy s = eqb (code s) (code afterDot)
+
+-- room for summaries in the code of a level
 abbrev pub summaries : ℕ
 summaries = 64
 
--- The number that the code keeps for a level: its summary below 64; the kind of its group, below 32, times 64; and from 2,048 up
+-- The code that is kept for a level: its summary below 64; the kind of its group, below 32, times 64; and from 2,048 up
 -- room for a count, which is 0 so far.
 abbrev pub levelFor : ℕ → Summary → ℕ
 levelFor kind s = summaries * kind + code s
 
--- the number of the innermost level
+-- the code of the innermost level
 unfoldable pub levelCode : Levels → ℕ
 levelCode levels = levelFor (kindOf levels) (summary (isExpression (kindOf levels)) (backwards (treesOf levels)))

@@ -1,5 +1,5 @@
 -- A part of the tree table: whole tree records, as they stand in the text or inside a group, and their tokens. Machinery: the
--- tokens of a reading's records are those of its elements.
+-- tokens of a reading's records are those of its elements, as records show them.
 use Prim.Native.Nat.{ℕ, zero, suc, _+_, _-_, _*_, _/_, _≤_, _<_}
 use Prim.Native.String.{String}
 use mathlib.Core.Bool.{Bool, false, cond, _&&_, _||_}
