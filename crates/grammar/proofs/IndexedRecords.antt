@@ -31,9 +31,10 @@ data RecordsOf : List Element → List ℕ → Type 0 where
       → ((e .kind ≡ delimiterKind → ⊥) → (kind ≡ e .kind) × (end ≡ e .end)) → (e .kind ≡ delimiterKind → e .which ≡ parenOpener → kind ≡ parenKind) → RecordsOf es cells
       → RecordsOf (e ∷ es) (treeRecord kind (e .first) end number (e .newline) ++ cells)
 
-opener-no-closer : (kind first : ℕ) (newline : Bool) → isCloser (openerOf kind first newline) ≡ false
+-- the opener of a group is no closer, and its closer is one
+group-opener : (kind first : ℕ) (newline : Bool) → isCloser (openerOf kind first newline) ≡ false
 unfolding longestSign longestOf same
-opener-no-closer kind first newline = go (eqb kind parenKind)
+group-opener kind first newline = go (eqb kind parenKind)
   where
     go : (b : Bool) → (eqb (cond b parenOpener braceOpener) parenCloser || eqb (cond b parenOpener braceOpener) braceCloser) ≡ false
     go true = refl
@@ -47,9 +48,9 @@ paren-group kind first newline w = go (eqb kind parenKind) refl w
     go true q w = eqb-true kind parenKind q
     go false q w = absurd (omega arith)
 
-closer-closer : (kind end : ℕ) → isCloser (closerOf kind end) ≡ true
+group-closer : (kind end : ℕ) → isCloser (closerOf kind end) ≡ true
 unfolding longestSign longestOf same
-closer-closer kind end = go (eqb kind parenKind)
+group-closer kind end = go (eqb kind parenKind)
   where
     go : (b : Bool) → (eqb (cond b parenCloser braceCloser) parenCloser || eqb (cond b parenCloser braceCloser) braceCloser) ≡ true
     go true = refl
@@ -66,8 +67,8 @@ tree-records (group before kind first end newline within) f {es} {cells} r =
     let opener = openerOf kind first newline in
     let closer = closerOf kind end in
     let own = treeRecord kind first end (count within + 1) newline in
-    let inner : RecordsOf (elementsOf within ++ (closer ∷ es)) (records within ++ cells) = tree-records within (f .3) (closer-none (closer-closer kind end) r) in
-    let all = tree-records before (f .0) (a-record {e = opener} kind end (count within + 1) (opener-no-closer kind first newline) (λ n. absurd (n refl)) (λ k w. paren-group kind first newline w) inner) in
+    let inner : RecordsOf (elementsOf within ++ (closer ∷ es)) (records within ++ cells) = tree-records within (f .3) (closer-none (group-closer kind end) r) in
+    let all = tree-records before (f .0) (a-record {e = opener} kind end (count within + 1) (group-opener kind first newline) (λ n. absurd (n refl)) (λ k w. paren-group kind first newline w) inner) in
     rw (append-assoc (elementsOf before) (opener ∷ (elementsOf within ++ (closer ∷ []))) es, append-assoc (elementsOf within) (closer ∷ []) es, append-assoc (records before) (own ++ records within) cells) all
 
 -- a record more in front

@@ -1,17 +1,16 @@
 -- The elements of a text, spelled anew: the same kinds, newline flags and bytes.
 use mathlib.Core.Path.{_≡_, refl, sym, ap, subst, _∙_}
 use mathlib.Core.List.{List, [], _∷_, _++_, append-assoc}
-use mathlib.Core.Bool.{Bool, false}
 use Prim.Native.Nat.{ℕ, _+_, _-_}
 use native.Mathlib.Omega.{arith}
 use lib.ListN.{length, take, drop, length-append}
 use lib.Seq.{take-at, drop-at}
-use Rattle.elements.specs.Elements.{stating, elementAt}
+use Rattle.elements.specs.Elements.{elementAt}
 use Rattle.elements.specs.declared.Element.{Element}
 use Rattle.elements.specs.declared.Next.{Next}
 use Rattle.elements.specs.declared.Stated.{Stated}
-use Rattle.grammar.specs.Cuts.{recorded, Cuts, cut-end, cut-element, cut-slash, cut-word}
-use Rattle.grammar.specs.Derivations.{SameElements, no-elements, same-element}
+use Rattle.grammar.specs.Cuts.{recorded}
+use Rattle.grammar.specs.Derivations.{SameElements, same-element}
 use Rattle.grammar.proofs.Spelling.{Piece, spelling, before, spelled, moved, placedFrom, bytes-length, written, written-length, written-text}
 
 -- the bytes of a piece stand where it was written
@@ -42,9 +41,3 @@ module _ (s : List ℕ) where
             (subst (λ (t : List ℕ). SameElements s t es (placedFrom (length (written u p (rest .pieces ++ more))) (rest .pieces))) (written-text u p (rest .pieces ++ more))
             (rest .same (written u p (rest .pieces ++ more)) more)));
       }
-
-  pub pieces-of : {place : ℕ} {choice : List Bool} {es : List Element} → Cuts s place choice es → Pieces s es
-  pieces-of (cut-end e) = record { pieces = []; same = λ u more. no-elements }
-  pieces-of (cut-element {place} {e} {es = es} s w f rest) = piece-more place e es (stating false false) f (pieces-of rest)
-  pieces-of (cut-slash {place} {e} {answer} {es = es} m f rest) = piece-more place e es (stating answer false) f (pieces-of rest)
-  pieces-of (cut-word {place} {e} {answer} {es = es} m f rest) = piece-more place e es (stating false answer) f (pieces-of rest)

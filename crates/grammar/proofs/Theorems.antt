@@ -83,7 +83,7 @@ records-shown text limits trees a d =
       indices = subst (λ (es : List Element). Indexed es (records trees)) (ap elementsOf same ∙ r .2) (records-indexed trees formed);
     }
 
--- Of any accepted reading: each element but a closer has its record at its index, of its own kind.
+-- Of any accepted reading: each element but a closer has its record at its index, of its own kind unless it opens a group.
 pub reading-indexed : (text : List ℕ) (limits : Limits) (trees : Trees) → reading text limits ≡ accepted trees → Indexed (elementsOf trees) (records trees)
 reading-indexed text limits trees a = records-indexed trees (rw a at (reading-formed text limits))
 
@@ -97,7 +97,7 @@ read-shown text table trees a d =
     ∙ take-at (records trees) (drop (treeWidth * count trees) table) (treeWidth * count trees) (count-of-records trees)))
     (records-shown text (readLimits (length table)) trees (first-accepted text (readLimits (length table)) trees a) d)
 
--- A token is marked by the number of tree records before it, which is the index of its own.
+-- A token is marked by the number of tree records before it, which is the index of its own if it has one.
 pub token-marked : (before : List Element) (e : Element) (after : List Element)
     → (rest : List Token) × (tokens (before ++ (e ∷ after)) ≡ tokens before ++ (tokenOf (countTrees before) e ∷ rest))
 token-marked before e after = rw (zero-add (countTrees before)) at (token-at 0 before e after)

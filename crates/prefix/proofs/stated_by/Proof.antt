@@ -1,4 +1,4 @@
--- The number of the innermost level says what the rule says.
+-- The code of the innermost level says what the rule says.
 use borrow.Author.Needs.{needs}
 use Rattle.prefix.proofs.StateLaws.{represented-stated}
 use borrow.Author.Needs.{needs}
