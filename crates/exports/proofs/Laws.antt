@@ -7,8 +7,8 @@ use Rattle.answers.specs.Answers.{valueOf}
 use Rattle.prefix.specs.Reading.{Reading, accepted, refused}
 use Rattle.reader.specs.Read.{readingFor, answerOf}
 use Rattle.reader.proofs.Theorems.{refused-place, accepted-count}
-use Rattle.parser.specs.Parse.{parsingFor}
-use Rattle.parser.proofs.Bounds.{value-small}
+use Rattle.parsing.specs.Parse.{parsingFor}
+use Rattle.parsing.proofs.Bounds.{value-small}
 use Rattle.respacer.specs.Respace.{respacingFor}
 use Rattle.respacer.proofs.Theorems.{value-bounded}
 
@@ -22,5 +22,5 @@ count-small text cells = go (readingFor text cells) refl
 pub bytes-small : (text : List ℕ) (room : ℕ) → valueOf (Rattle.respacer.specs.Respace.answerOf (respacingFor text room)) < 2 ^ 32
 bytes-small text room = omega (arith, value-bounded text room)
 
-pub parts-small : (text : List ℕ) (treeCells syntaxCells : ℕ) → valueOf (Rattle.parser.specs.Parse.answerOf (parsingFor text treeCells syntaxCells)) < 2 ^ 32
+pub parts-small : (text : List ℕ) (treeCells syntaxCells : ℕ) → valueOf (Rattle.parsing.specs.Parse.answerOf (parsingFor text treeCells syntaxCells)) < 2 ^ 32
 parts-small text treeCells syntaxCells = omega (arith, value-small text treeCells syntaxCells)

@@ -5,7 +5,7 @@ ghost use lib.ListN.{length};
 ghost use Rattle.answers.specs.Answers.{valueOf};
 ghost use Rattle.reader.specs.Read.{Reads};
 ghost use Rattle.respacer.specs.Respace.{Respaces};
-ghost use Rattle.parser.specs.Parse.{Parses};
+ghost use Rattle.parsing.specs.Parse.{Parses};
 ghost use Rattle.exports.specs.Packed.{packed, Packs};
 use answers::Answer;
 

@@ -17,7 +17,7 @@ use Rattle.storing.specs.Records.{records}
 use Rattle.reader.specs.Read.{longText, mostBytes, readingFor, answerOf, tableAfter}
 use Rattle.storing.proofs.CellLaws.{records-length}
 use Rattle.grammar.specs.Syntax.{size, syntaxRecords}
-use Rattle.parser.specs.Parse.{Parsing, program, denied, parsingFor, treesAfter, syntaxAfter}
+use Rattle.parsing.specs.Parse.{Parsing, program, denied, parsingFor, treesAfter, syntaxAfter}
 use Rattle.parser.proofs.WrittenCells.{syntax-length}
 use Rattle.respacer.specs.Respace.{wholeReading}
 use Rattle.printing.specs.Printed.{listed, refusal, answered, FitsTable, listingRoom}
@@ -104,7 +104,7 @@ unfolding printedTrees
 trees-listed (accepted trees) before = counted (bytes "trees,") treeWidth (count trees) (records trees) (drop (treeWidth * count trees) before) (records-length trees)
 trees-listed (refused number place) before = record { within = tt; said-is = refl }
 
-syntax-listed : (p : Parsing) (before : List ℕ) → Lists (bytes "syntax,") syntaxWidth (syntaxAfter p before) (Rattle.parser.specs.Parse.answerOf p) (printedSyntax p)
+syntax-listed : (p : Parsing) (before : List ℕ) → Lists (bytes "syntax,") syntaxWidth (syntaxAfter p before) (Rattle.parsing.specs.Parse.answerOf p) (printedSyntax p)
 unfolding printedSyntax
 syntax-listed (program trees syntax) before =
     counted (bytes "syntax,") syntaxWidth (size syntax) (syntaxRecords syntax) (drop (syntaxWidth * size syntax) before) (omega (arith, syntax-length syntax))
@@ -148,7 +148,7 @@ module _ (buffer : List ℕ) (n : ℕ) (front : List ℕ) (is : front ≡ take n
       trees-printed wholeTrees table now (e ∙ ap answerOf same) (t ∙ ap (λ (r : Reading). tableAfter r table) same) p room (λ text o. trees-front buffer n text l o)
 
   pub syntax-printed : (trees treesNow table now : List ℕ) → length trees ≡ treeWidth * mostTrees → length table ≡ syntaxWidth * mostSyntax
-      → answer ≡ Rattle.parser.specs.Parse.answerOf (parsingFor front (length trees) (length table)) → treesNow ≡ treesAfter (parsingFor front (length trees) (length table)) trees
+      → answer ≡ Rattle.parsing.specs.Parse.answerOf (parsingFor front (length trees) (length table)) → treesNow ≡ treesAfter (parsingFor front (length trees) (length table)) trees
       → now ≡ syntaxAfter (parsingFor front (length trees) (length table)) table
       → Said (bytes "syntax,") syntaxWidth now answer output after at → length output ≡ listingRoom (length now) → length buffer ≡ mostBytes + 1
       → Counts at after × ((text : List ℕ) → Front buffer n text → Holds (printedSyntax (wholeSyntax text)) output after at × (treesNow ≡ treesAfter (wholeSyntax text) trees) × (now ≡ syntaxAfter (wholeSyntax text) table))
@@ -164,5 +164,5 @@ module _ (buffer : List ℕ) (n : ℕ) (front : List ℕ) (is : front ≡ take n
 pub trees-within : (r : Reading) (answer : Answer) (table now : List ℕ) → answer ≡ answerOf r → now ≡ tableAfter r table → FitsTable treeWidth now answer
 trees-within r answer table now e t = rw (e, t) (trees-listed r table .within)
 
-pub syntax-within : (p : Parsing) (answer : Answer) (table now : List ℕ) → answer ≡ Rattle.parser.specs.Parse.answerOf p → now ≡ syntaxAfter p table → FitsTable syntaxWidth now answer
+pub syntax-within : (p : Parsing) (answer : Answer) (table now : List ℕ) → answer ≡ Rattle.parsing.specs.Parse.answerOf p → now ≡ syntaxAfter p table → FitsTable syntaxWidth now answer
 syntax-within p answer table now e t = rw (e, t) (syntax-listed p table .within)

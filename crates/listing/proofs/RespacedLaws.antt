@@ -8,7 +8,7 @@ use lib.ListN.{length, take, drop, replicate, length-replicate}
 use Rattle.answers.specs.declared.Answer.{Answer}
 use Rattle.prefix.specs.Reading.{Reading, accepted, refused}
 use Rattle.reader.specs.Read.{mostBytes}
-use Rattle.respacer.specs.Respaced.{respaced}
+use Rattle.spacing.specs.Respaced.{respaced}
 use Rattle.respacer.specs.Respace.{Respacing, written, denied, fitted, wholeReading, respacingFor, answerOf, outputAfter}
 use Rattle.respacer.proofs.Theorems.{respaced-length}
 use Rattle.respacer.specs.Respace.{Short}

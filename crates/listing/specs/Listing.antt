@@ -12,8 +12,8 @@ use Rattle.tables.specs.Records.{treeWidth, mostTrees, syntaxWidth, mostSyntax}
 use Rattle.storing.specs.Records.{records}
 use Rattle.reader.specs.Read.{longText, mostBytes, readingFor, tableAfter}
 use Rattle.grammar.specs.Syntax.{size, syntaxRecords}
-use Rattle.parser.specs.Parse.{Parsing, program, denied, parsingFor, treesAfter, syntaxAfter}
-use Rattle.respacer.specs.Respaced.{respaced}
+use Rattle.parsing.specs.Parse.{Parsing, program, denied, parsingFor, treesAfter, syntaxAfter}
+use Rattle.spacing.specs.Respaced.{respaced}
 use Rattle.respacer.specs.Respace.{wholeReading}
 use Rattle.printing.specs.Printed
 use Rattle.printing.specs.Printed.{refusal}

@@ -17,8 +17,8 @@ use Rattle.reader.specs.Read.{readingFor}
 use Rattle.grammar.specs.Tokens.{classOf, tokensFrom}
 use Rattle.grammar.specs.Syntax.{syntaxRecords}
 use Rattle.grammar.specs.TreeElements.{elementsOf}
-use Rattle.parser.specs.Parse.{stateAfter, parsingFor}
-use Rattle.respacer.specs.Respaced.{addElement, addCloser, addTrees}
+use Rattle.parsing.specs.Parse.{stateAfter, parsingFor}
+use Rattle.spacing.specs.Respaced.{addElement, addCloser, addTrees}
 use Rattle.respacer.specs.Respace.{wholeReading}
 use Rattle.marked.specs.Marked.{allHold, readings}
 

@@ -10,7 +10,7 @@ use Rattle.prefix.specs.Reading.{Reading, accepted, refused}
 use Rattle.storing.specs.Records.{records}
 use Rattle.reader.specs.Read.{readingFor}
 use Rattle.grammar.specs.Syntax.{syntaxRecords}
-use Rattle.parser.specs.Parse.{Parsing, program, denied, parsingFor}
+use Rattle.parsing.specs.Parse.{Parsing, program, denied, parsingFor}
 use Rattle.respacer.specs.Respace.{Respacing, written, respacingFor}
 use Rattle.respacer.specs.Respace
 

@@ -27,10 +27,10 @@ use Rattle.segments.proofs.ReadSegments.{reading-fine, reading-tokens}
 use Rattle.levels.specs.Machinery.Runs.{ran-through, ran-dead, RanStatements}
 use Rattle.levels.specs.declared.Parsed.{Parsed}
 use Rattle.levels.specs.declared.Parsed.the-variants.{Done, Bad}
-use Rattle.parser.specs.Parse.{noProgram, syntaxFull, Parsing, program, denied, endToken, stateAfter, judged, fitting, parsed, parsingFor, answerOf, treesAfter, syntaxAfter}
+use Rattle.parsing.specs.Parse.{noProgram, syntaxFull, Parsing, program, denied, endToken, stateAfter, judged, fitting, parsed, parsingFor, answerOf, treesAfter, syntaxAfter}
 use Rattle.parser.specs.Machinery.Judged.{stateBehind, Built, Judged, judged-bad, judged-full, judged-program}
 use Rattle.parser.proofs.WrittenCells.{syntax-written, syntax-kept-length}
-use Rattle.parser.proofs.AcceptedReadings.{AcceptedReading, accepted-reading}
+use Rattle.parsing.proofs.AcceptedReadings.{AcceptedReading, accepted-reading}
 
 -- the statements of the whole table, up to the text's end
 module _ {p : Segment} {table stack middle stack′ : List ℕ} where

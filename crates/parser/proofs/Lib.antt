@@ -1,7 +1,2 @@
 pub mod WrittenCells
-pub mod AcceptedReadings
-pub mod Verdicts
-pub mod OneVerdict
-pub mod Theorems
-pub mod Bounds
 pub mod JudgedLaws

@@ -1,4 +1,1 @@
-pub mod Limits
-pub mod Parse
-pub mod Verdict
 pub mod Machinery

@@ -5,7 +5,7 @@ ghost use Prim.Native.Nat.{_*_, _≤_};
 ghost use Rattle.waiting.specs.Machinery.Waiting.{width};
 ghost use Rattle.segments.specs.Machinery.Segments.{Fine, segment, countOf};
 ghost use Rattle.parser.specs.Machinery.Judged.{Judged};
-ghost use Rattle.parser.specs.Parse.{Parses};
+ghost use Rattle.parsing.specs.Parse.{Parses};
 use answers::Answer;
 use controls::classes;
 use levels::Parsed;

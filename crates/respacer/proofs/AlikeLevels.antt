@@ -8,7 +8,7 @@ use Rattle.rule.specs.Trees.{Trees, leaf, group, count}
 use Rattle.rule.specs.Rule.{elementClass, backwards}
 use Rattle.rule.specs.Levels.{Levels, wholeText, inside, kindOf, treesOf, statedBy, braceOpens, depth, countSoFar, onTop}
 use Rattle.elements.specs.Lexemes.{bytesOf, SameElement}
-use Rattle.respacer.specs.Respaced.{space, separator, addElement, addCloser, addTrees}
+use Rattle.spacing.specs.Respaced.{space, separator, addElement, addCloser, addTrees}
 use Rattle.respacer.specs.Alike.{Alike, alike-none, alike-leaf, alike-group}
 
 -- levels that are the same but for positions

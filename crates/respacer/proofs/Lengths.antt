@@ -11,9 +11,9 @@ use Rattle.prefix.specs.Reading.{Limits, Reading, accepted, refused, ending, re
 use Rattle.prefix.proofs.Induction.{reading-tells}
 use Rattle.prefix.proofs.StepCases.{Taken, leaf-taken, open-taken, close-taken, step-taken}
 use Rattle.elements.specs.Lexemes.{bytesOf}
-use Rattle.respacer.specs.Respaced.{separator, addElement, addCloser, addTrees, space}
+use Rattle.spacing.specs.Respaced.{separator, addElement, addCloser, addTrees, space}
 use Rattle.respacer.specs.Machinery.Written.{writtenOf}
-use Rattle.respacer.proofs.OverLaws.{bytes-length}
+use Rattle.spacing.proofs.OverLaws.{bytes-length}
 use Rattle.respacer.proofs.WriteLaws.{written-leaf, written-group}
 
 separator-length : (written : List ℕ) (newline : Bool) → length (separator written newline) ≤ 1

@@ -1,11 +1,9 @@
-pub mod OverLaws
 pub mod WriteLaws
 pub mod LoopLaws
 pub mod Lengths
 pub mod Theorems
 pub mod AlikeLevels
 pub mod StepWrites
-pub mod FoundAgain
 pub mod StepAgain
 pub mod RestOfText
 pub mod ReadAgain

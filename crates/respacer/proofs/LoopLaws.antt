@@ -21,11 +21,11 @@ use Rattle.tables.specs.Records.{mostTrees}
 use Rattle.reader.specs.Read.{mostBytes, longText}
 use Rattle.reader.specs.Machinery.Turns.{openerPlace, Takes, at-end, at-fault, at-element}
 use Rattle.reader.specs.declared.ReadOn.{ReadOn}
-use Rattle.respacer.specs.Respaced.{addTrees, respaced}
+use Rattle.spacing.specs.Respaced.{addTrees, respaced}
 use Rattle.respacer.specs.Respace.{respaceLimits, wholeReading, outputFull, Respacing, fitted, respacingFor, answerOf, outputAfter}
 use Rattle.respacer.specs.Machinery.Written.{Writes, Turned, goes-on, ends, Told}
 use Rattle.respacer.specs.declared.Wrote.{Wrote}
-use Rattle.respacer.proofs.OverLaws.{over-nothing, over-fits}
+use Rattle.spacing.proofs.OverLaws.{over-nothing, over-fits}
 
 -- what the loop holds: there is fuel for the rest of the text
 pub record At (bytes old output stack : List ℕ) (state : State) (at place : ℕ) : Type 0 where

@@ -15,12 +15,12 @@ use Rattle.prefix.specs.Reading.{Limits, more, step, accepted, readOn, reading}
 use Rattle.prefix.proofs.ReadingLaws.{read-end, read-more}
 use Rattle.prefix.proofs.Course.{Course, ended, went, accepted-course}
 use Rattle.elements.specs.Lexemes.{bytesOf}
-use Rattle.respacer.specs.Respaced.{separator, addElement, addTrees, respaced}
+use Rattle.spacing.specs.Respaced.{separator, addElement, addTrees, respaced}
 use Rattle.respacer.specs.Machinery.Written.{writtenOf}
 use Rattle.respacer.specs.Alike.{alike-none, Kept}
 use Rattle.respacer.proofs.AlikeLevels.{AlikeLevels, alike-text, alike-stated}
 use Rattle.respacer.proofs.StepWrites.{lineWritten}
-use Rattle.respacer.proofs.FoundAgain.{moved, found-again, found-end, found-bytes, nothing-more}
+use Rattle.spacing.proofs.FoundAgain.{moved, found-again, found-end, found-bytes, nothing-more}
 use Rattle.respacer.proofs.StepAgain.{Reaches, step-again}
 use Rattle.respacer.proofs.RestOfText.{GoesOn, goes-on, element-written, more-written}
 

@@ -12,7 +12,7 @@ use Rattle.storing.specs.Records.{records}
 use Rattle.reader.specs.Read.{mostBytes, readLimits, readingFor}
 use Rattle.storing.proofs.CellLaws.{records-length}
 use Rattle.reader.proofs.LengthFirst.{first-accepted}
-use Rattle.respacer.specs.Respaced.{respaced}
+use Rattle.spacing.specs.Respaced.{respaced}
 use Rattle.respacer.specs.Respace.{respaceLimits, wholeReading, written, respacingFor}
 use Rattle.respacer.specs.Alike.{Alike, alike-none, alike-leaf, alike-group, withoutPlaces, recordCells, RoundTrip}
 use Rattle.respacer.proofs.AlikeLevels.{alike-count}

@@ -16,9 +16,9 @@ use Rattle.rule.specs.Levels.{Levels, statedBy, depth}
 use Rattle.prefix.specs.Reading.{Limits, more, step}
 use Rattle.prefix.proofs.Course.{Course, ended, went}
 use Rattle.elements.specs.Lexemes.{bytesOf}
-use Rattle.respacer.specs.Respaced.{lineFeed, space, separator, addElement, respaced}
+use Rattle.spacing.specs.Respaced.{lineFeed, space, separator, addElement, respaced}
 use Rattle.respacer.specs.Machinery.Written.{writtenOf}
-use Rattle.respacer.proofs.OverLaws.{bytes-length}
+use Rattle.spacing.proofs.OverLaws.{bytes-length}
 use Rattle.respacer.proofs.StepWrites.{lineWritten, step-written}
 
 -- a text that goes on, behind what is written, with a blank or a line end

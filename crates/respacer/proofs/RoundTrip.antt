@@ -7,7 +7,7 @@ use Rattle.rule.specs.Trees.{Trees, count}
 use Rattle.prefix.specs.Reading.{Limits, Reading, accepted, reading, unlimited, unlimitedReading}
 use Rattle.prefix.proofs.LimitLaws.{accepted-unlimited}
 use Rattle.reader.specs.Read.{mostBytes, readingFor}
-use Rattle.respacer.specs.Respaced.{respaced}
+use Rattle.spacing.specs.Respaced.{respaced}
 use Rattle.respacer.specs.Respace.{wholeReading, written, respacingFor}
 use Rattle.respacer.specs.Alike.{Kept, RoundTrip}
 use Rattle.respacer.proofs.AlikeLevels.{alike-count}

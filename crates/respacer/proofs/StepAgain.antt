@@ -17,7 +17,7 @@ use Rattle.elements.specs.Lexemes.{bytesOf}
 use Rattle.respacer.specs.Alike.{alike-none}
 use Rattle.respacer.proofs.AlikeLevels.{AlikeLevels, alike-text, alike-inside, alike-brace, alike-depth, alike-so-far, alike-leaf-more, alike-group-more}
 use Rattle.respacer.proofs.StepWrites.{stepBy, lineBut, lineWritten}
-use Rattle.respacer.proofs.FoundAgain.{moved}
+use Rattle.spacing.proofs.FoundAgain.{moved}
 
 -- the bytes of a delimiter, from its first byte or from its end
 opener-bytes : (s t : List ℕ) (first end start last : ℕ) → end ≡ first + 1 → last ≡ start + 1 → bytesOf s first end ≡ bytesOf t start last

@@ -13,7 +13,7 @@ use Rattle.rule.specs.Trees.{none, leaf, group, parenKind, objectKind, blockKin
 use Rattle.rule.specs.Levels.{Levels, wholeText, inside, braceOpens, depth, countSoFar, onTop}
 use Rattle.prefix.specs.Reading.{Limits, Step, stop, more, addLeaf, openGroup, closes, closeGroup, step, deep, treesFull, wrongCloser}
 use Rattle.prefix.proofs.StepCases.{not-more}
-use Rattle.respacer.specs.Respaced.{addElement, addCloser, addTrees}
+use Rattle.spacing.specs.Respaced.{addElement, addCloser, addTrees}
 use Rattle.respacer.specs.Machinery.Written.{writtenOf}
 use Rattle.respacer.proofs.WriteLaws.{written-leaf, written-group}
 

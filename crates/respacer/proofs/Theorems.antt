@@ -16,7 +16,7 @@ use Rattle.reader.specs.Read.{longText, mostBytes, mostGroups}
 use Rattle.reader.proofs.Formed.{reading-within-text}
 use Rattle.reader.proofs.Numbered.{first-numbered}
 use Rattle.reader.proofs.LengthFirst.{first-fits, first-full, first-deep}
-use Rattle.respacer.specs.Respaced.{lineFeed, addTrees, respaced}
+use Rattle.spacing.specs.Respaced.{lineFeed, addTrees, respaced}
 use Rattle.respacer.specs.Respace.{Short, respaceLimits, wholeReading, outputFull, Respacing, written, denied, fitted, respacingFor, answerOf, outputAfter, Respaces}
 use Rattle.respacer.proofs.Lengths.{reading-short}
 

@@ -15,10 +15,11 @@ use Rattle.prefix.specs.declared.State.{State}
 use Rattle.prefix.specs.declared.Advanced.{Advanced}
 use Rattle.tables.specs.Records.{mostTrees}
 use Rattle.reader.specs.Machinery.Turns.{openerPlace}
-use Rattle.respacer.specs.Respaced.{lineFeed, addElement, addCloser, addTrees}
-use Rattle.respacer.specs.Machinery.Written.{over, writtenOf, Writes, Turned, goes-on, ends, Told}
+use Rattle.spacing.specs.Respaced.{lineFeed, addElement, addCloser, addTrees}
+use Rattle.respacer.specs.Machinery.Written.{writtenOf, Writes, Turned, goes-on, ends, Told}
+use Rattle.spacing.specs.Machinery.Over.{over}
 use Rattle.respacer.specs.declared.Wrote.{Wrote}
-use Rattle.respacer.proofs.OverLaws.{byte-length}
+use Rattle.spacing.proofs.OverLaws.{byte-length}
 
 -- a leaf more, and a group ended
 pub written-leaf : (bytes : List ℕ) (e : Element) (levels : Levels)

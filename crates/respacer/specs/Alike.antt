@@ -10,7 +10,7 @@ use Rattle.prefix.specs.Reading.{Reading, accepted, refused}
 use Rattle.tables.specs.Records.{treeWidth}
 use Rattle.reader.specs.Read.{readingFor, answerOf, tableAfter}
 use Rattle.elements.specs.Lexemes.{bytesOf, SameElement}
-use Rattle.respacer.specs.Respaced.{respaced}
+use Rattle.spacing.specs.Respaced.{respaced}
 
 -- trees of a text and trees of another are the same but for positions: the same elements in the same order, and groups with the
 -- same kind, the same newline flag, the same bytes of opener and closer, and insides that are the same but for positions

@@ -1,4 +1,3 @@
-pub mod Respaced
 pub mod Alike
 pub mod Respace
 pub mod Machinery

@@ -1,10 +1,8 @@
 // Respacing: a text to the same elements with one blank or line end between them.
 ghost use mathlib.Core.Path.{_≡_};
-ghost use mathlib.Core.List.{List, [], _∷_, _++_};
-ghost use Prim.Native.Nat.{ℕ, _+_, _*_, _<_, _≤_, _^_};
-ghost use lib.ListN.{length, replicate};
-ghost use Rattle.elements.specs.Lexemes.{bytesOf};
-ghost use Rattle.respacer.specs.Respaced.{addElement, addCloser};
+ghost use mathlib.Core.List.{List};
+ghost use Prim.Native.Nat.{ℕ, _*_, _<_, _≤_};
+ghost use lib.ListN.{length};
 ghost use Rattle.respacer.specs.Respace.{wholeReading, Respaces};
 ghost use Rattle.rule.specs.Levels.{Levels};
 ghost use Rattle.prefix.specs.Reading.{Step};
@@ -13,7 +11,7 @@ ghost use Rattle.prefix.specs.declared.State.{State};
 ghost use Rattle.tables.specs.Records.{mostTrees};
 ghost use Rattle.reader.specs.Read.{mostBytes};
 ghost use Rattle.reader.specs.Machinery.Turns.{openerPlace};
-ghost use Rattle.respacer.specs.Machinery.Written.{over, Writes, Turned, Told};
+ghost use Rattle.respacer.specs.Machinery.Written.{Writes, Turned, Told};
 use answers::Answer;
 use elements::Element;
 use prefix::Advanced;
@@ -22,64 +20,6 @@ use reader::ReadOn;
 
 // The number of the table's row for an output that is too short.
 pub const OUTPUT_FULL: u32 = 15;
-
-// Writes a byte behind what is written so far, if it fits; the next place is counted in any case.
-fn put_byte(output: &mut [u8], at: usize, b: u8) -> usize
-    requires { ⌜ at < 2 ^ 32 ⌝ }
-    ensures { λ r. ⌜ (r ≡ at + 1) × ((written old : List ℕ) → at ≡ length written → now (output .entry) ≡ over written old → now (output .exit) ≡ over (written ++ (b ∷ [])) old) ⌝ }
-{
-    if at < output.len() {
-        output[at] = b;
-        return at + 1;
-    }
-    at + 1
-}
-
-// Writes the bytes of a text from `first` to before `end`.
-fn put_bytes(text: &[u8], output: &mut [u8], at: usize, first: usize, end: usize) -> usize
-    requires { ⌜ (at < 2 ^ 31) × (first ≤ end) × (end ≤ length (now text)) × (end < 2 ^ 31) ⌝ }
-    ensures { λ r. ⌜ (r + first ≡ at + end) × ((written old : List ℕ) → at ≡ length written → now (output .entry) ≡ over written old → now (output .exit) ≡ over (written ++ bytesOf (now (text .entry)) first end) old) ⌝ }
-{
-    let mut i = first;
-    let mut to = at;
-    while i < end {
-        to = put_byte(output, to, text[i]);
-        i += 1;
-    }
-    to
-}
-
-// Writes what comes before an element that has a record, and its bytes.
-fn put_element(
-    text: &[u8],
-    output: &mut [u8],
-    at: usize,
-    first: usize,
-    end: usize,
-    newline: bool,
-) -> usize
-    requires { ⌜ (at + 1 < 2 ^ 31) × (first ≤ end) × (end ≤ length (now text)) × (end < 2 ^ 31) ⌝ }
-    ensures { λ r. ⌜ (r + first ≤ at + end + 1) × ((written old : List ℕ) → at ≡ length written → now (output .entry) ≡ over written old → (r ≡ length (addElement (now (text .entry)) written first end newline)) × (now (output .exit) ≡ over (addElement (now (text .entry)) written first end newline) old)) ⌝ }
-{
-    if newline {
-        let next = put_byte(output, at, 10);
-        return put_bytes(text, output, next, first, end);
-    }
-    if at == 0 {
-        return put_bytes(text, output, at, first, end);
-    }
-    let next = put_byte(output, at, 32);
-    put_bytes(text, output, next, first, end)
-}
-
-// Writes a blank and a closer.
-fn put_closer(text: &[u8], output: &mut [u8], at: usize, first: usize, end: usize) -> usize
-    requires { ⌜ (at + 1 < 2 ^ 31) × (first ≤ end) × (end ≤ length (now text)) × (end < 2 ^ 31) ⌝ }
-    ensures { λ r. ⌜ (r + first ≤ at + end + 1) × ((written old : List ℕ) → at ≡ length written → now (output .entry) ≡ over written old → (r ≡ length (addCloser (now (text .entry)) written first end)) × (now (output .exit) ≡ over (addCloser (now (text .entry)) written first end) old)) ⌝ }
-{
-    let next = put_byte(output, at, 32);
-    put_bytes(text, output, next, first, end)
-}
 
 // What writing an element makes of the state and the place: others, or a refusal.
 enum Wrote {
@@ -97,15 +37,15 @@ fn write_element(text: &[u8], output: &mut [u8], at: usize, e: Element, advanced
     let newline = e.newline;
     match advanced {
         Advanced::Leaf(next) => {
-            let to = put_element(text, output, at, first, end, newline);
+            let to = spacing::put_element(text, output, at, first, end, newline);
             Wrote::More(next, to)
         }
         Advanced::Opened(_, next) => {
-            let to = put_element(text, output, at, first, first + 1, newline);
+            let to = spacing::put_element(text, output, at, first, first + 1, newline);
             Wrote::More(next, to)
         }
         Advanced::Closed(_, next) => {
-            let to = put_closer(text, output, at, end - 1, end);
+            let to = spacing::put_closer(text, output, at, end - 1, end);
             Wrote::More(next, to)
         }
         Advanced::Stopped(number, place) => Wrote::Stop(number, place),
@@ -119,7 +59,7 @@ fn write_end(output: &mut [u8], stack: &[u32], state: State, at: usize) -> Answe
 {
     let depth = state.depth;
     if depth == 0 {
-        return Answer::Accepted(put_byte(output, at, 10));
+        return Answer::Accepted(spacing::put_byte(output, at, 10));
     }
     let first = stack[2 * (depth - 1) + 1] as usize;
     Answer::Refused(prefix::UNCLOSED, first)
@@ -159,24 +99,13 @@ fn write_text(text: &[u8], output: &mut [u8], stack: &mut [u32]) -> Answer
     }
 }
 
-// Every byte of an output becomes 0.
-fn clear(output: &mut [u8])
-    ensures { λ r. ⌜ now (output .exit) ≡ replicate (length (now (output .entry))) 0 ⌝ }
-{
-    let mut i = 0;
-    while i < output.len() {
-        output[i] = 0;
-        i += 1;
-    }
-}
-
 // Respaces a text: the count of bytes written to the output, whose bytes past these are as they were; or the number and place
 // of a refusal, with every byte of the output 0.
 pub fn respace(text: &[u8], output: &mut [u8]) -> Answer
     ensures { λ r. ⌜ Respaces (now (text .entry)) (now (output .entry)) (now (output .exit)) r ⌝ }
 {
     if reader::MOST_BYTES < text.len() {
-        clear(output);
+        spacing::clear(output);
         return Answer::Refused(reader::LONG, reader::MOST_BYTES);
     }
     let mut stack = [0u32; 200];
@@ -184,13 +113,13 @@ pub fn respace(text: &[u8], output: &mut [u8]) -> Answer
     match answer {
         Answer::Accepted(count) => {
             if output.len() < count {
-                clear(output);
+                spacing::clear(output);
                 return Answer::Refused(OUTPUT_FULL, text.len());
             }
             Answer::Accepted(count)
         }
         Answer::Refused(number, place) => {
-            clear(output);
+            spacing::clear(output);
             Answer::Refused(number, place)
         }
     }

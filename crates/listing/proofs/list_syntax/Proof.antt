@@ -2,7 +2,7 @@
 use borrow.Author.Needs.{needs}
 use native.Mathlib.Omega.{arith}
 use lib.ListN.{length}
-use Rattle.parser.specs.Parse.{parsingFor}
+use Rattle.parsing.specs.Parse.{parsingFor}
 use Rattle.listing.proofs.ListingLaws.{syntax-within, syntax-printed}
 use Rattle.listing.proofs.list_syntax.Statement.{statement}
 use Rattle.listing.proofs.list_syntax.Tie as tie

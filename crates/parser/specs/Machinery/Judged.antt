@@ -9,7 +9,7 @@ use Rattle.grammar.specs.Syntax.{Syntax, nil, size, programTree}
 use Rattle.grammar.specs.Machinery.Machine.{State, dead, live, finished, frame, run, start}
 use Rattle.waiting.specs.Machinery.Written.{putSyntax}
 use Rattle.segments.specs.Machinery.Segments.{Segment, countOf, tokensAt}
-use Rattle.parser.specs.Parse.{noProgram, syntaxFull, endToken}
+use Rattle.parsing.specs.Parse.{noProgram, syntaxFull, endToken}
 
 -- where the machine is behind the tokens of a part and the text's end
 abbrev pub stateBehind : Segment → State

@@ -1,20 +1,17 @@
--- How the output holds what is written so far, as much of it as fits. Machinery.
+-- How state, stack and output hold what is read and written so far. Machinery.
 use Prim.Native.Nat.{ℕ, _+_, _*_, _≤_}
 use mathlib.Core.Path.{_≡_}
-use mathlib.Core.List.{List, [], _++_}
-use lib.ListN.{length, take, drop}
+use mathlib.Core.List.{List, []}
+use lib.ListN.{length}
 use Rattle.answers.specs.declared.Answer.{Answer}
 use Rattle.rule.specs.Levels.{Levels, wholeText, inside}
 use Rattle.prefix.specs.Reading.{Step, stop, more, Reading, accepted, refused}
 use Rattle.prefix.specs.Machinery.Represents.{Represents}
 use Rattle.prefix.specs.declared.State.{State}
 use Rattle.reader.specs.Machinery.Turns.{openerPlace}
-use Rattle.respacer.specs.Respaced.{addElement, addTrees, respaced}
+use Rattle.spacing.specs.Respaced.{addElement, addTrees, respaced}
+use Rattle.spacing.specs.Machinery.Over.{over}
 use Rattle.respacer.specs.declared.Wrote.{Wrote}
-
--- what was written lies over the old output; what does not fit is lost
-unfoldable pub over : List ℕ → List ℕ → List ℕ
-over written old = take (length old) written ++ drop (length written) old
 
 -- what is written of the levels of a reading
 abbrev pub writtenOf : List ℕ → Levels → List ℕ

@@ -3,11 +3,10 @@ use borrow.Author.Needs.{needs}
 use native.Mathlib.Omega.{arith}
 use mathlib.Core.List.{List, [], _∷_, _++_}
 use Prim.Native.Nat.{ℕ}
-use Rattle.respacer.specs.Respaced.{space}
-use Rattle.respacer.proofs.OverLaws.{byte-length, closer-blank, element-put}
-use borrow.Author.Needs.{needs}
-use Rattle.respacer.proofs.put_closer.Statement.{statement}
-use Rattle.respacer.proofs.put_closer.Tie as tie
+use Rattle.spacing.specs.Respaced.{space}
+use Rattle.spacing.proofs.OverLaws.{byte-length, closer-blank, element-put}
+use Rattle.spacing.proofs.put_closer.Statement.{statement}
+use Rattle.spacing.proofs.put_closer.Tie as tie
 
 put-byte-requires : tie.Need-put-byte-requires
 put-byte-requires c κs = search needs

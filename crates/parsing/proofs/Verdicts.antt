@@ -24,8 +24,8 @@ use Rattle.grammar.proofs.Deaths.{Death, death}
 use Rattle.grammar.proofs.Begins.{begins, still-going}
 use Rattle.grammar.proofs.FirstRefused.{first-refused}
 use Rattle.grammar.proofs.Theorems.{no-program-differs}
-use Rattle.parser.specs.Parse.{endSpot, endToken, stateAfter}
-use Rattle.parser.specs.Verdict.{Refuses, at-element, at-end}
+use Rattle.parsing.specs.Parse.{endSpot, endToken, stateAfter}
+use Rattle.parsing.specs.Verdict.{Refuses, at-element, at-end}
 
 -- a token among those of elements and one behind them: that of an element, with the elements before it, or the last
 data Where (mark : ℕ) (es : List Element) (end : Token) (before : List Token) (class : ℕ) (spot : Spot) : Type 0 where

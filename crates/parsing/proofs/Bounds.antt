@@ -16,10 +16,10 @@ use Rattle.reader.proofs.Theorems.{refused-place}
 use Rattle.grammar.specs.Cuts.{recorded, Cuts, cut-end, cut-element, cut-slash, cut-word}
 use Rattle.grammar.specs.Syntax.{size}
 use Rattle.grammar.proofs.ReadCuts.{reading-cuts}
-use Rattle.parser.specs.Parse.{Parsing, parsingFor, answerOf}
-use Rattle.parser.proofs.AcceptedReadings.{accepted-reading}
-use Rattle.parser.specs.Verdict.{Refuses, at-element, at-end, Verdict, as-read, no-program, syntax-full, accepts}
-use Rattle.parser.proofs.Theorems.{verdict}
+use Rattle.parsing.specs.Parse.{Parsing, parsingFor, answerOf}
+use Rattle.parsing.proofs.AcceptedReadings.{accepted-reading}
+use Rattle.parsing.specs.Verdict.{Refuses, at-element, at-end, Verdict, as-read, no-program, syntax-full, accepts}
+use Rattle.parsing.proofs.Theorems.{verdict}
 
 -- the elements that a text is cut into stand in it
 one-within : (text : List ℕ) (place : ℕ) (given : Stated) (f e : Element) → elementAt text place given ≡ Next.Found f → recorded f ≡ e → e .first ≤ length text

@@ -20,12 +20,12 @@ use Rattle.grammar.specs.Machinery.Machine.{State, dead, live, Control, Frame, 
 use Rattle.grammar.proofs.TreeSizes.{count-elements, deepest-elements}
 use Rattle.grammar.proofs.Theorems.{no-program-differs, read-shown, few-parts-each-marked}
 use Rattle.tables.specs.Records.{syntaxRoom}
-use Rattle.parser.specs.Limits.{WithinLimits, LongEnough}
-use Rattle.parser.specs.Parse.{syntaxFull, Parses, Parsing, program, denied, stateAfter, judged, fitting, parsed, parsingFor, answerOf, treesAfter, syntaxAfter}
-use Rattle.parser.proofs.AcceptedReadings.{AcceptedReading, accepted-reading}
-use Rattle.parser.specs.Verdict.{Verdict, as-read, no-program, syntax-full, accepts, Left, CallVerdict, call-accepts, call-refuses}
-use Rattle.parser.proofs.OneVerdict.{one-verdict}
-use Rattle.parser.proofs.Verdicts.{accepted-derives, refused-derives, derives-accepted, no-derivation}
+use Rattle.parsing.specs.Limits.{WithinLimits, LongEnough}
+use Rattle.parsing.specs.Parse.{syntaxFull, Parses, Parsing, program, denied, stateAfter, judged, fitting, parsed, parsingFor, answerOf, treesAfter, syntaxAfter}
+use Rattle.parsing.proofs.AcceptedReadings.{AcceptedReading, accepted-reading}
+use Rattle.parsing.specs.Verdict.{Verdict, as-read, no-program, syntax-full, accepts, Left, CallVerdict, call-accepts, call-refuses}
+use Rattle.parsing.proofs.OneVerdict.{one-verdict}
+use Rattle.parsing.proofs.Verdicts.{accepted-derives, refused-derives, derives-accepted, no-derivation}
 
 module _ (text : List ℕ) (treeCells syntaxCells : ℕ) where
   -- the machine at the end of the elements of an accepted reading

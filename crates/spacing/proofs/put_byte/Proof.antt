@@ -1,10 +1,9 @@
 -- The byte is written where it fits, and counted in any case.
 use borrow.Author.Needs.{needs}
 use mathlib.Core.Path.{refl}
-use Rattle.respacer.proofs.OverLaws.{put-in, put-out}
-use borrow.Author.Needs.{needs}
-use Rattle.respacer.proofs.put_byte.Statement.{statement}
-use Rattle.respacer.proofs.put_byte.Tie as tie
+use Rattle.spacing.proofs.OverLaws.{put-in, put-out}
+use Rattle.spacing.proofs.put_byte.Statement.{statement}
+use Rattle.spacing.proofs.put_byte.Tie as tie
 
 slice-write-output : tie.Need-slice-write-output
 slice-write-output c = search needs

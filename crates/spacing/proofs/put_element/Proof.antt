@@ -4,11 +4,10 @@ use native.Mathlib.Omega.{arith}
 use mathlib.Core.Path.{sym, _∙_}
 use mathlib.Core.List.{List, [], _∷_, _++_}
 use Prim.Native.Nat.{ℕ}
-use Rattle.respacer.specs.Respaced.{lineFeed, space}
-use Rattle.respacer.proofs.OverLaws.{byte-length, element-newline, element-first, element-blank, element-put}
-use borrow.Author.Needs.{needs}
-use Rattle.respacer.proofs.put_element.Statement.{statement}
-use Rattle.respacer.proofs.put_element.Tie as tie
+use Rattle.spacing.specs.Respaced.{lineFeed, space}
+use Rattle.spacing.proofs.OverLaws.{byte-length, element-newline, element-first, element-blank, element-put}
+use Rattle.spacing.proofs.put_element.Statement.{statement}
+use Rattle.spacing.proofs.put_element.Tie as tie
 
 put-byte-requires : tie.Need-put-byte-requires
 put-byte-requires c κs = search needs

@@ -15,8 +15,8 @@ use Rattle.elements.proofs.Bounds.{Placed, found-placed, past-end}
 use Rattle.elements.proofs.Separators.{lined, blank-first, line-end-first}
 use Rattle.elements.proofs.OwnBytes.{own-bytes}
 use Rattle.elements.specs.Lexemes.{bytesOf}
-use Rattle.respacer.specs.Respaced.{lineFeed, space, separator, addElement}
-use Rattle.respacer.proofs.OverLaws.{bytes-length}
+use Rattle.spacing.specs.Respaced.{lineFeed, space, separator, addElement}
+use Rattle.spacing.proofs.OverLaws.{bytes-length}
 
 -- an element from `first` on, behind a line end or not
 abbrev pub moved : Element → ℕ → Bool → Element

@@ -7,8 +7,8 @@ use mathlib.Core.List.{_++_, append-nil}
 use Prim.Native.Nat.{_-_, _≤_}
 use lib.ListN.{length, drop, replicate, length-set}
 use lib.Seq.{drop-length}
-use Rattle.respacer.proofs.clear.Statement.{statement}
-use Rattle.respacer.proofs.clear.Tie as tie
+use Rattle.spacing.proofs.clear.Statement.{statement}
+use Rattle.spacing.proofs.clear.Tie as tie
 
 abbrev Inv-loop : tie.InvT-loop
 Inv-loop output₀ i₀ output i = (i ≤ length output₀) × (output ≡ replicate i 0 ++ drop i output₀) × (length output ≡ length output₀)

@@ -6,10 +6,10 @@ use mathlib.Core.List.{List, _++_}
 use Prim.Native.Nat.{ℕ, _-_, _≤_, _+_}
 use lib.ListN.{length}
 use Rattle.elements.specs.Lexemes.{bytesOf}
-use Rattle.respacer.specs.Machinery.Written.{over}
-use Rattle.respacer.proofs.OverLaws.{bytes-start, bytes-step, bytes-place}
-use Rattle.respacer.proofs.put_bytes.Statement.{statement}
-use Rattle.respacer.proofs.put_bytes.Tie as tie
+use Rattle.spacing.specs.Machinery.Over.{over}
+use Rattle.spacing.proofs.OverLaws.{bytes-start, bytes-step, bytes-place}
+use Rattle.spacing.proofs.put_bytes.Statement.{statement}
+use Rattle.spacing.proofs.put_bytes.Tie as tie
 
 abbrev Inv-loop : tie.InvT-loop
 Inv-loop text output₀ at first end i₀ to₀ output i to =

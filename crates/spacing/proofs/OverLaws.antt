@@ -8,8 +8,8 @@ use native.Mathlib.Numerals.{add-one}
 use lib.ListN.{length, getD, take, drop, set, length-append, length-take, length-drop, drop-of-length-le}
 use lib.Seq.{take-nil, take-all, take-append-le, drop-cons, set-append-seam, take-suc, getD-drop, length-take-le}
 use Rattle.elements.specs.Lexemes.{bytesOf}
-use Rattle.respacer.specs.Respaced.{addElement, addCloser, lineFeed, space}
-use Rattle.respacer.specs.Machinery.Written.{over}
+use Rattle.spacing.specs.Respaced.{addElement, addCloser, lineFeed, space}
+use Rattle.spacing.specs.Machinery.Over.{over}
 
 pub over-nothing : (old : List ℕ) → old ≡ over [] old
 unfolding over

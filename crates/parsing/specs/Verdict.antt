@@ -1,4 +1,4 @@
--- Demand 3: what its statements over the parser's answers say (`parser/proofs/Theorems.antt`).
+-- Demand 3: what its statements over the parser's answers say (`parsing/proofs/Theorems.antt`).
 use Prim.Native.Nat.{ℕ, _*_, _/_, _<_}
 use mathlib.Core.Path.{_≡_}
 use mathlib.Core.List.{List, [], _∷_, _++_}
@@ -13,8 +13,8 @@ use Rattle.grammar.specs.Syntax.{Syntax, size, syntaxRecords}
 use Rattle.grammar.specs.Derivations.{Derivation, countTrees, syntaxTree, BeginsProgram}
 use Rattle.grammar.specs.TreeElements.{elementsOf}
 use Rattle.grammar.specs.Shown.{Shown}
-use Rattle.parser.specs.Limits.{WithinLimits, LongEnough}
-use Rattle.parser.specs.Parse.{noProgram, syntaxFull, Parsing, program, denied, answerOf, treesAfter, syntaxAfter}
+use Rattle.parsing.specs.Limits.{WithinLimits, LongEnough}
+use Rattle.parsing.specs.Parse.{noProgram, syntaxFull, Parsing, program, denied, answerOf, treesAfter, syntaxAfter}
 
 -- why the elements of a text are no program: one of them begins none with those before it; or all of them begin one, that goes on
 -- behind the text's end

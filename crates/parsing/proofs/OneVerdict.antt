@@ -10,8 +10,8 @@ use Rattle.grammar.specs.Syntax.{size}
 use Rattle.grammar.specs.Derivations.{Derivation, syntaxTree, BeginsProgram}
 use Rattle.grammar.specs.TreeElements.{elementsOf}
 use Rattle.grammar.proofs.Theorems.{any-two-derivations, begins-shorter}
-use Rattle.parser.specs.Parse.{Parsing}
-use Rattle.parser.specs.Verdict.{Refuses, at-element, at-end, Verdict, as-read, no-program, syntax-full, accepts}
+use Rattle.parsing.specs.Parse.{Parsing}
+use Rattle.parsing.specs.Verdict.{Refuses, at-element, at-end, Verdict, as-read, no-program, syntax-full, accepts}
 
 -- two ways to split a list at an element: at the same one, or the front of one goes on past the other's
 data Compared (firsts others : List Element) (e f : Element) : Type 0 where

@@ -1,0 +1,3 @@
+pub mod Limits
+pub mod Parse
+pub mod Verdict

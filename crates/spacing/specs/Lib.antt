@@ -1,0 +1,2 @@
+pub mod Respaced
+pub mod Machinery
