@@ -1,5 +1,5 @@
 //! Elements, as document 01 states them: blanks and comments, then the element that stands there under a slash choice. A reserved word
-//! is cut as a word; what it is in its place (document 02, U1) is asked afterwards.
+//! is cut as a word; what it is in its place (document 02, U1 and U2) is asked afterwards.
 
 /// A refusal: number and place.
 pub type Fault = (u32, usize);
@@ -20,6 +20,9 @@ pub enum Class {
     CloseParen,
     OpenBrace,
     CloseBrace,
+    OpenBracket,
+    CloseBracket,
+    Comma,
     Return,
     Function,
     If,
@@ -39,6 +42,10 @@ pub struct Element {
 }
 
 impl Element {
+    pub fn is_closer(self) -> bool {
+        matches!(self.class, Class::CloseParen | Class::CloseBrace | Class::CloseBracket)
+    }
+
     /// Kind of the tree record of an element that is no delimiter.
     pub fn kind(self) -> u32 {
         match self.class {
@@ -253,6 +260,9 @@ pub fn element(text: &[u8], first: usize, line: bool, pattern: bool) -> Result<E
         Some(")") => Class::CloseParen,
         Some("{") => Class::OpenBrace,
         Some("}") => Class::CloseBrace,
+        Some("[") => Class::OpenBracket,
+        Some("]") => Class::CloseBracket,
+        Some(",") => Class::Comma,
         Some(_) => return Err((8, first)),
     };
     made(class, first + 1)

@@ -337,6 +337,12 @@ impl Comparison {
         }
     }
 
+    fn words_in_braces(&mut self) {
+        for text in texts::words_in_braces() {
+            self.text(&text, false);
+        }
+    }
+
     /// The implementation here against the readings that document 01 gives, and document 02 for U1.
     fn readings(&mut self) {
         type Case = (&'static str, Answer, Answer);
@@ -410,6 +416,7 @@ fn compare(number: usize) -> bool {
     comparison.readings();
     comparison.limits();
     comparison.words_after_dots();
+    comparison.words_in_braces();
     comparison.sequences(4);
     comparison.random_texts(number);
     comparison.long_texts(number / 2000);

@@ -1,4 +1,4 @@
-//! Reading and respacing, as document 01 states them: the prefix rule, tree records, refusals 1 to 12 and 15. With document 02, U1.
+//! Reading and respacing, as document 01 states them: the prefix rule, tree records, refusals 1 to 12 and 15. With document 02, U1 and U2.
 
 use crate::elements::{element, gap, Class, Element, Fault};
 
@@ -9,6 +9,7 @@ pub const DEEPEST: usize = 100;
 pub const PARENTHESES: u32 = 7;
 pub const OBJECT: u32 = 8;
 pub const BLOCK: u32 = 9;
+pub const BRACKETS: u32 = 10;
 
 pub type Tree = [u32; 5];
 
@@ -22,6 +23,7 @@ pub struct Reading {
 struct Level {
     opener: Option<usize>,
     expression: bool,
+    object: bool,
     /// Indices of its trees so far, and the class of each one's first element.
     trees: Vec<(usize, Class)>,
 }
@@ -35,7 +37,7 @@ impl Level {
     fn opens_object(&self, count: usize, line: bool) -> bool {
         match count.checked_sub(1).map(|last| self.trees[last].1) {
             None => self.expression,
-            Some(Class::Divide | Class::Plus | Class::Assign) => true,
+            Some(Class::Divide | Class::Plus | Class::Assign | Class::Comma) => true,
             Some(Class::Colon) => self.expression,
             Some(Class::Return) => !line,
             _ => false,
@@ -45,27 +47,39 @@ impl Level {
     /// Does a `/` here open a regular expression?
     fn opens_pattern(&self, trees: &[Tree]) -> bool {
         use Class::*;
-        if self.class(4) == Some(Function) && self.class(3) == Some(Name) && self.class(2) == Some(OpenParen) && self.class(1) == Some(OpenBrace) {
-            let function = self.trees.len() - 4;
-            let line = trees[self.trees[function].0][4] == 1;
-            return !self.opens_object(function, line);
+        if self.class(2) == Some(OpenParen) && self.class(1) == Some(OpenBrace) {
+            let function = match (self.class(4), self.class(3)) {
+                (Some(Function), Some(Name)) => Some(self.trees.len() - 4),
+                (_, Some(Function)) => Some(self.trees.len() - 3),
+                _ => None,
+            };
+            if let Some(function) = function {
+                let line = trees[self.trees[function].0][4] == 1;
+                return !self.opens_object(function, line);
+            }
         }
         match self.class(1) {
             None => true,
-            Some(Divide | Plus | Assign | Colon | Semicolon | Dot) => true,
+            Some(Divide | Plus | Assign | Colon | Semicolon | Dot | Comma) => true,
             Some(Return | Function | If) => true,
             Some(OpenParen) => self.class(2) == Some(If),
             Some(OpenBrace) => trees[self.trees[self.trees.len() - 1].0][0] == BLOCK,
-            Some(Name | WordAsName | Number | Text | Pattern) => false,
-            Some(CloseParen | CloseBrace | BarredWord) => unreachable!("no tree"),
+            Some(Name | WordAsName | Number | Text | Pattern | OpenBracket) => false,
+            Some(CloseParen | CloseBrace | CloseBracket | BarredWord) => unreachable!("no tree"),
         }
     }
 
-    /// What an element is here: a reserved word whose last tree is a dot becomes a name; elsewhere one that is not taken is refused.
+    /// What an element is here: a reserved word whose last tree is a dot, and one that stands first or after a comma in an object brace, becomes a
+    /// name; elsewhere one that is not taken is refused.
     fn settled(&self, found: Element) -> Result<Element, Fault> {
-        match (found.class, self.class(1)) {
-            (Class::Return | Class::Function | Class::If | Class::BarredWord, Some(Class::Dot)) => Ok(Element { class: Class::WordAsName, ..found }),
-            (Class::BarredWord, _) => Err((7, found.first)),
+        let named = match self.class(1) {
+            Some(Class::Dot) => true,
+            Some(Class::Comma) | None => self.object,
+            _ => false,
+        };
+        match found.class {
+            Class::Return | Class::Function | Class::If | Class::BarredWord if named => Ok(Element { class: Class::WordAsName, ..found }),
+            Class::BarredWord => Err((7, found.first)),
             _ => Ok(found),
         }
     }
@@ -79,7 +93,7 @@ pub fn reading(text: &[u8], room: usize) -> Result<Reading, Fault> {
     let room = room.min(MOST_TREES);
     let mut trees: Vec<Tree> = Vec::new();
     let mut elements = Vec::new();
-    let mut levels = vec![Level { opener: None, expression: false, trees: Vec::new() }];
+    let mut levels = vec![Level { opener: None, expression: false, object: false, trees: Vec::new() }];
     let mut from = 0;
     loop {
         let depth = levels.len() - 1;
@@ -94,10 +108,14 @@ pub fn reading(text: &[u8], room: usize) -> Result<Reading, Fault> {
         let found = level.settled(element(text, at, line, level.opens_pattern(&trees))?)?;
         from = found.end;
         match found.class {
-            Class::CloseParen | Class::CloseBrace => {
-                let parentheses = found.class == Class::CloseParen;
+            Class::CloseParen | Class::CloseBrace | Class::CloseBracket => {
+                let kinds: &[u32] = match found.class {
+                    Class::CloseParen => &[PARENTHESES],
+                    Class::CloseBracket => &[BRACKETS],
+                    _ => &[OBJECT, BLOCK],
+                };
                 match level.opener {
-                    Some(opener) if (trees[opener][0] == PARENTHESES) == parentheses => {
+                    Some(opener) if kinds.contains(&trees[opener][0]) => {
                         trees[opener][2] = found.end as u32;
                         trees[opener][3] = (trees.len() - opener) as u32;
                         levels.pop();
@@ -105,7 +123,7 @@ pub fn reading(text: &[u8], room: usize) -> Result<Reading, Fault> {
                     _ => return Err((10, at)),
                 }
             }
-            Class::OpenParen | Class::OpenBrace => {
+            Class::OpenParen | Class::OpenBrace | Class::OpenBracket => {
                 if depth == DEEPEST {
                     return Err((9, at));
                 }
@@ -114,11 +132,12 @@ pub fn reading(text: &[u8], room: usize) -> Result<Reading, Fault> {
                 }
                 let kind = match found.class {
                     Class::OpenParen => PARENTHESES,
+                    Class::OpenBracket => BRACKETS,
                     _ if level.opens_object(level.trees.len(), line) => OBJECT,
                     _ => BLOCK,
                 };
                 level.trees.push((trees.len(), found.class));
-                levels.push(Level { opener: Some(trees.len()), expression: kind != BLOCK, trees: Vec::new() });
+                levels.push(Level { opener: Some(trees.len()), expression: kind != BLOCK, object: kind == OBJECT, trees: Vec::new() });
                 trees.push([kind, at as u32, 0, 0, line as u32]);
             }
             _ => {
@@ -137,8 +156,7 @@ pub fn reading(text: &[u8], room: usize) -> Result<Reading, Fault> {
 pub fn respaced(text: &[u8], elements: &[Element]) -> Vec<u8> {
     let mut output = Vec::new();
     for (index, element) in elements.iter().enumerate() {
-        let closer = matches!(element.class, Class::CloseParen | Class::CloseBrace);
-        if element.line && !closer {
+        if element.line && !element.is_closer() {
             output.push(0x0a);
         } else if index > 0 {
             output.push(0x20);

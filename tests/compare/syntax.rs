@@ -20,7 +20,7 @@ pub fn syntax_tree(elements: &[Element]) -> Result<Vec<Record>, usize> {
     let mut count = 0;
     for element in elements {
         marks.push(count);
-        if !matches!(element.class, Class::CloseParen | Class::CloseBrace) {
+        if !element.is_closer() {
             count += 1;
         }
     }
@@ -55,7 +55,8 @@ impl Descent<'_> {
 
     fn declaration_or_statement(&mut self, at: usize) -> Step {
         if self.class(at) == Some(Class::Function) {
-            self.function(at, 19)
+            let next = self.expect(at + 1, Class::Name)?;
+            self.function(at, next, 19)
         } else {
             self.statement(at)
         }
@@ -107,12 +108,18 @@ impl Descent<'_> {
         }
     }
 
-    fn function(&mut self, at: usize, kind: u32) -> Step {
+    /// A function whose word stands at `at`, from its parameters on.
+    fn function(&mut self, at: usize, parameters: usize, kind: u32) -> Step {
         let start = self.records.len();
-        let mut next = at + 1;
-        for class in [Class::Name, Class::OpenParen, Class::Name, Class::CloseParen, Class::OpenBrace] {
-            next = self.expect(next, class)?;
+        let mut next = self.expect(parameters, Class::OpenParen)?;
+        if self.class(next) != Some(Class::CloseParen) {
+            next = self.expect(next, Class::Name)?;
+            while self.class(next) == Some(Class::Comma) {
+                next = self.expect(next + 1, Class::Name)?;
+            }
         }
+        next = self.expect(next, Class::CloseParen)?;
+        next = self.expect(next, Class::OpenBrace)?;
         while self.class(next) != Some(Class::CloseBrace) {
             next = self.declaration_or_statement(next)?;
         }
@@ -124,6 +131,51 @@ impl Descent<'_> {
         let next = self.expect(at, Class::OpenParen)?;
         let next = self.assign(next)?;
         self.expect(next, Class::CloseParen)
+    }
+
+    /// Arguments behind their `(`.
+    fn arguments(&mut self, at: usize) -> Step {
+        let mut next = at;
+        if self.class(next) != Some(Class::CloseParen) {
+            next = self.assign(next)?;
+            while self.class(next) == Some(Class::Comma) {
+                next = self.assign(next + 1)?;
+            }
+        }
+        self.expect(next, Class::CloseParen)
+    }
+
+    /// Elements of an array behind its `[`: holes are commas where an element would stand.
+    fn array(&mut self, at: usize) -> Step {
+        let mut next = at;
+        loop {
+            match self.class(next) {
+                Some(Class::CloseBracket) => return Ok(next + 1),
+                Some(Class::Comma) => next += 1,
+                _ => {
+                    next = self.assign(next)?;
+                    if self.class(next) != Some(Class::CloseBracket) {
+                        next = self.expect(next, Class::Comma)?;
+                    }
+                }
+            }
+        }
+    }
+
+    /// Properties behind the `{` of an object.
+    fn properties(&mut self, at: usize) -> Step {
+        let mut next = at;
+        while self.class(next) != Some(Class::CloseBrace) {
+            if !matches!(self.class(next), Some(Class::Name | Class::WordAsName)) {
+                return Err(next);
+            }
+            next = self.expect(next + 1, Class::Colon)?;
+            next = self.assign(next)?;
+            if self.class(next) != Some(Class::CloseBrace) {
+                next = self.expect(next, Class::Comma)?;
+            }
+        }
+        Ok(next + 1)
     }
 
     fn assign(&mut self, at: usize) -> Step {
@@ -162,8 +214,14 @@ impl Descent<'_> {
             match self.class(next) {
                 Some(Class::OpenParen) => {
                     let group = next;
-                    next = self.parenthesised(group)?;
+                    next = self.arguments(group + 1)?;
                     self.made(9, group, start);
+                }
+                Some(Class::OpenBracket) => {
+                    let group = next;
+                    next = self.assign(group + 1)?;
+                    next = self.expect(next, Class::CloseBracket)?;
+                    self.made(22, group, start);
                 }
                 Some(Class::Dot) => {
                     let name = next + 1;
@@ -186,14 +244,13 @@ impl Descent<'_> {
             Some(Class::Text) => 3,
             Some(Class::Pattern) => 4,
             Some(Class::OpenBrace) => {
-                let mut next = at + 1;
-                if self.class(next) != Some(Class::CloseBrace) {
-                    next = self.expect(next, Class::Name)?;
-                    next = self.expect(next, Class::Colon)?;
-                    next = self.assign(next)?;
-                }
-                next = self.expect(next, Class::CloseBrace)?;
+                let next = self.properties(at + 1)?;
                 self.made(5, at, start);
+                return Ok(next);
+            }
+            Some(Class::OpenBracket) => {
+                let next = self.array(at + 1)?;
+                self.made(21, at, start);
                 return Ok(next);
             }
             Some(Class::OpenParen) => {
@@ -201,7 +258,10 @@ impl Descent<'_> {
                 self.made(6, at, start);
                 return Ok(next);
             }
-            Some(Class::Function) => return self.function(at, 7),
+            Some(Class::Function) => {
+                let named = self.class(at + 1) == Some(Class::Name);
+                return self.function(at, at + 1 + usize::from(named), 7);
+            }
             _ => return Err(at),
         };
         self.made(leaf, at, start);

@@ -30,7 +30,7 @@ impl Random {
 
 /// The pieces whose every short sequence is compared.
 pub const PIECES: &[&str] = &[
-    "a", "1", "'s'", "/", "/a/", "+", "=", ":", ";", ".", "(", ")", "{", "}", "return", "function", "if", "while", "\n", "/*c*/", "//c\n",
+    "a", "1", "'s'", "/", "/a/", "+", "=", ":", ";", ".", ",", "(", ")", "{", "}", "[", "]", "return", "function", "if", "while", "\n", "/*c*/", "//c\n",
 ];
 
 /// Pieces for longer random sequences: the same, and whole phrases.
@@ -38,6 +38,7 @@ const PHRASES: &[&str] = &[
     "a", "b", "1", "0", "'s'", "\"/\"", "/", "/", "/a/", "/[/]/g", "+", "=", ":", ";", ";", ".", "(", ")", "{", "}", "return", "function", "if", "\n",
     "\r", "\t", "/*c*/", "/*\n*/", "//c\n", "if(a)", "function f(x){}", "function f(x){", "{}", "(a)", "{a:1}", "{a:", "a:", "x=", "a;", ".b", "return;",
     "return a;", "while", "++", "/=", ".5", "1.", "'", "#", "\u{7f}", ".if", ".return", ".function", ".while", "a.if(b)", ".\nclass", "./*c*/if(b)", ".//c\nin",
+    ",", ",", "[", "]", "[a]", "[,]", "(a,b)", "()", "function(){}", "function(a,b){", "{a:1,b:2,}", "{if:a,", ",in:b", ",{}", "[a,,b,]", ",/a/",
 ];
 
 const NAMES: &[&str] = &["a", "b", "f", "$", "_x1", "ifx", "returns", "x", "nulls", "i"];
@@ -122,10 +123,76 @@ impl Maker<'_> {
     }
 
     fn function(&mut self) {
-        let (name, parameter) = (self.random.of(NAMES), self.random.of(NAMES));
-        self.put(&["function", name, "(", parameter, ")", "{"]);
+        let name = self.random.of(NAMES);
+        self.put(&["function", name]);
+        self.parameters_and_body();
+    }
+
+    fn parameters_and_body(&mut self) {
+        self.put(&["("]);
+        for index in 0..self.random.below(4) {
+            if index > 0 {
+                self.put(&[","]);
+            }
+            let name = self.random.of(NAMES);
+            self.put(&[name]);
+        }
+        self.put(&[")", "{"]);
         self.open += 1;
         self.list(true);
+        self.open -= 1;
+        self.put(&["}"]);
+    }
+
+    fn arguments(&mut self) {
+        self.put(&["("]);
+        self.open += 1;
+        for index in 0..self.random.below(4) {
+            if index > 0 {
+                self.put(&[","]);
+            }
+            self.assign(false);
+        }
+        self.open -= 1;
+        self.put(&[")"]);
+    }
+
+    fn index(&mut self) {
+        self.put(&["["]);
+        self.open += 1;
+        self.assign(false);
+        self.open -= 1;
+        self.put(&["]"]);
+    }
+
+    fn array(&mut self) {
+        self.put(&["["]);
+        self.open += 1;
+        for _ in 0..self.random.below(4) {
+            if !self.random.one_in(4) {
+                self.assign(false);
+            }
+            self.put(&[","]);
+        }
+        if self.random.one_in(2) {
+            self.assign(false);
+        }
+        self.open -= 1;
+        self.put(&["]"]);
+    }
+
+    fn object(&mut self) {
+        self.put(&["{"]);
+        self.open += 1;
+        let count = self.random.below(4);
+        for index in 0..count {
+            let name = if self.random.one_in(3) { self.random.of(&words()) } else { self.random.of(NAMES) };
+            self.put(&[name, ":"]);
+            self.assign(false);
+            if index + 1 < count || self.random.one_in(4) {
+                self.put(&[","]);
+            }
+        }
         self.open -= 1;
         self.put(&["}"]);
     }
@@ -152,7 +219,7 @@ impl Maker<'_> {
     }
 
     fn chain(&mut self, statement: bool) {
-        let choice = if self.small() { 0 } else { self.random.below(10) };
+        let choice = if self.small() { 0 } else { self.random.below(12) };
         match choice {
             4 => {
                 let number = self.random.of(NUMBERS);
@@ -167,29 +234,26 @@ impl Maker<'_> {
                 self.put(&[pattern]);
             }
             7 => self.parentheses(),
-            8 if !statement => {
-                self.put(&["{"]);
-                if !self.random.one_in(3) {
-                    let name = self.random.of(NAMES);
-                    self.put(&[name, ":"]);
-                    self.open += 1;
-                    self.assign(false);
-                    self.open -= 1;
-                }
-                self.put(&["}"]);
-            }
+            8 if !statement => self.object(),
             9 if !statement => self.function(),
+            10 if !statement => {
+                self.put(&["function"]);
+                self.parameters_and_body();
+            }
+            11 => self.array(),
             _ => {
                 let name = self.random.of(NAMES);
                 self.put(&[name]);
             }
         }
         while !self.small() && self.random.one_in(3) {
-            if self.random.one_in(2) {
-                self.parentheses();
-            } else {
-                let name = if self.random.one_in(3) { self.random.of(&words()) } else { self.random.of(NAMES) };
-                self.put(&[".", name]);
+            match self.random.below(3) {
+                0 => self.arguments(),
+                1 => self.index(),
+                _ => {
+                    let name = if self.random.one_in(3) { self.random.of(&words()) } else { self.random.of(NAMES) };
+                    self.put(&[".", name]);
+                }
             }
         }
     }
@@ -242,7 +306,7 @@ pub fn program(random: &mut Random, size: usize) -> Vec<u8> {
 
 /// Damages a text in one place.
 pub fn damage(random: &mut Random, text: &mut Vec<u8>) {
-    const BYTES: &[u8] = b"a1'\"/+=:;.(){}\n\r \\[]*#_0\t\0\x7f\xc3,<if";
+    const BYTES: &[u8] = b"a1'\"/+=:;.(){}\n\r \\[]*#_0\t\0\x7f\xc3,,[]<if";
     let byte = BYTES[random.below(BYTES.len())];
     let at = random.below(text.len() + 1);
     match random.below(8) {
@@ -321,9 +385,43 @@ pub fn words_after_dots() -> Vec<Vec<u8>> {
     texts
 }
 
+/// Each reserved word in braces and lists: first or behind a comma, or neither, with each gap before it; in objects, and in what is none.
+pub fn words_in_braces() -> Vec<Vec<u8>> {
+    const FORMS: &[(&str, &str)] = &[
+        ("x={", ":a};"),
+        ("x={a:b,", ":c};"),
+        ("x={a:b,", ":c,};"),
+        ("x={a:", "};"),
+        ("x={a ", ":b};"),
+        ("x={a:(b,", ")};"),
+        ("x={a:[", "]};"),
+        ("x={", "/a/b};"),
+        ("x={", "(a)/b/c};"),
+        ("x={", "{}/a/};"),
+        ("x={a:b,", "(c)/d/e};"),
+        ("x={", ""),
+        ("{", ":a;}"),
+        ("{a,", ":b;}"),
+        ("f(a,", ");"),
+        ("[a,", "];"),
+        ("[", "];"),
+        ("f(", ");"),
+        ("f({a:b},{c:d,", ":e});"),
+    ];
+    let mut texts = Vec::new();
+    for word in words() {
+        for (before, after) in FORMS {
+            for gap in ["", "\n", "/*c*/", "//c\n"] {
+                texts.push([before, gap, word, after].concat().into_bytes());
+            }
+        }
+    }
+    texts
+}
+
 /// Random bytes: of all, or of those that make elements.
 pub fn bytes(random: &mut Random, count: usize) -> Vec<u8> {
-    const BYTES: &[u8] = b"aab10'\"//**+=:;.(){}[]\\\n \rif";
+    const BYTES: &[u8] = b"aab10'\"//**+=:;.,,(){}[]\\\n \rif";
     let all = random.one_in(4);
     (0..count).map(|_| if all { random.next() as u8 } else { BYTES[random.below(BYTES.len())] }).collect()
 }
@@ -357,6 +455,16 @@ pub fn longest_runs() -> Vec<(&'static str, Vec<u8>)> {
         run("members", "a", ".a", 2, ";", 2),
         run("words as members", "a", ".in", 2, ";", 2),
         run("members and calls", "a", ".a(b)", 4, ";", 2),
+        run("empty calls", "a", "()", 1, ";", 2),
+        run("indexes", "a", "[a]", 2, ";", 2),
+        run("arguments", "a(", "a,", 2, "a);", 4),
+        run("elements", "[", "a,", 2, "];", 2),
+        run("holes", "[", ",", 1, "];", 2),
+        run("properties", "x={", "a:a,", 4, "};", 4),
+        run("words as properties", "x={", "in:a,", 4, "};", 4),
+        run("parameters", "function f(", "a,", 2, "a){}", 5),
+        run("divided elements", "[", "a/a,", 4, "];", 2),
+        run("assigned elements", "[", "a=a,", 4, "];", 2),
         run("divides", "a", "/a", 2, ";", 2),
         run("pluses", "a", "+a", 2, ";", 2),
         run("operators", "a", "/a+a", 4, ";", 2),
@@ -375,6 +483,11 @@ pub fn longest_runs() -> Vec<(&'static str, Vec<u8>)> {
         ("functions within", nested("", "function f(a){", b"a;", "}", "")),
         ("functions in expressions", nested("", "a=function f(a){", b"a;", "};", "")),
         ("calls within", nested("a", "(a", b"", ")", ";")),
+        ("arrays within", nested("", "[", b"", "]", ";")),
+        ("lists within", nested("", "[a,", &repeated("", "a,", (MOST_TREES - 5 * DEEPEST - 2) / 2, ""), ",a]", ";")),
+        ("indexes within", nested("a", "[a", b"", "]", ";")),
+        ("arguments within", almost("a(a", ",b(a", b"", ")", ");")),
+        ("unnamed functions within", within(DEEPEST / 2, "", "a(b,function(){", b"a;", "});", "")),
         ("divided calls within", nested("a", "/a+a(a", b"", ")", ";")),
         ("labels, blocks and a run", almost("", "{a:if(a)", &repeated("", "a:", (MOST_TREES - 6 * DEEPEST - 2) / 2, "a;"), "}", "")),
         ("parentheses and a run", nested("x=", "a=(", &repeated("", "a=", (MOST_TREES - 3 * DEEPEST - 4) / 2, "a"), ")", ";")),
@@ -398,6 +511,9 @@ pub fn refused_runs() -> Vec<(&'static str, Vec<u8>)> {
         ("assignments and an open divide", repeated("", "a=", MOST_TREES / 2 - 1, "a/")),
         ("operators and no operand", repeated("a", "/a+a", MOST_TREES / 4 - 1, "/")),
         ("calls and no semicolon", repeated("a", "(a)", (MOST_TREES - 1) / 2, "")),
+        ("elements and no bracket but a comma", repeated("a([", "a,", (MOST_TREES - 5) / 2, "],);")),
+        ("properties and a comma", repeated("x={", "a:a,", (MOST_TREES - 5) / 4, ",};")),
+        ("arrays and an open divide", nested(DEEPEST, "[a,", &repeated("", "a=", (MOST_TREES - 3 * DEEPEST - 2) / 2, "a/"), "]")),
         ("functions and an open function", repeated("", "function f(a){}", MOST_TREES / 5 - 1, "function f(a)")),
         ("parentheses and no operand", nested(DEEPEST, "a=(", &repeated("", "a=", (MOST_TREES - 3 * DEEPEST) / 2, ""), ")")),
         ("operators, functions and an open divide", nested(DEEPEST, "a+a/function f(a){", &repeated("", "a=", 7_740, "a+a/"), "}")),
@@ -421,9 +537,9 @@ pub fn limits() -> Vec<Vec<u8>> {
         texts.push(repeated("a=/[", "/", length - 7, "]/;"));
     }
     for depth in [DEEPEST - 1, DEEPEST, DEEPEST + 1, DEEPEST + 30] {
-        for (open, close) in [("(", ")"), ("{", "}"), ("({", "})"), ("{(", ")}"), ("x={a:", "}"), ("function f(x){", "}")] {
-            let times = depth / open.matches(['(', '{']).count().min(close.len());
-            for inside in ["", "a", "a;", "(", "{", ")", "/"] {
+        for (open, close) in [("(", ")"), ("{", "}"), ("[", "]"), ("({", "})"), ("{(", ")}"), ("[{", "}]"), ("x={a:", "}"), ("function f(x){", "}")] {
+            let times = depth / open.matches(['(', '{', '[']).count().min(close.len());
+            for inside in ["", "a", "a;", "(", "{", "[", ")", "]", ",", "/"] {
                 let mut text = repeated("", open, times, inside);
                 text.extend(repeated("", close, times, ""));
                 texts.push(text.clone());
@@ -434,7 +550,7 @@ pub fn limits() -> Vec<Vec<u8>> {
         }
     }
     for count in [MOST_TREES - 1, MOST_TREES, MOST_TREES + 1] {
-        for (run, trees, last) in [("a;", 2, "a"), (";", 1, ""), ("a ", 1, ""), ("()", 1, ""), ("{a}", 2, "1"), ("a+", 2, "a"), ("+", 0, ""), ("1\n", 1, "")] {
+        for (run, trees, last) in [("a;", 2, "a"), (";", 1, ""), ("a ", 1, ""), ("()", 1, ""), ("[]", 1, ""), (",", 1, ""), ("{a}", 2, "1"), ("a+", 2, "a"), ("+", 0, ""), ("1\n", 1, "")] {
             if trees > 0 {
                 let rest = count % trees;
                 texts.push(repeated("", run, count / trees, if rest == 0 { "" } else { last }));

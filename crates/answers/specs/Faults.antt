@@ -22,7 +22,7 @@ openComment = 5
 abbrev pub badNumber : ℕ
 badNumber = 6
 
--- "reserved word not taken here", unless it is a name (document 02, U1); place: its first byte
+-- "reserved word not taken here", unless it is a name (document 02, U1 and U2); place: its first byte
 abbrev pub barredWord : ℕ
 barredWord = 7
 

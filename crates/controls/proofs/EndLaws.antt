@@ -1,39 +1,56 @@
--- The classes that end a level: a closer is one of three, and at any other class the entries for closers are passed over.
+-- The classes that open a group are three, and those that end a level four; at any other class the entries for closers are passed over.
 use mathlib.Core.Path.{_≡_, refl, sym, subst}
 use mathlib.Core.Bool.{Bool, true, false, _||_}
 use Prim.Native.Nat.{ℕ}
 use borrow.Author.Tests.{eqb-true}
 use lib.Dec.{T, eqb}
-use Rattle.grammar.specs.Tokens.{closeParen, closeBrace}
+use Rattle.grammar.specs.Tokens.{openParen, closeParen, openBrace, closeBrace, openBracket, closeBracket}
 use Rattle.grammar.specs.Machinery.Machine.{endOfText, Control, Action, fail}
 use Rattle.controls.specs.declared.Step.{Step}
 use Rattle.controls.specs.declared.Step.the-variants.{Fail}
-use Rattle.controls.specs.Machinery.Steps.{isEnd, Means, means-end, means-fail}
+use Rattle.controls.specs.Machinery.Steps.{isOpener, isEnd, Means, means-end, means-fail}
 
--- what holds of the three closers holds of each class that ends a level
-pub at-closers : (P : ℕ → Type 0) → P closeParen → P closeBrace → P endOfText → (class : ℕ) → T (isEnd class) → P class
-at-closers P paren brace text class end = go (eqb class closeParen) (eqb class closeBrace) (eqb class endOfText) refl refl refl end
+-- what holds of the three openers holds of each class that opens a group
+pub at-openers : (P : ℕ → Type 0) → P openParen → P openBrace → P openBracket → (class : ℕ) → T (isOpener class) → P class
+at-openers P paren brace bracket class opens = go (eqb class openParen) (eqb class openBrace) (eqb class openBracket) refl refl refl opens
   where
-    go : (a b c : Bool) → eqb class closeParen ≡ a → eqb class closeBrace ≡ b → eqb class endOfText ≡ c → T (a || (b || c)) → P class
-    go true b c d e f end = rw (eqb-true class closeParen d) paren
-    go false true c d e f end = rw (eqb-true class closeBrace e) brace
-    go false false true d e f end = rw (eqb-true class endOfText f) text
-    go false false false d e f end = absurd end
+    go : (a b c : Bool) → eqb class openParen ≡ a → eqb class openBrace ≡ b → eqb class openBracket ≡ c → T (a || (b || c)) → P class
+    go true b c d e f opens = rw (eqb-true class openParen d) paren
+    go false true c d e f opens = rw (eqb-true class openBrace e) brace
+    go false false true d e f opens = rw (eqb-true class openBracket f) bracket
+    go false false false d e f opens = absurd opens
+
+-- what holds of the four closers holds of each class that ends a level
+pub at-closers : (P : ℕ → Type 0) → P closeParen → P closeBrace → P closeBracket → P endOfText → (class : ℕ) → T (isEnd class) → P class
+at-closers P paren brace bracket text class end =
+    go (eqb class closeParen) (eqb class closeBrace) (eqb class closeBracket) (eqb class endOfText) refl refl refl refl end
+  where
+    go : (a b c d : Bool) → eqb class closeParen ≡ a → eqb class closeBrace ≡ b → eqb class closeBracket ≡ c → eqb class endOfText ≡ d
+        → T (a || (b || (c || d))) → P class
+    go true b c d e f g h end = rw (eqb-true class closeParen e) paren
+    go false true c d e f g h end = rw (eqb-true class closeBrace f) brace
+    go false false true d e f g h end = rw (eqb-true class closeBracket g) bracket
+    go false false false true e f g h end = rw (eqb-true class endOfText h) text
+    go false false false false e f g h end = absurd end
 
 -- a class that ends no level is none of them
 pub record NoCloser (class : ℕ) : Type 0 where
   pub no-paren : eqb class closeParen ≡ false
   pub no-brace : eqb class closeBrace ≡ false
+  pub no-bracket : eqb class closeBracket ≡ false
   pub no-text : eqb class endOfText ≡ false
 
 no-closer : (class : ℕ) → isEnd class ≡ false → NoCloser class
-no-closer class e = go (eqb class closeParen) (eqb class closeBrace) (eqb class endOfText) refl refl refl (λ end. subst T e end)
+no-closer class none =
+    go (eqb class closeParen) (eqb class closeBrace) (eqb class closeBracket) (eqb class endOfText) refl refl refl refl (λ end. subst T none end)
   where
-    go : (a b c : Bool) → eqb class closeParen ≡ a → eqb class closeBrace ≡ b → eqb class endOfText ≡ c → (T (a || (b || c)) → ⊥) → NoCloser class
-    go true b c d e f none = absurd (none tt)
-    go false true c d e f none = absurd (none tt)
-    go false false true d e f none = absurd (none tt)
-    go false false false d e f none = record { no-paren = d; no-brace = e; no-text = f }
+    go : (a b c d : Bool) → eqb class closeParen ≡ a → eqb class closeBrace ≡ b → eqb class closeBracket ≡ c → eqb class endOfText ≡ d
+        → (T (a || (b || (c || d))) → ⊥) → NoCloser class
+    go true b c d e f g h none = absurd (none tt)
+    go false true c d e f g h none = absurd (none tt)
+    go false false true d e f g h none = absurd (none tt)
+    go false false false true e f g h none = absurd (none tt)
+    go false false false false e f g h none = record { no-paren = e; no-brace = f; no-bracket = g; no-text = h }
 
 -- a step that does nothing says nothing of a closer
 says-nothing : {from : Control} {class : ℕ} {step : Step} {other : Action} → T (isEnd class) → Means from class step fail

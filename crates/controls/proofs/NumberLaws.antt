@@ -6,8 +6,8 @@ use native.Mathlib.Omega.{arith}
 use borrow.Author.Tests.{eq-eqb, ne-eqb, eqb-false}
 use lib.Dec.{T, eqb, ltb, ltb→lt}
 use Rattle.grammar.specs.Grammar.{body, block}
-use Rattle.grammar.specs.Machinery.Machine.{ifNest, among, inNest, byStatement, byReturn, byParen, byBrace, finished}
-use Rattle.controls.specs.Machinery.Numbers.{settingBy, endingBy, controlBy}
+use Rattle.grammar.specs.Machinery.Machine.{ifNest, among, inNest, Ending, byStatement, byReturn, byParen, byBracket, byItem, finished}
+use Rattle.controls.specs.Machinery.Numbers.{settingBy, itemsBy, endingBy, controlBy}
 
 -- numbers that are passed one by one
 pub beyond : (k n : ℕ) → k ≤ n → (n ≡ k → ⊥) → k + 1 ≤ n
@@ -31,21 +31,26 @@ module _ (setting : ℕ) where
   nest-setting h = rw (ne-eqb setting 0 (λ e. omega arith), ne-eqb setting 1 (λ e. omega arith))
 
 module _ (ending setting : ℕ) where
-  -- an expression in a group, and in a statement
-  pub group-ending : (ending ≡ 0 → ⊥) → (ending ≡ 1 → ⊥) → endingBy ending setting ≡ cond (eqb ending 2) byParen byBrace
+  -- an expression in a group, of a list, and in a statement
+  pub group-ending : (ending ≡ 0 → ⊥) → (ending ≡ 1 → ⊥)
+      → endingBy ending setting ≡ cond (eqb ending 2) byParen (cond (eqb ending 3) byBracket (byItem (itemsBy ending)))
   unfolding endingBy
   group-ending a b = rw (ne-eqb ending 0 a, ne-eqb ending 1 b)
+
+  pub item-ending : 4 ≤ ending → endingBy ending setting ≡ byItem (itemsBy ending)
+  unfolding endingBy
+  item-ending h = rw (ne-eqb ending 0 (λ e. omega arith), ne-eqb ending 1 (λ e. omega arith), ne-eqb ending 2 (λ e. omega arith), ne-eqb ending 3 (λ e. omega arith))
 
   pub statement-ending : ending < 2
       → endingBy ending setting ≡ cond (eqb ending 0) (byStatement (settingBy setting)) (byReturn (settingBy setting))
   unfolding endingBy
-  statement-ending h = go (eqb ending 0) refl
+  statement-ending h = go _ (eqb ending 0) refl
     where
-      go : (b : Bool) → eqb ending 0 ≡ b
-          → cond b (byStatement (settingBy setting)) (cond (eqb ending 1) (byReturn (settingBy setting)) (cond (eqb ending 2) byParen byBrace))
+      go : (other : Ending) (b : Bool) → eqb ending 0 ≡ b
+          → cond b (byStatement (settingBy setting)) (cond (eqb ending 1) (byReturn (settingBy setting)) other)
           ≡ cond b (byStatement (settingBy setting)) (byReturn (settingBy setting))
-      go true e = refl
-      go false e = let other = eqb-false ending 0 e in rw (eq-eqb ending 1 (omega (arith, other)))
+      go other true e = refl
+      go other false e = let some = eqb-false ending 0 e in rw (eq-eqb ending 1 (omega (arith, some)))
 
 module _ (place ending setting : ℕ) (flag : Bool) where
   -- no place has a number past the last

@@ -7,8 +7,8 @@ use native.Mathlib.Omega.{arith}
 use borrow.Author.Tests.{ne-eqb, eqb-true, eqb-false}
 use lib.Dec.{T, eqb, leb, ltb, leb→le, ltb→lt}
 use Rattle.text.proofs.Range.{and-left, and-right}
-use Rattle.grammar.specs.Tokens.{name, assign, colon, semicolon, dot, openParen, openBrace, returnWord, functionWord, ifWord}
-use Rattle.grammar.specs.Grammar.{body, block, Operator, operator, operators, precedenceAmong, precedence}
+use Rattle.grammar.specs.Tokens.{name, assign, colon, semicolon, dot, comma, openParen, openBrace, openBracket, returnWord, functionWord, ifWord}
+use Rattle.grammar.specs.Grammar.{Items, callArguments, arrayElements, objectProperties, body, block, Operator, operator, operators, precedenceAmong, precedence}
 use Rattle.grammar.specs.Machinery.Machine.{
   ifNest,
   Setting,
@@ -18,12 +18,14 @@ use Rattle.grammar.specs.Machinery.Machine.{
   byStatement,
   byReturn,
   byParen,
-  byBrace,
+  byBracket,
+  byItem,
   Control,
   statementDue,
   nameFirst,
   operandDue,
   operandDone,
+  itemDue,
   takeLeaf,
   takeOperator,
   takeLabel,
@@ -35,14 +37,17 @@ use Rattle.grammar.specs.Machinery.Machine.{
   leaves,
   operand,
   noStatement,
+  noParameter,
   operatorRow,
-  endingEntry,
+  behindComma,
+  endingRow,
   besidesOperators,
   afterOperand,
   row,
 }
 use Rattle.controls.specs.declared.Step.{Step}
-use Rattle.controls.specs.Machinery.Steps.{isLeaf, isSingle, Means}
+use Rattle.controls.specs.Machinery.Numbers.{itemsBy, endingBy}
+use Rattle.controls.specs.Machinery.Steps.{isLeaf, isEnd, isSingle, Means}
 use Rattle.controls.proofs.EndLaws.{NoCloser, at-closers, besides-closers}
 
 leaf-few : (class : ℕ) → isLeaf class ≡ true → (1 ≤ class) × (class ≤ 4)
@@ -70,10 +75,10 @@ not-leaf : (class k : ℕ) → isLeaf k ≡ true → isLeaf class ≡ false → 
 not-leaf class k t f = ne-eqb class k (λ e. subst T (sym t ∙ ap isLeaf (sym e) ∙ f) tt)
 
 -- a class that starts no operand
-pub no-operand : (class : ℕ) (ending : Ending) (target : Bool) → isLeaf class ≡ false → (class ≡ openParen → ⊥) → (class ≡ openBrace → ⊥)
+pub no-operand : (class : ℕ) (ending : Ending) (target : Bool) → isLeaf class ≡ false → (class ≡ openParen → ⊥) → (class ≡ openBrace → ⊥) → (class ≡ openBracket → ⊥)
     → (class ≡ functionWord → ⊥) → look class (operand ending target) ≡ fail
-no-operand class ending target f a b d =
-    simp (not-leaf class 1 refl f, not-leaf class 2 refl f, not-leaf class 3 refl f, not-leaf class 4 refl f, ne-eqb class openParen a, ne-eqb class openBrace b, ne-eqb class functionWord d)
+no-operand class ending target f a b d e =
+    simp (not-leaf class 1 refl f, not-leaf class 2 refl f, not-leaf class 3 refl f, not-leaf class 4 refl f, ne-eqb class openParen a, ne-eqb class openBrace b, ne-eqb class openBracket d, ne-eqb class functionWord e)
 
 -- where a statement is due, a class that starts no statement of its own starts an operand, or ends the level
 module _ {class : ℕ} (no-name : class ≡ name → ⊥) (no-if : class ≡ ifWord → ⊥) (no-return : class ≡ returnWord → ⊥)
@@ -98,7 +103,7 @@ module _ {class : ℕ} (no-name : class ≡ name → ⊥) (no-if : class ≡ ifW
   statement-operand must setting newline m =
       rw (statement-leaves must setting newline)
       (besides-closers (rw (only-leaves (byStatement setting) true) at m)
-      (at-closers (λ (k : ℕ). look k (leaves (byStatement setting) true []) ≡ fail) refl refl refl class)
+      (at-closers (λ (k : ℕ). look k (leaves (byStatement setting) true []) ≡ fail) refl refl refl refl class)
       (λ h. rw (nothing-else must setting h)))
 
 -- `function` declares nothing in a block or a nest
@@ -111,10 +116,42 @@ pub label-row : (class : ℕ) (setting : Setting) (newline : Bool) → class ≡
     → look class (row (nameFirst setting) newline) ≡ look class (on colon (goto (statementDue true setting) takeLabel) ∷ [])
 label-row class setting newline e = rw e
 
--- `;` ends no group
-pub semicolon-group : (b : Bool) → look semicolon (endingEntry (cond b byParen byBrace) ∷ []) ≡ fail
-semicolon-group true = refl
-semicolon-group false = refl
+-- `;` ends no group and no item; `,` ends items alone
+pub semicolon-nowhere : (a b : Bool) (items : Items) → look semicolon (endingRow (cond a byParen (cond b byBracket (byItem items)))) ≡ fail
+semicolon-nowhere true b items = refl
+semicolon-nowhere false true items = refl
+semicolon-nowhere false false callArguments = refl
+semicolon-nowhere false false arrayElements = refl
+semicolon-nowhere false false objectProperties = refl
+
+pub comma-nowhere : (ending setting : ℕ) → ending ≤ 3 → look comma (endingRow (endingBy ending setting)) ≡ fail
+unfolding endingBy
+comma-nowhere ending setting h = go ending h
+  where
+    go : (k : ℕ) → k ≤ 3 → look comma (endingRow (endingBy k setting)) ≡ fail
+    go zero h = refl
+    go (suc zero) h = refl
+    go (suc (suc zero)) h = refl
+    go (suc (suc (suc zero))) h = refl
+    go (suc (suc (suc (suc n)))) h = absurd (omega arith)
+
+-- behind a `,` another element or property is due, or the closer
+pub item-next : (ending : ℕ) → (ending ≡ 4 → ⊥) → itemDue (itemsBy ending) ≡ behindComma (itemsBy ending)
+unfolding itemsBy
+item-next ending other = rw (ne-eqb ending 4 other) (go (eqb ending 5))
+  where
+    go : (b : Bool) → itemDue (cond b arrayElements objectProperties) ≡ behindComma (cond b arrayElements objectProperties)
+    go true = refl
+    go false = refl
+
+-- no operand starts with a closer
+pub operand-closers : (ending : Ending) (target : Bool) (class : ℕ) → T (isEnd class) → look class (operand ending target) ≡ fail
+operand-closers ending target = at-closers (λ (k : ℕ). look k (operand ending target) ≡ fail) refl refl refl refl
+
+-- what a place that needs no parameter takes besides is a closer
+pub parameter-closers : {class : ℕ} (must : Bool) → NoCloser class → look class (noParameter must) ≡ fail
+parameter-closers true h = refl
+parameter-closers false h = rw (h .no-paren)
 
 -- operators: each binds, and is one record's alone
 fit : List Operator → Bool
@@ -168,14 +205,17 @@ module _ (class : ℕ) where
 
   -- a class that follows no operand
   pub none-next : (ending : Ending) (target : Bool) → precedence class ≡ 0 → (class ≡ dot → ⊥) → (class ≡ openParen → ⊥) → (class ≡ assign → ⊥)
-      → (class ≡ semicolon → ⊥) → NoCloser class → look class (afterOperand ending target) ≡ fail
+      → (class ≡ semicolon → ⊥) → (class ≡ comma → ⊥) → (class ≡ openBracket → ⊥) → NoCloser class → look class (afterOperand ending target) ≡ fail
   unfolding fit
-  none-next ending target none a b c d h =
+  none-next ending target none a b c d e f h =
       no-operator ending operators (besidesOperators ending target) tt none
-      ∙ simp (ne-eqb class dot a, ne-eqb class openParen b, ne-eqb class assign c) (ends ending)
+      ∙ simp (ne-eqb class dot a, ne-eqb class openParen b, ne-eqb class openBracket f, ne-eqb class assign c) (ends ending)
     where
-      ends : (e : Ending) → look class (endingEntry e ∷ []) ≡ fail
+      ends : (ending : Ending) → look class (endingRow ending) ≡ fail
       ends (byStatement setting) = rw (ne-eqb class semicolon d)
       ends (byReturn setting) = rw (ne-eqb class semicolon d)
       ends byParen = rw (h .no-paren)
-      ends byBrace = rw (h .no-brace)
+      ends byBracket = rw (h .no-bracket)
+      ends (byItem callArguments) = rw (ne-eqb class comma e, h .no-paren)
+      ends (byItem arrayElements) = rw (ne-eqb class comma e, h .no-bracket)
+      ends (byItem objectProperties) = rw (ne-eqb class comma e, h .no-brace)

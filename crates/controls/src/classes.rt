@@ -42,6 +42,12 @@ pub const IF: u32 = 138;
 // A reserved word that is taken as a name. Its record has the class of a name, so no record has this one: it is in the machine's table.
 pub const WORD_NAME: u32 = 139;
 
+pub const OPEN_BRACKET: u32 = 140;
+
+pub const CLOSE_BRACKET: u32 = 141;
+
+pub const COMMA: u32 = 142;
+
 // How tight an operator binds; 0 for a class that is none.
 pub fn precedence(class: u32) -> u32
     ensures { λ r. ⌜ r ≡ precedence class ⌝ }

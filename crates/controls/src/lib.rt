@@ -1,19 +1,19 @@
 // The token machine's table as code: where it stands, and what a token of a class does there. Places and effects are named after those
 // of grammar/specs/Machine.antt where there is one, so that the two can be laid side by side; specs/Numbers.antt ties them.
 ghost use mathlib.Core.Path.{_≡_};
-ghost use mathlib.Core.Bool.{Bool, true, false};
-ghost use mathlib.Core.List.{[], _∷_};
-ghost use Prim.Native.Nat.{_≤_};
-ghost use lib.Dec.{T};
-ghost use Rattle.grammar.specs.Tokens.{semicolon, functionWord};
-ghost use Rattle.grammar.specs.Machinery.Machine.{behindStatement, statementDue, returnFirst, operandDue, operandDone, on, goto, push, look, names, operand, noStatement, endingEntry, afterOperand, row};
-ghost use Rattle.controls.specs.Machinery.Numbers.{settingBy, endingBy, controlBy, controlOf, effectBy, closingBy, insideBy};
-ghost use Rattle.controls.specs.Machinery.Steps.{isOpener, isEnd, isSingle, Due, Leads, Spans, Means, Settled, Ends};
+ghost use mathlib.Core.Bool.{Bool};
+ghost use Prim.Native.Nat.{ℕ, _≤_};
+ghost use Rattle.grammar.specs.Tokens.{semicolon, comma, functionWord};
+ghost use Rattle.grammar.specs.Machinery.Machine.{behindStatement, statementDue, returnFirst, operandDone, look, operand, noStatement, endingRow, afterOperand, row};
+ghost use Rattle.controls.specs.Machinery.Numbers.{settingBy, endingBy, controlBy, controlOf, insideBy};
+ghost use Rattle.controls.specs.Machinery.Steps.{Due, Means, Settled};
 
 pub mod classes;
+pub mod ends;
+mod forms;
 
 // Where the machine stands: the place in a form; what ends the expression; the setting of the statement; and whether the chain may yet
-// be assigned to, or whether a statement must come.
+// be assigned to, or whether a statement or a parameter must come.
 pub struct Control {
     pub place: u32,
     pub ending: u32,
@@ -38,7 +38,7 @@ pub const IF_FIRST: u32 = 6;
 
 pub const DOT_LAST: u32 = 7;
 
-pub const OBJECT_OPENED: u32 = 8;
+pub const ITEM_DUE: u32 = 8;
 
 pub const PROPERTY_NAMED: u32 = 9;
 
@@ -65,14 +65,20 @@ pub const BLOCK: u32 = 1;
 
 pub const IF_NEST: u32 = 2;
 
-// What ends an expression.
+// What ends an expression; what ends an item tells the list.
 pub const BY_STATEMENT: u32 = 0;
 
 pub const BY_RETURN: u32 = 1;
 
 pub const BY_PAREN: u32 = 2;
 
-pub const BY_BRACE: u32 = 3;
+pub const BY_BRACKET: u32 = 3;
+
+pub const BY_ARGUMENT: u32 = 4;
+
+pub const BY_ELEMENT: u32 = 5;
+
+pub const BY_PROPERTY: u32 = 6;
 
 // What a token does to the level.
 pub const KEEP: u32 = 0;
@@ -94,7 +100,7 @@ pub const START_RETURN: u32 = 7;
 
 pub const END_EXPRESSION: u32 = 8;
 
-pub const END_RETURN: u32 = 9;
+pub const END_VALUE: u32 = 9;
 
 pub const END_BARE_RETURN: u32 = 10;
 
@@ -114,6 +120,10 @@ pub const TO_BLOCK: u32 = 5;
 pub const TO_DECLARATION: u32 = 6;
 
 pub const TO_FUNCTION: u32 = 7;
+
+pub const TO_ARRAY: u32 = 8;
+
+pub const TO_INDEX: u32 = 9;
 
 // What to do: nothing more; go on, with an effect; open a group, with where to stand behind it; open a nest, with where to stand in
 // it, and the setting around it.
@@ -168,6 +178,9 @@ fn operand_row(class: u32, ending: u32, setting: u32, target: bool) -> Step
     if class == classes::OPEN_BRACE {
         return Step::Push(stand(OPERAND_DONE, ending, setting, target), TO_OBJECT);
     }
+    if class == classes::OPEN_BRACKET {
+        return Step::Push(stand(OPERAND_DONE, ending, setting, target), TO_ARRAY);
+    }
     if class == classes::FUNCTION {
         return Step::Goto(stand(FUNCTION_FIRST, ending, setting, target), HOLD_WORD);
     }
@@ -176,15 +189,28 @@ fn operand_row(class: u32, ending: u32, setting: u32, target: bool) -> Step
 
 // `;` behind an expression.
 fn semicolon_row(ending: u32, setting: u32) -> Step
-    ensures { λ r. ⌜ ((target : Bool) → Means (operandDone (endingBy ending setting) target) semicolon r (look semicolon (endingEntry (endingBy ending setting) ∷ []))) ⌝ }
+    ensures { λ r. ⌜ ((target : Bool) → Means (operandDone (endingBy ending setting) target) semicolon r (look semicolon (endingRow (endingBy ending setting)))) ⌝ }
 {
     if ending == BY_STATEMENT {
         return Step::Goto(behind_statement(setting), END_EXPRESSION);
     }
     if ending == BY_RETURN {
-        return Step::Goto(behind_statement(setting), END_RETURN);
+        return Step::Goto(behind_statement(setting), END_VALUE);
     }
     Step::Fail
+}
+
+// `,` behind an expression: an item of a list ends, and behind an argument another must come.
+fn comma_row(ending: u32) -> Step
+    ensures { λ r. ⌜ ((setting : ℕ) (target : Bool) → Means (operandDone (endingBy ending setting) target) comma r (look comma (endingRow (endingBy ending setting)))) ⌝ }
+{
+    if ending <= BY_BRACKET {
+        return Step::Fail;
+    }
+    if ending == BY_ARGUMENT {
+        return Step::Goto(stand(OPERAND_DUE, BY_ARGUMENT, BODY, true), END_VALUE);
+    }
+    Step::Goto(stand(ITEM_DUE, ending, BODY, true), END_VALUE)
 }
 
 // Behind an operand.
@@ -208,6 +234,12 @@ fn operator_row(class: u32, ending: u32, setting: u32, target: bool) -> Step
     }
     if class == classes::SEMICOLON {
         return semicolon_row(ending, setting);
+    }
+    if class == classes::COMMA {
+        return comma_row(ending);
+    }
+    if class == classes::OPEN_BRACKET {
+        return Step::Push(stand(OPERAND_DONE, ending, setting, target), TO_INDEX);
     }
     Step::Fail
 }
@@ -261,132 +293,6 @@ fn return_row(class: u32, setting: u32, newline: bool) -> Step
     operand_row(class, BY_RETURN, setting, true)
 }
 
-// One class goes on, and no other.
-fn only(class: u32, one: u32, next: Control, effect: u32) -> Step
-    ensures { λ r. ⌜ ((from : Rattle.grammar.specs.Machinery.Machine.Control) → T (isSingle one) → Leads (effectBy effect one) from (controlOf next) → Means from class r (look class (on one (goto (controlOf next) (effectBy effect one)) ∷ []))) ⌝ }
-{
-    if class == one {
-        return Step::Goto(next, effect);
-    }
-    Step::Fail
-}
-
-// A name goes on, and so does a reserved word that is taken as one; no other class does.
-fn only_names(class: u32, next: Control, effect: u32) -> Step
-    ensures { λ r. ⌜ ((from : Rattle.grammar.specs.Machinery.Machine.Control) → Leads (effectBy effect class) from (controlOf next) → Means from class r (look class (names (goto (controlOf next) (effectBy effect class)) []))) ⌝ }
-{
-    if class == classes::NAME {
-        return Step::Goto(next, effect);
-    }
-    if class == classes::WORD_NAME {
-        return Step::Goto(next, effect);
-    }
-    Step::Fail
-}
-
-// One class opens a group, and no other does anything.
-fn opens(class: u32, one: u32, behind: Control, closing: u32) -> Step
-    ensures { λ r. ⌜ ((from : Rattle.grammar.specs.Machinery.Machine.Control) → T (isOpener one) → Spans (closingBy closing) from (controlOf behind) → Means from class r (look class (on one (push (insideBy closing) (controlOf behind) (closingBy closing)) ∷ []))) ⌝ }
-{
-    if class == one {
-        return Step::Push(behind, closing);
-    }
-    Step::Fail
-}
-
-// The places inside a form whose next token is settled.
-fn form_row(at: Control, class: u32) -> Step
-    ensures { λ r. ⌜ (4 ≤ at .place → Settled at class → (newline : Bool) → Means (controlOf at) class r (look class (row (controlOf at) newline))) ⌝ }
-{
-    let place = at.place;
-    match place {
-        DOT_LAST => only_names(
-            class,
-            stand(OPERAND_DONE, at.ending, at.setting, at.flag),
-            TAKE_MEMBER,
-        ),
-        NAME_FIRST => only(
-            class,
-            classes::COLON,
-            stand(STATEMENT_DUE, BY_STATEMENT, at.setting, true),
-            TAKE_LABEL,
-        ),
-        IF_FIRST => opens(
-            class,
-            classes::OPEN_PAREN,
-            stand(STATEMENT_DUE, BY_STATEMENT, IF_NEST, true),
-            TO_CONDITION,
-        ),
-        OBJECT_OPENED => only(
-            class,
-            classes::NAME,
-            stand(PROPERTY_NAMED, BY_BRACE, at.setting, true),
-            KEEP,
-        ),
-        PROPERTY_NAMED => only(
-            class,
-            classes::COLON,
-            stand(OPERAND_DUE, BY_BRACE, at.setting, true),
-            KEEP,
-        ),
-        PARAMETER_DUE => only(
-            class,
-            classes::NAME,
-            stand(PARAMETER_NAMED, at.ending, at.setting, at.flag),
-            KEEP,
-        ),
-        PARAMETER_NAMED => Step::Fail,
-        STATEMENT_DONE => Step::Fail,
-        _ => function_row(at, class),
-    }
-}
-
-// The places of a function, declared or an operand.
-fn function_row(at: Control, class: u32) -> Step
-    ensures { λ r. ⌜ (12 ≤ at .place → (newline : Bool) → Means (controlOf at) class r (look class (row (controlOf at) newline))) ⌝ }
-{
-    let place = at.place;
-    match place {
-        FUNCTION_FIRST => only(
-            class,
-            classes::NAME,
-            stand(FUNCTION_NAMED, at.ending, at.setting, at.flag),
-            KEEP,
-        ),
-        FUNCTION_NAMED => opens(
-            class,
-            classes::OPEN_PAREN,
-            stand(PARAMETER_PAST, at.ending, at.setting, at.flag),
-            TO_PARAMETER,
-        ),
-        PARAMETER_PAST => opens(
-            class,
-            classes::OPEN_BRACE,
-            stand(OPERAND_DONE, at.ending, at.setting, at.flag),
-            TO_FUNCTION,
-        ),
-        DECLARED_FIRST => only(
-            class,
-            classes::NAME,
-            stand(DECLARED_NAMED, at.ending, at.setting, at.flag),
-            KEEP,
-        ),
-        DECLARED_NAMED => opens(
-            class,
-            classes::OPEN_PAREN,
-            stand(DECLARED_PAST, at.ending, at.setting, at.flag),
-            TO_PARAMETER,
-        ),
-        DECLARED_PAST => opens(
-            class,
-            classes::OPEN_BRACE,
-            stand(STATEMENT_DUE, BY_STATEMENT, BODY, false),
-            TO_DECLARATION,
-        ),
-        _ => Step::Fail,
-    }
-}
-
 // The machine's table, for a token that a record makes.
 pub fn row(at: Control, class: u32, newline: bool) -> Step
     ensures { λ r. ⌜ (Settled at class → Means (controlOf at) class r (look class (row (controlOf at) newline))) ⌝ }
@@ -397,49 +303,8 @@ pub fn row(at: Control, class: u32, newline: bool) -> Step
         OPERAND_DONE => operator_row(class, at.ending, at.setting, at.flag),
         OPERAND_DUE => operand_row(class, at.ending, at.setting, at.flag),
         RETURN_FIRST => return_row(class, at.setting, newline),
-        _ => form_row(at, class),
+        _ => forms::form_row(at, class),
     }
-}
-
-// Whether a level may end at a closer, or at the text's end, where the machine stands.
-pub fn ends(at: Control, closer: u32) -> bool
-    ensures { λ r. ⌜ (Settled at closer → T (isEnd closer) → Ends closer (controlOf at) r (look closer (row (controlOf at) false))) ⌝ }
-{
-    let place = at.place;
-    match place {
-        STATEMENT_DUE => statements_end(at.setting, at.flag, closer),
-        OPERAND_DONE => expression_ends(at.ending, at.setting, closer),
-        OBJECT_OPENED => closer == classes::CLOSE_BRACE,
-        PARAMETER_NAMED => closer == classes::CLOSE_PAREN,
-        _ => false,
-    }
-}
-
-fn statements_end(setting: u32, must: bool, closer: u32) -> bool
-    ensures { λ r. ⌜ (T (isEnd closer) → Ends closer (statementDue must (settingBy setting)) r (look closer (row (statementDue must (settingBy setting)) false))) ⌝ }
-{
-    if must {
-        return false;
-    }
-    if setting == BODY {
-        return closer == classes::CLOSE_BRACE || closer == classes::END_OF_TEXT;
-    }
-    if setting == BLOCK {
-        return closer == classes::CLOSE_BRACE;
-    }
-    false
-}
-
-fn expression_ends(ending: u32, setting: u32, closer: u32) -> bool
-    ensures { λ r. ⌜ ((target : Bool) → T (isEnd closer) → Ends closer (operandDone (endingBy ending setting) target) r (look closer (row (operandDone (endingBy ending setting) target) false))) ⌝ }
-{
-    if ending == BY_PAREN {
-        return closer == classes::CLOSE_PAREN;
-    }
-    if BY_BRACE <= ending {
-        return closer == classes::CLOSE_BRACE;
-    }
-    false
 }
 
 // Where the inside of a group starts.
@@ -447,11 +312,14 @@ pub fn inside_of(closing: u32) -> Control
     ensures { λ r. ⌜ controlOf r ≡ insideBy closing ⌝ }
 {
     match closing {
-        TO_OBJECT => stand(OBJECT_OPENED, BY_BRACE, BODY, true),
-        TO_PARAMETER => stand(PARAMETER_DUE, BY_PAREN, BODY, true),
+        TO_CALL => stand(ITEM_DUE, BY_ARGUMENT, BODY, true),
+        TO_OBJECT => stand(ITEM_DUE, BY_PROPERTY, BODY, true),
+        TO_PARAMETER => stand(PARAMETER_DUE, BY_PAREN, BODY, false),
         TO_BLOCK => stand(STATEMENT_DUE, BY_STATEMENT, BLOCK, false),
         TO_DECLARATION => stand(STATEMENT_DUE, BY_STATEMENT, BODY, false),
         TO_FUNCTION => stand(STATEMENT_DUE, BY_STATEMENT, BODY, false),
+        TO_ARRAY => stand(ITEM_DUE, BY_ELEMENT, BODY, true),
+        TO_INDEX => stand(OPERAND_DUE, BY_BRACKET, BODY, true),
         _ => stand(OPERAND_DUE, BY_PAREN, BODY, true),
     }
 }

@@ -1,4 +1,4 @@
--- A delimiter that is found is one byte long, and `which` says which of the four it is.
+-- A delimiter that is found is one byte long, and `which` says which of the six it is.
 use mathlib.Core.Path.{_≡_, refl, ap, _∙_}
 use mathlib.Core.List.{List, [], _∷_}
 use mathlib.Core.Bool.{Bool, true, false, cond, _&&_, _||_}

@@ -51,7 +51,7 @@ use Rattle.elements.specs.declared.Stated.{Stated}
 use Rattle.elements.proofs.Choices.{cond-both, cond-known}
 use Rattle.elements.proofs.Slashes.{byte-at, either-slash}
 
--- document 02, U1: where reserved words are names, the one that starts at `first` is a name, "for all 36 words, and 7 does not apply there"
+-- document 02, U1 and U2: where reserved words are names, the one that starts at `first` is a name, "for all 36 words, and 7 does not apply there"
 abbrev pub Named : List ℕ → ℕ → Next → Type 0
 Named s first Next.End = ⊥
 Named s first (Next.Found e) = (e .first ≡ first) × (e .kind ≡ nameKind) × (e .which ≡ firstWord (drop first s))

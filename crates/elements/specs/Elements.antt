@@ -1,6 +1,6 @@
 -- Document 01, Elements: the element at a place of a text under stated answers, or the text's end, or the first fault of a
 -- comment or of the element itself, "bytes of an element left to right". What is stated is two answers: whether a slash met
--- there opens a regular expression, and (document 02, U1) whether a reserved word met there is a name.
+-- there opens a regular expression, and (document 02, U1 and U2) whether a reserved word met there is a name.
 use Prim.Native.Nat.{ℕ, _+_}
 use mathlib.Core.Path.{_≡_}
 use mathlib.Core.List.{List, [], _∷_}
@@ -61,7 +61,7 @@ abbrev pub literalElement : ℕ → Bool → ℕ → Literal → Next
 literalElement kind newline first (Literal.Ends end) = element kind 0 newline first end
 literalElement kind newline first (Literal.Fault number place) = Next.Fault number place
 
--- a name, which is no reserved word or (document 02, U1) one that "becomes a name (kind 1), for all 36 words, and 7 does not apply
+-- a name, which is no reserved word or (document 02, U1; U2: "without 7") one that "becomes a name (kind 1), for all 36 words, and 7 does not apply
 -- there"; a reserved word that is taken here; or one that is refused
 abbrev pub wordOrName : Bool → ℕ → Bool → ℕ → ℕ → Next
 wordOrName asName word newline first end =
@@ -82,7 +82,7 @@ abbrev pub numberOfSign : Longest → ℕ
 numberOfSign Longest.None = 0
 numberOfSign (Longest.Sign number n legal) = number
 
--- the delimiters: "`( ) { }`"
+-- the delimiters: "`( ) { }`", and `[ ]` of document 02, U2
 abbrev pub parenOpener : ℕ
 parenOpener = numberOfSign (longestSign (bytes "("))
 
@@ -95,8 +95,15 @@ braceOpener = numberOfSign (longestSign (bytes "{"))
 abbrev pub braceCloser : ℕ
 braceCloser = numberOfSign (longestSign (bytes "}"))
 
+abbrev pub bracketOpener : ℕ
+bracketOpener = numberOfSign (longestSign (bytes "["))
+
+abbrev pub bracketCloser : ℕ
+bracketCloser = numberOfSign (longestSign (bytes "]"))
+
 unfoldable pub delimiter : ℕ → Bool
-delimiter sign = eqb sign braceOpener || eqb sign braceCloser || eqb sign parenOpener || eqb sign parenCloser
+delimiter sign =
+    eqb sign braceOpener || eqb sign braceCloser || eqb sign parenOpener || eqb sign parenCloser || eqb sign bracketOpener || eqb sign bracketCloser
 
 -- "Signs: the longest of the 48 signs of ES5.1 section 7.7 is taken", and refused if it is not legal here
 abbrev pub signOrStray : Bool → ℕ → Longest → Next

@@ -123,7 +123,13 @@ fn is_delimiter(sign: u32) -> bool
     if sign == signs::OPEN_PAREN {
         return true;
     }
-    sign == signs::CLOSE_PAREN
+    if sign == signs::CLOSE_PAREN {
+        return true;
+    }
+    if sign == signs::OPEN_BRACKET {
+        return true;
+    }
+    sign == signs::CLOSE_BRACKET
 }
 
 // The sign or delimiter at `first`.

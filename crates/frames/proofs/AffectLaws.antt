@@ -14,7 +14,7 @@ use Rattle.grammar.specs.Grammar.{precedence}
 use Rattle.grammar.specs.Machinery.Machine as machine
 use Rattle.grammar.specs.Machinery.Machine.{Frame, frame, threshold, keep, endBareReturn, takeOperator, Control}
 use Rattle.controls.specs.Machinery.Numbers.{effectBy}
-use Rattle.controls.specs.Machinery.Steps.{Leads, to-name, to-leaf, to-function, to-declaration, to-return, to-label, to-bare-end, to-member, to-assign, to-operator, to-end, to-return-end}
+use Rattle.controls.specs.Machinery.Steps.{Leads, to-name, to-leaf, to-function, to-declaration, to-return, to-label, to-bare-end, to-member, to-assign, to-operator, to-end, to-return-end, to-item-end}
 use Rattle.waiting.specs.Machinery.Written.{putRecord}
 use Rattle.waiting.specs.Machinery.Waiting.{width, binding, Backed, Closes, Completes, stackWith, waitingOne, madeOne, withHeld}
 use Rattle.waiting.specs.declared.Level.{Level}
@@ -23,7 +23,7 @@ use Rattle.waiting.proofs.OperatorLaws.{operator-small}
 use Rattle.frames.specs.Machinery.Stands.{Stands}
 use Rattle.frames.specs.Machinery.Effects.{MayAffect, Affects}
 use Rattle.frames.proofs.CarryLaws.{backOne, carried, closes-lightens, carries-made, carries-back, carries-expression}
-use Rattle.frames.proofs.EffectLaws.{return-begun, keeps, takes-leaf, takes-member, holds-name, holds-word, holds-declared, starts-return, takes-label, takes-operator, ends-expression, ends-return, ends-bare}
+use Rattle.frames.proofs.EffectLaws.{return-begun, keeps, takes-leaf, takes-member, holds-name, holds-word, holds-declared, starts-return, takes-label, takes-operator, ends-expression, ends-return, ends-item, ends-bare}
 
 -- an operator binds as operators do, and its class is small
 operator-binds : (class : ℕ) → 1 ≤ precedence class → binding class ≡ precedence class + 2
@@ -105,9 +105,10 @@ module _ {l : Level} {stack cells : List ℕ} where
   expression-affects class mark closes e completes from to g nests table stack₀ first floor passed s to-end more =
       ends-expression more mark (closes .0) (closes .1) (closes .2) (rw (e .0, e .1) at completes) s
 
-  pub return-end-affects : (class mark : ℕ) {all : Level} {cells′ : List ℕ} → Completes l stack cells all cells′ → Affects 9 class mark l stack cells all stack cells′
+  pub value-affects : (class mark : ℕ) {all : Level} {cells′ : List ℕ} → Completes l stack cells all cells′ → Affects 9 class mark l stack cells all stack cells′
   unfolding effectBy
-  return-end-affects class mark completes from to g nests table stack₀ first floor passed s to-return-end more = ends-return more mark completes s
+  value-affects class mark completes from to g nests table stack₀ first floor passed s to-return-end more = ends-return more mark completes s
+  value-affects class mark completes from to g nests table stack₀ first floor passed s to-item-end more = ends-item more mark completes s
 
   pub bare-affects : (class mark m : ℕ) {one all : Level} {cells′ cells″ : List ℕ} → getD stack ((l .top - 1) * width + 1) 0 ≡ m
       → (one ≡ madeOne (backOne l)) × (cells′ ≡ putRecord cells (l .count) bareReturnSyntax m (l .count - l .count + 1)) → Completes one stack cells′ all cells″

@@ -293,7 +293,7 @@ pub record Written (table : List ℕ) (first floor : ℕ) (value : Syntax) (l : 
   pub top-is : l .top ≡ floor
 
 module _ {table stack₀ : List ℕ} {first floor : ℕ} {l : Level} {stack cells : List ℕ} where
-  all-written : {done last : Syntax} → Carries [] table stack₀ first floor done [] [] last l stack cells → Written table first floor (snoc done last) l cells
+  pub all-written : {done last : Syntax} → Carries [] table stack₀ first floor done [] [] last l stack cells → Written table first floor (snoc done last) l cells
   all-written {done = done} {last = last} h = go (h .below) (h .holds)
     where
       go : {base : Syntax} {tail : List Pending} → Below done [] base tail → Holds table first base tail last l stack cells → Written table first floor (snoc done last) l cells

@@ -8,7 +8,7 @@ use lib.ListN.{length, getD}
 use Rattle.tables.specs.Records.{mostTrees}
 use Rattle.grammar.specs.Tokens.{name}
 use Rattle.grammar.specs.Syntax.{Syntax, nil, node, snoc, memberSyntax, expressionSyntax, bareReturnSyntax, fullReturnSyntax, labelSyntax}
-use Rattle.grammar.specs.Grammar.{body, precedence}
+use Rattle.grammar.specs.Grammar.{Items, callArguments, arrayElements, objectProperties, body, precedence}
 use Rattle.grammar.specs.Machinery.Machine as machine
 use Rattle.grammar.specs.Machinery.Machine.{
   Pending,
@@ -24,7 +24,7 @@ use Rattle.grammar.specs.Machinery.Machine.{
   keep,
   takeMember,
   endExpression,
-  endReturn,
+  endValue,
   endBareReturn,
   takeLabel,
   holdWord,
@@ -35,6 +35,8 @@ use Rattle.grammar.specs.Machinery.Machine.{
   Ending,
   byStatement,
   byReturn,
+  byItem,
+  behindComma,
   declared,
   operandIn,
   Control,
@@ -46,7 +48,7 @@ use Rattle.grammar.specs.Machinery.Machine.{
   dotLast,
   functionFirst,
 }
-use Rattle.controls.specs.Machinery.Steps.{Due, due-operand, due-value, due-statement, Leads, to-dot, to-function-name, to-property, to-value, to-parameter}
+use Rattle.controls.specs.Machinery.Steps.{Due, due-operand, due-value, due-item, due-statement, Leads, to-dot, to-hole, to-function-name, to-property, to-value, to-parameter, to-next-parameter}
 use Rattle.waiting.specs.Machinery.Written.{putRecord}
 use Rattle.waiting.specs.Machinery.Waiting.{width, binding, Closes, Completes, stackWith, waitingOne, madeOne, withHeld}
 use Rattle.waiting.specs.declared.Level.{Level}
@@ -132,6 +134,16 @@ module _ {g : Frame} {nests : List machine.Open} {table stack₀ : List ℕ} {fi
         carries = rw (s .shaped .2) at (carried s);
         passes = omega (arith, s .passes);
       }
+  at-operand due-item s =
+      record {
+        done = s .done;
+        starts = s .starts;
+        waiting = s .waiting;
+        is = rw (s .is, s .shaped .2);
+        within = (s .shaped .0, s .shaped .3);
+        carries = rw (s .shaped .2) at (carried s);
+        passes = omega (arith, s .passes);
+      }
   at-operand due-statement s =
       let h = at-statement s in
       record { done = h .done; starts = h .starts; waiting = []; is = h .is; within = h .within; carries = h .carries; passes = h .passes }
@@ -141,7 +153,7 @@ module _ {g : Frame} {nests : List machine.Open} {table stack₀ : List ℕ} {fi
       → Carries nests table stack₀ first floor (s .done) (pending fullReturnSyntax (s .shaped .0 .mark) nil ∷ s .shaped .0 .before) [] nil l stack cells
   return-begun s = rw (s .shaped .0 .is, s .shaped .1, s .shaped .2) at (carried s)
 
--- a statement is complete
+-- a statement is complete, or an item of a list
 module _ {nests : List machine.Open} {table stack₀ : List ℕ} {first floor passed : ℕ} {done value : Syntax} {l : Level} {stack cells : List ℕ} where
   pub behind : (setting : Setting) → InSetting setting done nests → Carries nests table stack₀ first floor (snoc done value) [] [] nil l stack cells
       → l .count + l .top ≤ first + floor + passed → first + floor + passed ≤ mostTrees
@@ -149,16 +161,25 @@ module _ {nests : List machine.Open} {table stack₀ : List ℕ} {first floor pa
   behind (among scope) none h passes few = stands nil h (refl, refl, refl, none) tt (omega arith) few
   behind (inNest nest) (e, inside) h passes few = stands nil h (refl, refl, refl, record { last = value; is = rw e }, inside) tt (omega arith) few
 
+  behind-item : (items : Items) → nests ≡ [] → Carries nests table stack₀ first floor (snoc done value) [] [] nil l stack cells
+      → l .count + l .top ≤ first + floor + passed → first + floor + passed ≤ mostTrees
+      → Stands (behindComma items) (frame (snoc done value) [] [] nil) nests table stack₀ first floor passed l stack cells
+  behind-item callArguments none h passes few = stands nil h (refl, (refl, none)) tt (omega arith) few
+  behind-item arrayElements none h passes few = stands nil h (refl, refl, refl, none) tt (omega arith) few
+  behind-item objectProperties none h passes few = stands nil h (refl, refl, refl, none) tt (omega arith) few
+
 module _ {g : Frame} {nests : List machine.Open} {table stack₀ : List ℕ} {first floor passed : ℕ} {l : Level} {stack cells : List ℕ} (more : first + floor + passed < mostTrees) where
   -- nothing changes
   pub keeps : {from to : Control} (mark : ℕ) → Leads keep from to → Stands from g nests table stack₀ first floor passed l stack cells
       → Stands to (machine.affect keep mark g) nests table stack₀ first floor (passed + 1) l stack cells
   keeps mark to-dot s = rw (s .is) (stands (s .operand) (carried s) (s .shaped) tt (omega (arith, s .passes)) (omega arith))
+  keeps mark to-hole s = rw (s .is) (stands (s .operand) (carried s) (s .shaped) tt (omega (arith, s .passes)) (omega arith))
   keeps mark to-function-name s = rw (s .is) (stands (s .operand) (carried s) (s .shaped) (s .held) (omega (arith, s .passes)) (omega arith))
   keeps mark to-property s = rw (s .is) (stands (s .operand) (carried s) (s .shaped) tt (omega (arith, s .passes)) (omega arith))
   keeps mark to-value s =
-      rw (s .is) (stands (s .operand) (carried s) (s .shaped .3, (s .shaped .0, s .shaped .1, s .shaped .4)) tt (omega (arith, s .passes)) (omega arith))
+      rw (s .is) (stands (s .operand) (carried s) (s .shaped .2, (s .shaped .0, s .shaped .3)) tt (omega (arith, s .passes)) (omega arith))
   keeps mark to-parameter s = rw (s .is) (stands (s .operand) (carried s) (s .shaped) tt (omega (arith, s .passes)) (omega arith))
+  keeps mark to-next-parameter s = rw (s .is) (stands (s .operand) (carried s) (s .shaped) tt (omega (arith, s .passes)) (omega arith))
 
   -- a record is the operand
   pub takes-leaf : {from : Control} {ending : Ending} {target : Bool} (class mark : ℕ) → Due from ending target
@@ -234,7 +255,7 @@ module _ {g : Frame} {nests : List machine.Open} {table stack₀ : List ℕ} {fi
       (carries-operator (carries-closed h (threshold class) f w closes k) class mark (omega (arith, light, s .passes)) small (omega (arith, light)) binds)
       (refl, s .shaped) tt (omega (arith, light, s .passes)) (omega arith))
 
-  -- a statement is complete
+  -- a statement is complete, or an item
   pub ends-expression : {setting : Setting} {target : Bool} (mark : ℕ) {r all : Level} {after cells′ : List ℕ} → r .floor ≡ l .floor → r .held ≡ l .held
       → Closes 2 l stack cells r after → Completes (madeOne r) stack (putRecord after (r .count) expressionSyntax mark (r .count - r .start + 1)) all cells′
       → Stands (operandDone (byStatement setting) target) g nests table stack₀ first floor passed l stack cells
@@ -248,11 +269,19 @@ module _ {g : Frame} {nests : List machine.Open} {table stack₀ : List ℕ} {fi
 
   pub ends-return : {setting : Setting} {target : Bool} (mark : ℕ) {all : Level} {cells′ : List ℕ} → Completes l stack cells all cells′
       → Stands (operandDone (byReturn setting) target) g nests table stack₀ first floor passed l stack cells
-      → Stands (behindStatement setting) (machine.affect endReturn mark g) nests table stack₀ first floor (passed + 1) all stack cells′
+      → Stands (behindStatement setting) (machine.affect endValue mark g) nests table stack₀ first floor (passed + 1) all stack cells′
   ends-return {setting = setting} mark completes s =
       let lighter = completes-lightens (carried s) completes in
       rw (s .is, reduce-wraps (s .done) (s .starts) (s .waiting) (s .operand))
       (behind setting (s .shaped) (carries-statement (carried s) completes) (omega (arith, lighter, s .passes)) (omega arith))
+
+  pub ends-item : {items : Items} {target : Bool} (mark : ℕ) {all : Level} {cells′ : List ℕ} → Completes l stack cells all cells′
+      → Stands (operandDone (byItem items) target) g nests table stack₀ first floor passed l stack cells
+      → Stands (behindComma items) (machine.affect endValue mark g) nests table stack₀ first floor (passed + 1) all stack cells′
+  ends-item {items = items} mark completes s =
+      let lighter = completes-lightens (carried s) completes in
+      rw (s .is, reduce-wraps (s .done) (s .starts) (s .waiting) (s .operand))
+      (behind-item items (s .shaped .1) (carries-statement (carried s) completes) (omega (arith, lighter, s .passes)) (omega arith))
 
   pub ends-bare : {setting : Setting} (mark : ℕ) {m : ℕ} {all : Level} {cells′ : List ℕ}
       → Stands (returnFirst setting) g nests table stack₀ first floor passed l stack cells → getD stack ((l .top - 1) * width + 1) 0 ≡ m

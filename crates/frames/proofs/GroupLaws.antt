@@ -7,37 +7,40 @@ use native.Mathlib.Omega.{arith}
 use borrow.Author.Tests.{ne-eqb}
 use lib.ListN.{length}
 use Rattle.tables.specs.Records.{mostTrees}
-use Rattle.grammar.specs.Syntax.{Syntax, nil, node, objectSyntax, parenthesisedSyntax, functionSyntax, callSyntax, blockSyntax, ifSyntax, declarationSyntax}
+use Rattle.grammar.specs.Syntax.{Syntax, nil, node, objectSyntax, parenthesisedSyntax, functionSyntax, callSyntax, blockSyntax, ifSyntax, declarationSyntax, arraySyntax, indexSyntax}
 use Rattle.grammar.specs.Grammar.{body}
 use Rattle.grammar.specs.Machinery.Machine as machine
 use Rattle.grammar.specs.Machinery.Machine.{
+  Pending,
   Frame,
+  frame,
   ifNest,
   Setting,
   among,
   inNest,
   behindStatement,
+  Closing,
   toParens,
   toCall,
   toObject,
+  toArray,
+  toIndex,
   toBlock,
   toCondition,
   toParameter,
   toDeclaration,
   toFunction,
   Ending,
-  Role,
   declared,
   operandIn,
   Control,
   statementDue,
   ifFirst,
   operandDone,
-  functionNamed,
   parameterPast,
 }
 use Rattle.controls.specs.Machinery.Numbers.{closingBy}
-use Rattle.controls.specs.Machinery.Steps.{Due, Spans, past-parens, past-object, past-call, past-condition, past-parameter, past-block, past-declaration, past-function}
+use Rattle.controls.specs.Machinery.Steps.{Due, Spans, past-parens, past-object, past-array, past-index, past-call, past-condition, past-parameter, past-unnamed, past-block, past-declaration, past-function}
 use Rattle.waiting.specs.Machinery.Written.{putRecord}
 use Rattle.waiting.specs.Machinery.Waiting.{width, binding, Backed, Completes, stackWith, waitingOne, madeOne}
 use Rattle.waiting.specs.declared.Level.{Level}
@@ -50,25 +53,16 @@ use Rattle.frames.proofs.EffectLaws.{at-statement, at-operand, behind}
 module _ {g : Frame} {nests : List machine.Open} {table stack₀ : List ℕ} {first floor passed next n : ℕ} {l : Level} {stackBefore stack cellsBefore cells : List ℕ} (value : Syntax)
     (valued : Valued l n value stackBefore stack cellsBefore cells) (fits : n + l .top < first + floor + next) (few : first + floor + next ≤ mostTrees) where
   -- the value is the operand's only part: with nothing of its kind before it
-  pub closes-parens : {from : Control} {ending : Ending} {target : Bool} (mark : ℕ) → Due from ending target
-      → Stands from g nests table stack₀ first floor passed l stackBefore cellsBefore
-      → Stands (operandDone ending target) (machine.close toParens mark value g) nests table stack₀ first floor next (madeOne (withCount n l)) stack
-      (putRecord cells n parenthesisedSyntax mark (n - l .start + 1))
-  closes-parens mark due s =
+  pub closes-alone : {from : Control} {ending : Ending} {target : Bool} (closing : Closing) (kind mark : ℕ)
+      → ((done : Syntax) (starts waiting : List Pending) → machine.close closing mark value (frame done starts waiting nil) ≡ frame done starts waiting (node kind mark value nil))
+      → Due from ending target → Stands from g nests table stack₀ first floor passed l stackBefore cellsBefore
+      → Stands (operandDone ending target) (machine.close closing mark value g) nests table stack₀ first floor next (madeOne (withCount n l)) stack
+      (putRecord cells n kind mark (n - l .start + 1))
+  closes-alone closing kind mark alone due s =
       let h = at-operand due s in
-      rw (h .is)
-      (stands (node parenthesisedSyntax mark value nil)
-      (carries-made (carries-alone (carries-valued (h .carries) n value valued (omega arith))) parenthesisedSyntax mark (omega arith)) (h .within) tt (omega arith) few)
-
-  pub closes-object : {from : Control} {ending : Ending} {target : Bool} (mark : ℕ) → Due from ending target
-      → Stands from g nests table stack₀ first floor passed l stackBefore cellsBefore
-      → Stands (operandDone ending target) (machine.close toObject mark value g) nests table stack₀ first floor next (madeOne (withCount n l)) stack
-      (putRecord cells n objectSyntax mark (n - l .start + 1))
-  closes-object mark due s =
-      let h = at-operand due s in
-      rw (h .is)
-      (stands (node objectSyntax mark value nil)
-      (carries-made (carries-alone (carries-valued (h .carries) n value valued (omega arith))) objectSyntax mark (omega arith)) (h .within) tt (omega arith) few)
+      rw (h .is, alone (h .done) (h .starts) (h .waiting))
+      (stands (node kind mark value nil)
+      (carries-made (carries-alone (carries-valued (h .carries) n value valued (omega arith))) kind mark (omega arith)) (h .within) tt (omega arith) few)
 
   pub closes-function : {ending : Ending} {target : Bool} (mark : ℕ) → Stands (parameterPast (operandIn ending target)) g nests table stack₀ first floor passed l stackBefore cellsBefore
       → Stands (operandDone ending target) (machine.close toFunction mark value g) nests table stack₀ first floor next (madeOne (withCount n l)) stack
@@ -79,12 +73,15 @@ module _ {g : Frame} {nests : List machine.Open} {table stack₀ : List ℕ} {fi
       (carries-made (carries-alone (carries-valued (carried s) n value valued (omega arith))) functionSyntax (l .held) (omega arith)) (s .shaped) tt (omega arith) few)
 
   -- the value stands behind the operand
-  pub closes-call : {ending : Ending} {target : Bool} (mark : ℕ) → Stands (operandDone ending target) g nests table stack₀ first floor passed l stackBefore cellsBefore
-      → Stands (operandDone ending target) (machine.close toCall mark value g) nests table stack₀ first floor next (madeOne (withCount n l)) stack
-      (putRecord cells n callSyntax mark (n - l .start + 1))
-  closes-call mark s =
-      rw (s .is)
-      (stands (node callSyntax mark (s .operand) value) (carries-both callSyntax mark (carries-valued (carried s) n value valued (omega arith)) (omega arith)) (s .shaped) tt
+  pub closes-behind : {ending : Ending} {target : Bool} (closing : Closing) (kind mark : ℕ)
+      → ((done : Syntax) (starts waiting : List Pending) (operand : Syntax)
+      → machine.close closing mark value (frame done starts waiting operand) ≡ frame done starts waiting (node kind mark operand value))
+      → Stands (operandDone ending target) g nests table stack₀ first floor passed l stackBefore cellsBefore
+      → Stands (operandDone ending target) (machine.close closing mark value g) nests table stack₀ first floor next (madeOne (withCount n l)) stack
+      (putRecord cells n kind mark (n - l .start + 1))
+  closes-behind closing kind mark both s =
+      rw (s .is, both (s .done) (s .starts) (s .waiting) (s .operand))
+      (stands (node kind mark (s .operand) value) (carries-both kind mark (carries-valued (carried s) n value valued (omega arith)) (omega arith)) (s .shaped) tt
       (omega arith) few)
 
   -- the value waits as a beginning's left side
@@ -98,10 +95,13 @@ module _ {g : Frame} {nests : List machine.Open} {table stack₀ : List ℕ} {fi
       (carries-beginning ifSyntax (l .held) (rw (s .shaped .2) at (carries-alone (carries-valued (carried s) n value valued (omega arith)))) (omega arith) (s .worded) room refl)
       (refl, refl, (s .shaped .0, s .shaped .3)) tt (omega arith) few)
 
-  -- a parameter leaves nothing
-  pub closes-parameter : {role : Role} (mark : ℕ) → value ≡ nil → Stands (functionNamed role) g nests table stack₀ first floor passed l stackBefore cellsBefore
-      → Stands (parameterPast role) (machine.close toParameter mark value g) nests table stack₀ first floor next (withCount n l) stack cells
-  closes-parameter mark none s =
+  -- parameters leave nothing
+  pub closes-parameter : {from to : Control} (mark : ℕ) → value ≡ nil → Stands from g nests table stack₀ first floor passed l stackBefore cellsBefore → Spans toParameter from to
+      → Stands to (machine.close toParameter mark value g) nests table stack₀ first floor next (withCount n l) stack cells
+  closes-parameter mark none s past-parameter =
+      rw (s .is)
+      (stands (s .operand) (carries-alone (rw none at (carries-valued (carried s) n value valued (omega arith)))) (s .shaped) (s .held) (omega arith) few)
+  closes-parameter mark none s past-unnamed =
       rw (s .is)
       (stands (s .operand) (carries-alone (rw none at (carries-valued (carried s) n value valued (omega arith)))) (s .shaped) (s .held) (omega arith) few)
 
@@ -126,10 +126,10 @@ module _ {g : Frame} {nests : List machine.Open} {table stack₀ : List ℕ} {fi
       rw (s .is, s .held) (behind (among body) (s .shaped .2) (rw (s .shaped .1) at (carries-statement one completes)) (omega (arith, lighter)) few)
 
 -- the groups by number
-pub closing-function : (closing : ℕ) → (closing ≡ 0 → ⊥) → (closing ≡ 1 → ⊥) → (closing ≡ 2 → ⊥) → (closing ≡ 3 → ⊥) → (closing ≡ 4 → ⊥) → (closing ≡ 5 → ⊥)
-    → (closing ≡ 6 → ⊥) → closingBy closing ≡ toFunction
+pub closing-index : (closing : ℕ) → (closing ≡ 0 → ⊥) → (closing ≡ 1 → ⊥) → (closing ≡ 2 → ⊥) → (closing ≡ 3 → ⊥) → (closing ≡ 4 → ⊥) → (closing ≡ 5 → ⊥)
+    → (closing ≡ 6 → ⊥) → (closing ≡ 7 → ⊥) → (closing ≡ 8 → ⊥) → closingBy closing ≡ toIndex
 unfolding closingBy
-closing-function closing a b d e f g h =
+closing-index closing a b d e f g h i j =
     rw (
       ne-eqb closing 0 a,
       ne-eqb closing 1 b,
@@ -138,23 +138,25 @@ closing-function closing a b d e f g h =
       ne-eqb closing 4 f,
       ne-eqb closing 5 g,
       ne-eqb closing 6 h,
+      ne-eqb closing 7 i,
+      ne-eqb closing 8 j,
     )
 
 module _ {l : Level} {stack cells : List ℕ} (mark n : ℕ) where
   pub parens-close : {r : Level} {cells′ : List ℕ} → (r ≡ madeOne (withCount n l)) × (cells′ ≡ putRecord cells n parenthesisedSyntax mark (n - l .start + 1)) → ClosesGroup 0 mark n l stack cells r stack cells′
   unfolding closingBy
   parens-close e from to g nests table stack₀ first floor passed next value stackBefore cellsBefore s (past-parens due) valued none fits few =
-      rw (e .0, e .1) (closes-parens value valued fits few mark due s)
+      rw (e .0, e .1) (closes-alone value valued fits few toParens parenthesisedSyntax mark (λ done starts waiting. refl) due s)
 
   pub call-closes : {r : Level} {cells′ : List ℕ} → (r ≡ madeOne (withCount n l)) × (cells′ ≡ putRecord cells n callSyntax mark (n - l .start + 1)) → ClosesGroup 1 mark n l stack cells r stack cells′
   unfolding closingBy
   call-closes e from to g nests table stack₀ first floor passed next value stackBefore cellsBefore s past-call valued none fits few =
-      rw (e .0, e .1) (closes-call value valued fits few mark s)
+      rw (e .0, e .1) (closes-behind value valued fits few toCall callSyntax mark (λ done starts waiting operand. refl) s)
 
   pub object-closes : {r : Level} {cells′ : List ℕ} → (r ≡ madeOne (withCount n l)) × (cells′ ≡ putRecord cells n objectSyntax mark (n - l .start + 1)) → ClosesGroup 2 mark n l stack cells r stack cells′
   unfolding closingBy
   object-closes e from to g nests table stack₀ first floor passed next value stackBefore cellsBefore s (past-object due) valued none fits few =
-      rw (e .0, e .1) (closes-object value valued fits few mark due s)
+      rw (e .0, e .1) (closes-alone value valued fits few toObject objectSyntax mark (λ done starts waiting. refl) due s)
 
   pub condition-closes : {r : Level} {after : List ℕ} → (l .top + 1) * width ≤ length stack
       → (r ≡ waitingOne (withCount n l)) × (after ≡ stackWith stack (l .top) ifSyntax (l .held) (l .start)) → ClosesGroup 3 mark n l stack cells r after cells
@@ -164,8 +166,8 @@ module _ {l : Level} {stack cells : List ℕ} (mark n : ℕ) where
 
   pub parameter-closes : ClosesGroup 4 mark n l stack cells (withCount n l) stack cells
   unfolding closingBy
-  parameter-closes from to g nests table stack₀ first floor passed next value stackBefore cellsBefore s past-parameter valued none fits few =
-      closes-parameter value valued fits few mark (none refl) s
+  parameter-closes from to g nests table stack₀ first floor passed next value stackBefore cellsBefore s spans valued none fits few =
+      closes-parameter value valued fits few mark (none refl) s spans
 
   pub block-closes : {r all : Level} {cells′ cells″ : List ℕ} → (r ≡ madeOne (withCount n l)) × (cells′ ≡ putRecord cells n blockSyntax mark (n - l .start + 1)) → Completes r stack cells′ all cells″
       → ClosesGroup 5 mark n l stack cells all stack cells″
@@ -179,17 +181,27 @@ module _ {l : Level} {stack cells : List ℕ} (mark n : ℕ) where
   declaration-closes e completes from to g nests table stack₀ first floor passed next value stackBefore cellsBefore s past-declaration valued none fits few =
       closes-declaration value valued fits few mark (rw (e .0, e .1) at completes) s
 
-  function-closed : {from to : Control} {g : Frame} {nests : List machine.Open} {table stack₀ : List ℕ} {first floor passed next : ℕ} {stackBefore cellsBefore : List ℕ} (value : Syntax)
-      → Stands from g nests table stack₀ first floor passed l stackBefore cellsBefore → Spans toFunction from to → Valued l n value stackBefore stack cellsBefore cells
-      → n + l .top < first + floor + next → first + floor + next ≤ mostTrees
-      → Stands to (machine.close toFunction mark value g) nests table stack₀ first floor next (madeOne (withCount n l)) stack
-      (putRecord cells n functionSyntax (l .held) (n - l .start + 1))
-  function-closed value s past-function valued fits few = closes-function value valued fits few mark s
+  pub function-closes : {r : Level} {cells′ : List ℕ} → (r ≡ madeOne (withCount n l)) × (cells′ ≡ putRecord cells n functionSyntax (l .held) (n - l .start + 1)) → ClosesGroup 7 mark n l stack cells r stack cells′
+  unfolding closingBy
+  function-closes e from to g nests table stack₀ first floor passed next value stackBefore cellsBefore s past-function valued none fits few =
+      rw (e .0, e .1) (closes-function value valued fits few mark s)
 
-  pub function-closes : (closing : ℕ) {r : Level} {cells′ : List ℕ} → closingBy closing ≡ toFunction → (r ≡ madeOne (withCount n l)) × (cells′ ≡ putRecord cells n functionSyntax (l .held) (n - l .start + 1))
+  pub array-closes : {r : Level} {cells′ : List ℕ} → (r ≡ madeOne (withCount n l)) × (cells′ ≡ putRecord cells n arraySyntax mark (n - l .start + 1)) → ClosesGroup 8 mark n l stack cells r stack cells′
+  unfolding closingBy
+  array-closes e from to g nests table stack₀ first floor passed next value stackBefore cellsBefore s (past-array due) valued none fits few =
+      rw (e .0, e .1) (closes-alone value valued fits few toArray arraySyntax mark (λ done starts waiting. refl) due s)
+
+  index-closed : {from to : Control} {g : Frame} {nests : List machine.Open} {table stack₀ : List ℕ} {first floor passed next : ℕ} {stackBefore cellsBefore : List ℕ} (value : Syntax)
+      → Stands from g nests table stack₀ first floor passed l stackBefore cellsBefore → Spans toIndex from to → Valued l n value stackBefore stack cellsBefore cells
+      → n + l .top < first + floor + next → first + floor + next ≤ mostTrees
+      → Stands to (machine.close toIndex mark value g) nests table stack₀ first floor next (madeOne (withCount n l)) stack
+      (putRecord cells n indexSyntax mark (n - l .start + 1))
+  index-closed value s past-index valued fits few = closes-behind value valued fits few toIndex indexSyntax mark (λ done starts waiting operand. refl) s
+
+  pub index-closes : (closing : ℕ) {r : Level} {cells′ : List ℕ} → closingBy closing ≡ toIndex → (r ≡ madeOne (withCount n l)) × (cells′ ≡ putRecord cells n indexSyntax mark (n - l .start + 1))
       → ClosesGroup closing mark n l stack cells r stack cells′
-  function-closes closing is e from to g nests table stack₀ first floor passed next value stackBefore cellsBefore s spans valued none fits few =
-      rw (is, e .0, e .1) (function-closed value s (rw is at spans) valued fits few)
+  index-closes closing is e from to g nests table stack₀ first floor passed next value stackBefore cellsBefore s spans valued none fits few =
+      rw (is, e .0, e .1) (index-closed value s (rw is at spans) valued fits few)
 
 -- what the call in between asks for
 pub group-held : {closing mark n : ℕ} {l r : Level} {stack cells cells′ : List ℕ} (kind m : ℕ) → MayClose closing mark n l stack cells

@@ -18,6 +18,8 @@ use Rattle.grammar.specs.Machinery.Machine.{
   wrap,
   reduce,
   operandOf,
+  doneOf,
+  completeValue,
   heldWord,
   ifNest,
   Setting,
@@ -29,7 +31,8 @@ use Rattle.grammar.specs.Machinery.Machine.{
   byStatement,
   byReturn,
   byParen,
-  byBrace,
+  byBracket,
+  byItem,
   Control,
   statementDue,
   statementDone,
@@ -39,12 +42,13 @@ use Rattle.grammar.specs.Machinery.Machine.{
   Action,
   pop,
   expressionValue,
+  listValue,
   nested,
   live,
   run,
 }
 use Rattle.controls.specs.Machinery.Numbers.{settingBy, endingBy, controlBy, controlOf}
-use Rattle.controls.specs.Machinery.Steps.{Settled, inGroup, Ends, ends-statements, ends-text, ends-expression, ends-object, ends-parameter}
+use Rattle.controls.specs.Machinery.Steps.{Settled, inGroup, Ends, ends-statements, ends-text, ends-expression, ends-item, ends-items, ends-no-parameter, ends-parameter}
 use Rattle.controls.specs.declared.Control as code
 use Rattle.waiting.specs.Machinery.Written.{putRecord}
 use Rattle.waiting.specs.Machinery.Waiting.{width, nestKind, Closes, Completes, stackWith, waitingOne, madeOne, withHeld}
@@ -53,7 +57,7 @@ use Rattle.frames.specs.Machinery.Stands.{some, Within, OneDone, Stands}
 use Rattle.frames.specs.Machinery.Effects.{ofParameter, StandsSomewhere, Enters, Moved, Moves, Leaves, Names, Readies, IsValue, is-popped, is-program, Ended}
 use Rattle.frames.specs.declared.Standing.{Standing}
 use Rattle.frames.proofs.CloseLaws.{reduce-wraps}
-use Rattle.frames.proofs.CarryLaws.{leftOne, carried, stands, closes-lightens, carries-word, carries-made, carries-nest, carries-expression, carries-statement, completes-lightens, Around, carries-around, Written, statements-written, expression-written}
+use Rattle.frames.proofs.CarryLaws.{leftOne, carried, stands, closes-lightens, carries-word, carries-made, carries-nest, carries-expression, carries-statement, completes-lightens, Around, carries-around, Written, all-written, statements-written, expression-written}
 use Rattle.frames.proofs.EffectLaws.{at-statement, behind}
 
 -- before a token the control behind a nest that is done takes it, and before what is no `:` a held name is an operand
@@ -125,7 +129,8 @@ in-group : {done : Syntax} {starts : List Pending} {nests : List machine.Open} (
 in-group (byStatement setting) t h = absurd t
 in-group (byReturn setting) t h = absurd t
 in-group byParen t h = h
-in-group byBrace t h = h
+in-group byBracket t h = h
+in-group (byItem items) t h = absurd t
 
 expression-value : {g : Frame} {done operand : Syntax} {starts waiting : List Pending} → g ≡ frame done starts waiting operand
     → IsValue (pop expressionValue) g (wrap waiting operand)
@@ -133,6 +138,14 @@ expression-value {done = done} {operand = operand} {starts = starts} {waiting = 
     let p : IsValue (pop expressionValue) (frame done starts waiting operand) (operandOf (reduce 0 done starts waiting operand)) = is-popped in
     let q : IsValue (pop expressionValue) (frame done starts waiting operand) (wrap waiting operand) = subst (λ f. IsValue (pop expressionValue) (frame done starts waiting operand) (operandOf f)) (reduce-wraps done starts waiting operand) p in
     rw e q
+
+-- the items done, and the last
+list-value : {g : Frame} {done operand : Syntax} {starts waiting : List Pending} → g ≡ frame done starts waiting operand → starts ≡ []
+    → IsValue (pop listValue) g (snoc done (wrap waiting operand))
+list-value {done = done} {operand = operand} {waiting = waiting} e none =
+    let p : IsValue (pop listValue) (frame done [] waiting operand) (doneOf (completeValue (reduce 0 done [] waiting operand))) = is-popped in
+    let q : IsValue (pop listValue) (frame done [] waiting operand) (snoc done (wrap waiting operand)) = subst (λ f. IsValue (pop listValue) (frame done [] waiting operand) (doneOf (completeValue f))) (reduce-wraps done [] waiting operand) p in
+    rw (e, none) q
 
 module _ {g : Frame} {nests : List machine.Open} {table stack₀ : List ℕ} {first floor passed : ℕ} {l r : Level} {stack cells after : List ℕ} where
   ended : {c : Control} {action : Action} {value : Syntax} (s : Stands c g nests table stack₀ first floor passed l stack cells) → r .floor ≡ l .floor → Closes 2 l stack cells r after
@@ -152,7 +165,13 @@ module _ {g : Frame} {nests : List machine.Open} {table stack₀ : List ℕ} {fi
   ends f w closes s (ends-expression {ending = ending} t) = let i = in-group ending t (s .shaped) in
       ended s f closes (expression-value (s .is)) (i .2)
       (expression-written (rw (i .0, i .1, i .2) at (carries-expression (carried s) f w closes)))
-  ends f w closes s ends-object =
+  ends f w closes s ends-item =
+      ended s f closes (list-value (s .is) (s .shaped .0)) (s .shaped .1)
+      (all-written (rw (s .shaped .0, s .shaped .1) at (carries-expression (carried s) f w closes)))
+  ends f w closes s ends-items =
+      ended s f closes (rw (s .is) is-popped) (s .shaped .3)
+      (statements-written (rw (s .shaped .0, s .shaped .1, s .shaped .2, s .shaped .3) at (carries-expression (carried s) f w closes)))
+  ends f w closes s ends-no-parameter =
       ended s f closes is-popped (s .shaped .4)
       (expression-written (rw (s .shaped .0, s .shaped .1, s .shaped .2, s .shaped .3, s .shaped .4) at (carries-expression (carried s) f w closes)))
   ends f w closes s ends-parameter =

@@ -110,7 +110,7 @@ pub fn affect(
         controls::HOLD_NAME => holding(l, mark),
         controls::START_RETURN => waiting::wait(l, records::FULL_RETURN, mark, waiting),
         controls::END_EXPRESSION => expression_ended(l, mark, waiting, syntax),
-        controls::END_RETURN => waiting::completed(l, waiting, syntax),
+        controls::END_VALUE => waiting::completed(l, waiting, syntax),
         controls::END_BARE_RETURN => bare_return(l, waiting, syntax),
         _ => l,
     }
@@ -238,6 +238,8 @@ pub fn close(
             let one = waiting::made(g, records::DECLARATION, l.held, syntax);
             waiting::completed(one, waiting, syntax)
         }
-        _ => waiting::made(g, records::FUNCTION, l.held, syntax),
+        controls::TO_FUNCTION => waiting::made(g, records::FUNCTION, l.held, syntax),
+        controls::TO_ARRAY => waiting::made(g, records::ARRAY, mark, syntax),
+        _ => waiting::made(g, records::INDEX, mark, syntax),
     }
 }

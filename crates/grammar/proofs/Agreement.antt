@@ -4,12 +4,13 @@ use mathlib.Core.List.{List, [], _∷_}
 use Prim.Native.Nat.{ℕ}
 use lib.Dec.{T, eqb, eqb→eq}
 use Rattle.text.proofs.Range.{and-left, and-right}
+use Rattle.rule.specs.Trees.{objectKind}
 use Rattle.rule.specs.Rule.{groupClass}
 use Rattle.rule.specs.Levels.{isExpression}
 use Rattle.rule.specs.Machinery.Summary.{Summary, nothing, braceBy, slashBy, nameBy, add}
 use Rattle.rule.proofs.Finite.{bothBools, at-bool, allSummaries, at-summary}
 use Rattle.grammar.specs.Tokens.{pattern, divide, returnWord, functionWord, ifWord, wordName}
-use Rattle.grammar.specs.Grammar.{body, block}
+use Rattle.grammar.specs.Grammar.{body, block, callArguments, arrayElements, objectProperties}
 use Rattle.grammar.specs.Machinery.Machine.{
   ifNest,
   Setting,
@@ -19,7 +20,8 @@ use Rattle.grammar.specs.Machinery.Machine.{
   byStatement,
   byReturn,
   byParen,
-  byBrace,
+  byBracket,
+  byItem,
   declared,
   operandIn,
   Control,
@@ -34,7 +36,7 @@ use Rattle.grammar.specs.Machinery.Machine.{
   functionFirst,
   functionNamed,
   parameterPast,
-  objectOpened,
+  itemDue,
   propertyNamed,
   parameterDue,
   parameterNamed,
@@ -67,12 +69,12 @@ abbrev pub wordClasses : List ℕ
 wordClasses = returnWord ∷ functionWord ∷ ifWord ∷ []
 
 -- a slash, and a reserved word, is taken as the summary answers
-unfoldable pub takenRight : Summary → ℕ → Bool
-takenRight s class =
+unfoldable pub takenRight : ℕ → Summary → ℕ → Bool
+takenRight kind s class =
     cond (eqb class pattern) (slashBy s)
     (cond (eqb class divide) (not (slashBy s))
-    (cond (eqb class wordName) (nameBy s)
-    (cond (isIn wordClasses class) (not (nameBy s))
+    (cond (eqb class wordName) (nameBy (eqb kind objectKind) s)
+    (cond (isIn wordClasses class) (not (nameBy (eqb kind objectKind) s))
     true)))
 
 -- a group of a kind is opened behind trees with a summary: the control inside it, and the one behind it
@@ -83,12 +85,12 @@ opensRight kind s newline group within behind = related within group nothing && 
 -- stand, and a nest is left only where a statement is complete. The whole text, of kind 0, is no group: there the machine stops.
 unfoldable pub allows : ℕ → Summary → Bool → ℕ → Action → Bool
 allows kind s newline class fail = true
-allows kind s newline class (goto next effect) = takenRight s class && (isLeaf class && related next kind (add (isExpression kind) s (treeClass class) newline))
+allows kind s newline class (goto next effect) = takenRight kind s class && (isLeaf class && related next kind (add (isExpression kind) s (treeClass class) newline))
 allows kind s newline class (push within behind closing) =
-    takenRight s class && (opensGroup class && opensRight kind s newline (openedKind (braceBy (isExpression kind) s newline) class) within behind)
+    takenRight kind s class && (opensGroup class && opensRight kind s newline (openedKind (braceBy (isExpression kind) s newline) class) within behind)
 allows kind s newline class (enter within behind closing) =
-    takenRight s class && (isLeaf class && (related within kind (add (isExpression kind) s (treeClass class) newline) && takesOver behind))
-allows kind s newline class (pop value) = takenRight s class && (closesGroup class && (eqb kind 0 || closesKind class kind))
+    takenRight kind s class && (isLeaf class && (related within kind (add (isExpression kind) s (treeClass class) newline) && takesOver behind))
+allows kind s newline class (pop value) = takenRight kind s class && (closesGroup class && (eqb kind 0 || closesKind class kind))
 allows kind s newline class (leave value) = settled kind s
 allows kind s newline class finish = eqb class endOfText
 
@@ -107,31 +109,31 @@ module _ (kind : ℕ) (s : Summary) (newline : Bool) where
 
   module _ (class : ℕ) where
     pub goto-allowed : (next : Control) (effect : Effect) → T (allows kind s newline class (goto next effect))
-        → T (takenRight s class) × T (isLeaf class) × T (related next kind (add (isExpression kind) s (treeClass class) newline))
+        → T (takenRight kind s class) × T (isLeaf class) × T (related next kind (add (isExpression kind) s (treeClass class) newline))
     unfolding allows
-    goto-allowed next effect = three (takenRight s class) (isLeaf class) (related next kind (add (isExpression kind) s (treeClass class) newline))
+    goto-allowed next effect = three (takenRight kind s class) (isLeaf class) (related next kind (add (isExpression kind) s (treeClass class) newline))
 
     pub push-allowed : (within behind : Control) (closing : Closing) → T (allows kind s newline class (push within behind closing))
-        → T (takenRight s class) × T (opensGroup class) × T (opensRight kind s newline (openedKind (braceBy (isExpression kind) s newline) class) within behind)
+        → T (takenRight kind s class) × T (opensGroup class) × T (opensRight kind s newline (openedKind (braceBy (isExpression kind) s newline) class) within behind)
     unfolding allows
     push-allowed within behind closing =
-        three (takenRight s class) (opensGroup class) (opensRight kind s newline (openedKind (braceBy (isExpression kind) s newline) class) within behind)
+        three (takenRight kind s class) (opensGroup class) (opensRight kind s newline (openedKind (braceBy (isExpression kind) s newline) class) within behind)
 
     pub enter-allowed : (within behind : Control) (closing : Closing) → T (allows kind s newline class (enter within behind closing))
-        → T (takenRight s class) × T (isLeaf class)
+        → T (takenRight kind s class) × T (isLeaf class)
         × T (related within kind (add (isExpression kind) s (treeClass class) newline) && takesOver behind)
     unfolding allows
     enter-allowed within behind closing =
-        three (takenRight s class) (isLeaf class) (related within kind (add (isExpression kind) s (treeClass class) newline) && takesOver behind)
+        three (takenRight kind s class) (isLeaf class) (related within kind (add (isExpression kind) s (treeClass class) newline) && takesOver behind)
 
     pub leave-allowed : (value : Value) → T (allows kind s newline class (leave value)) → T (settled kind s)
     unfolding allows
     leave-allowed value t = t
 
     pub pop-allowed : (value : Value) → T (allows kind s newline class (pop value))
-        → T (takenRight s class) × T (closesGroup class) × T (eqb kind 0 || closesKind class kind)
+        → T (takenRight kind s class) × T (closesGroup class) × T (eqb kind 0 || closesKind class kind)
     unfolding allows
-    pop-allowed value = three (takenRight s class) (closesGroup class) (eqb kind 0 || closesKind class kind)
+    pop-allowed value = three (takenRight kind s class) (closesGroup class) (eqb kind 0 || closesKind class kind)
 
     pub finish-allowed : T (allows kind s newline class finish) → T (eqb class endOfText)
     unfolding allows
@@ -186,7 +188,10 @@ endings =
     ∷ byReturn (among block)
     ∷ byReturn (inNest ifNest)
     ∷ byParen
-    ∷ byBrace
+    ∷ byBracket
+    ∷ byItem callArguments
+    ∷ byItem arrayElements
+    ∷ byItem objectProperties
     ∷ []
 
 an-ending : (ending : Ending) → Has ending endings
@@ -197,7 +202,10 @@ an-ending (byReturn (among body)) = there (there (there here))
 an-ending (byReturn (among block)) = there (there (there (there here)))
 an-ending (byReturn (inNest ifNest)) = there (there (there (there (there here))))
 an-ending byParen = there (there (there (there (there (there here)))))
-an-ending byBrace = there (there (there (there (there (there (there here))))))
+an-ending byBracket = there (there (there (there (there (there (there here))))))
+an-ending (byItem callArguments) = there (there (there (there (there (there (there (there here)))))))
+an-ending (byItem arrayElements) = there (there (there (there (there (there (there (there (there here))))))))
+an-ending (byItem objectProperties) = there (there (there (there (there (there (there (there (there (there here)))))))))
 
 each-setting : (control : Setting → Control) → T (allIn (λ setting. test (control setting)) settings) → (setting : Setting) → T (test (control setting))
 each-setting control t setting = at (λ setting. test (control setting)) (a-setting setting) t
@@ -224,9 +232,12 @@ passed (functionNamed declared) = tt
 passed (functionNamed (operandIn ending target)) = each-ending (λ ending target. functionNamed (operandIn ending target)) tt ending target
 passed (parameterPast declared) = tt
 passed (parameterPast (operandIn ending target)) = each-ending (λ ending target. parameterPast (operandIn ending target)) tt ending target
-passed objectOpened = tt
+passed (itemDue callArguments) = tt
+passed (itemDue arrayElements) = tt
+passed (itemDue objectProperties) = tt
 passed propertyNamed = tt
-passed parameterDue = tt
+passed (parameterDue true) = tt
+passed (parameterDue false) = tt
 passed parameterNamed = tt
 passed finished = tt
 

@@ -25,6 +25,9 @@ use Rattle.grammar.specs.Tokens.{
   closeParen,
   openBrace,
   closeBrace,
+  openBracket,
+  closeBracket,
+  comma,
   returnWord,
   functionWord,
   ifWord,
@@ -55,6 +58,9 @@ spellings =
     ∷ spells (byte ")") closeParen
     ∷ spells (byte "{") openBrace
     ∷ spells (byte "}") closeBrace
+    ∷ spells (byte "[") openBracket
+    ∷ spells (byte "]") closeBracket
+    ∷ spells (byte ",") comma
     ∷ spells (byte "R") returnWord
     ∷ spells (byte "F") functionWord
     ∷ spells (byte "I") ifWord
@@ -163,7 +169,6 @@ table =
     ∷ refused 4 "I(a)F f(x){}"
     ∷ refused 2 "a:F f(x){}"
     ∷ refused 1 "F(x){}"
-    ∷ refused 3 "F f(){}"
     ∷ refused 5 "F f(x);"
     -- expressions
     ∷ program "1+S;"
@@ -174,13 +179,12 @@ table =
     ∷ program "1=(a=b)=c;"
     ∷ refused 3 "a+b=c;"
     ∷ refused 5 "a=b+c=d;"
-    ∷ refused 2 "f();"
     ∷ refused 1 "();"
     ∷ refused 6 "x={a:b:c};"
     ∷ refused 3 "x={1:a};"
     ∷ refused 2 "a.1;"
     ∷ refused 2 "({)"
-    -- document 02, U1: a reserved word that is taken as a name stands behind a dot alone
+    -- document 02, U1: a reserved word that is taken as a name stands behind a dot
     ∷ program "a.W(b)/c/d;"
     ∷ refused 9 "a.W(b)/c/;"
     ∷ program "a.W.W=b.W;"
@@ -189,9 +193,37 @@ table =
     ∷ refused 1 "I.W;"
     ∷ refused 1 "F W(x){}"
     ∷ refused 3 "F f(W){}"
-    ∷ refused 3 "x={W:a};"
     ∷ refused 2 "(a}"
     ∷ refused 3 "f(a;"
+    -- document 02, U2: arrays with holes, indexing, lists of any length, functions without a name; such a word is a property too
+    ∷ program "[];"
+    ∷ program "[,];"
+    ∷ program "[a,,b,];"
+    ∷ program "[[a],{},P]/b/c;"
+    ∷ refused 2 "[a b];"
+    ∷ refused 2 "[a};"
+    ∷ program "a[b]=c[d][e].f;"
+    ∷ refused 2 "a[];"
+    ∷ refused 3 "a[b,c];"
+    ∷ program "f();"
+    ∷ program "f(a,b=c,{},P);"
+    ∷ refused 2 "f(,a);"
+    ∷ refused 4 "f(a,);"
+    ∷ refused 2 "(a,b);"
+    ∷ refused 1 "a,b;"
+    ∷ program "F f(){}"
+    ∷ program "F f(x,y,z){}"
+    ∷ refused 3 "F f(,){}"
+    ∷ refused 5 "F f(x,){}"
+    ∷ program "x={a:b,W:c,};"
+    ∷ program "x={W:F(a){R b;},c:d};"
+    ∷ refused 3 "x={,};"
+    ∷ refused 7 "x={a:b,,};"
+    ∷ refused 4 "x={a,b};"
+    ∷ program "y=F(x){}/a/b;"
+    ∷ refused 8 "y=F(x){}P;"
+    ∷ refused 1 "[W];"
+    ∷ refused 4 "f(a,W);"
     -- records: kind, mark and size of each part
     ∷ parsed "" (20 ∷ 0 ∷ 1 ∷ [])
     ∷ parsed "a={b:P}/c;" (1 ∷ 0 ∷ 1 ∷ 4 ∷ 5 ∷ 1 ∷ 5 ∷ 2 ∷ 2 ∷ 1 ∷ 7 ∷ 1 ∷ 10 ∷ 6 ∷ 4 ∷ 12 ∷ 1 ∷ 6 ∷ 13 ∷ 8 ∷ 7 ∷ 20 ∷ 9 ∷ 8 ∷ [])
@@ -200,6 +232,8 @@ table =
     ∷ parsed "F f(x){R x;}" (1 ∷ 6 ∷ 1 ∷ 15 ∷ 5 ∷ 2 ∷ 19 ∷ 0 ∷ 3 ∷ 20 ∷ 8 ∷ 4 ∷ [])
     ∷ parsed "I(a){b:R;}" (1 ∷ 2 ∷ 1 ∷ 14 ∷ 6 ∷ 1 ∷ 17 ∷ 4 ∷ 2 ∷ 16 ∷ 3 ∷ 3 ∷ 18 ∷ 0 ∷ 5 ∷ 20 ∷ 8 ∷ 6 ∷ [])
     ∷ parsed "(F f(x){})(1);" (7 ∷ 1 ∷ 1 ∷ 6 ∷ 0 ∷ 2 ∷ 2 ∷ 7 ∷ 1 ∷ 9 ∷ 6 ∷ 4 ∷ 13 ∷ 8 ∷ 5 ∷ 20 ∷ 9 ∷ 6 ∷ [])
+    ∷ parsed "a[b]=[c,,d];" (1 ∷ 0 ∷ 1 ∷ 1 ∷ 2 ∷ 1 ∷ 22 ∷ 1 ∷ 3 ∷ 1 ∷ 5 ∷ 1 ∷ 1 ∷ 8 ∷ 1 ∷ 21 ∷ 4 ∷ 3 ∷ 12 ∷ 3 ∷ 7 ∷ 13 ∷ 9 ∷ 8 ∷ 20 ∷ 10 ∷ 9 ∷ [])
+    ∷ parsed "f(a,{b:c,W:1});" (1 ∷ 0 ∷ 1 ∷ 1 ∷ 2 ∷ 1 ∷ 1 ∷ 7 ∷ 1 ∷ 2 ∷ 11 ∷ 1 ∷ 5 ∷ 4 ∷ 3 ∷ 9 ∷ 1 ∷ 6 ∷ 13 ∷ 12 ∷ 7 ∷ 20 ∷ 13 ∷ 8 ∷ [])
     ∷ []
 
 -- those that are not as the table says

@@ -7,27 +7,30 @@ use lib.Dec.{T, eqb}
 use Rattle.text.specs.Runs.{same}
 use Rattle.signs.specs.Signs.{longestSign, longestOf}
 use Rattle.elements.specs.declared.Element.{Element}
-use Rattle.rule.specs.Trees.{Trees, group, parenKind, objectKind, blockKind}
+use Rattle.rule.specs.Trees.{Trees, group, parenKind, objectKind, blockKind, bracketKind}
 use Rattle.rule.specs.Levels.{Levels, inside, braceOpens, onTop}
 use Rattle.prefix.specs.Reading.{Limits, more, openGroup, step}
 use Rattle.grammar.specs.Cuts.{isCloser, recorded}
-use Rattle.grammar.specs.Tokens.{openParen, closeParen, openBrace, closeBrace}
+use Rattle.grammar.specs.Tokens.{openParen, closeParen, openBrace, closeBrace, openBracket, closeBracket}
 use Rattle.grammar.specs.Machinery.Machine.{endOfText}
-use Rattle.grammar.proofs.Classes.{Told, told-leaf, told-open-paren, told-close-paren, told-open-brace, told-close-brace, told-nothing, no-leaf}
+use Rattle.grammar.proofs.Classes.{Told, told-leaf, told-open-paren, told-close-paren, told-open-brace, told-close-brace, told-open-bracket, told-close-bracket, told-nothing, no-leaf}
 
 abbrev pub opensGroup : ℕ → Bool
-opensGroup class = eqb class openParen || eqb class openBrace
+opensGroup class = eqb class openParen || eqb class openBracket || eqb class openBrace
 
 -- the kind of the group that an opener opens, by whether a brace opens an object there
 abbrev pub openedKind : Bool → ℕ → ℕ
-openedKind object class = cond (eqb class openParen) parenKind (cond object objectKind blockKind)
+openedKind object class = cond (eqb class openParen) parenKind (cond (eqb class openBracket) bracketKind (cond object objectKind blockKind))
 
 abbrev pub closesGroup : ℕ → Bool
-closesGroup class = eqb class closeParen || eqb class closeBrace
+closesGroup class = eqb class closeParen || eqb class closeBracket || eqb class closeBrace
 
 -- whether a closer closes a group of a kind
 abbrev pub closesKind : ℕ → ℕ → Bool
-closesKind class kind = cond (eqb class closeParen) (eqb kind parenKind) (eqb kind objectKind || eqb kind blockKind)
+closesKind class kind =
+    cond (eqb class closeParen) (eqb kind parenKind)
+    (cond (eqb class closeBracket) (eqb kind bracketKind)
+    (eqb kind objectKind || eqb kind blockKind))
 
 -- a test that passes
 pub holds : (b : Bool) → T b → b ≡ true
@@ -48,6 +51,8 @@ module _ (limits : Limits) (e : Element) where
   opener-step levels (told-close-paren k w) t = absurd t
   opener-step levels (told-open-brace k w) t = rw (step, k, eqb-true (e .which) 1 w)
   opener-step levels (told-close-brace k w) t = absurd t
+  opener-step levels (told-open-bracket k w) t = rw (step, k, eqb-true (e .which) 5 w)
+  opener-step levels (told-close-bracket k w) t = absurd t
   opener-step levels told-nothing t = absurd t
 
   pub closer-step : (around : Levels) (kind first : ℕ) (newline : Bool) (trees : Trees) {class : ℕ} → Told e class → T (closesGroup class) → T (closesKind class kind)
@@ -58,6 +63,8 @@ module _ (limits : Limits) (e : Element) where
   closer-step around kind first newline trees (told-close-paren k w) t u = rw (step, k, eqb-true (e .which) 4 w, holds (eqb kind parenKind) u)
   closer-step around kind first newline trees (told-open-brace k w) t u = absurd t
   closer-step around kind first newline trees (told-close-brace k w) t u = rw (step, k, eqb-true (e .which) 2 w, holds (eqb kind objectKind || eqb kind blockKind) u)
+  closer-step around kind first newline trees (told-open-bracket k w) t u = absurd t
+  closer-step around kind first newline trees (told-close-bracket k w) t u = rw (step, k, eqb-true (e .which) 6 w, holds (eqb kind bracketKind) u)
   closer-step around kind first newline trees told-nothing t u = absurd t
 
 -- closers, and only they, have no newline flag of their own
@@ -71,6 +78,8 @@ opener-no-closer e (told-open-paren k w) t = rw (k, eqb-true (e .which) 3 w)
 opener-no-closer e (told-close-paren k w) t = absurd t
 opener-no-closer e (told-open-brace k w) t = rw (k, eqb-true (e .which) 1 w)
 opener-no-closer e (told-close-brace k w) t = absurd t
+opener-no-closer e (told-open-bracket k w) t = rw (k, eqb-true (e .which) 5 w)
+opener-no-closer e (told-close-bracket k w) t = absurd t
 opener-no-closer e told-nothing t = absurd t
 
 pub closer-closer : (e : Element) {class : ℕ} → Told e class → T (closesGroup class) → isCloser e ≡ true
@@ -80,6 +89,8 @@ closer-closer e (told-open-paren k w) t = absurd t
 closer-closer e (told-close-paren k w) t = rw (k, eqb-true (e .which) 4 w)
 closer-closer e (told-open-brace k w) t = absurd t
 closer-closer e (told-close-brace k w) t = rw (k, eqb-true (e .which) 2 w)
+closer-closer e (told-open-bracket k w) t = absurd t
+closer-closer e (told-close-bracket k w) t = rw (k, eqb-true (e .which) 6 w)
 closer-closer e told-nothing t = absurd t
 
 pub newline-kept : (e : Element) → isCloser e ≡ false → (recorded e) .newline ≡ e .newline
@@ -92,4 +103,6 @@ no-end (told-open-paren k w) t = t
 no-end (told-close-paren k w) t = t
 no-end (told-open-brace k w) t = t
 no-end (told-close-brace k w) t = t
+no-end (told-open-bracket k w) t = t
+no-end (told-close-bracket k w) t = t
 no-end told-nothing t = t

@@ -13,7 +13,7 @@ use Rattle.vocabulary.specs.Vocabulary.{Row, words, signs, ruleClass, tokenClas
 use Rattle.vocabulary.proofs.RowLaws.{at-row, at-other}
 use Rattle.vocabulary.proofs.ClassLaws.{isClass, is-class}
 use Rattle.signs.specs.Signs.{longestSign, longestOf}
-use Rattle.elements.specs.Elements.{nameKind, wordKind, numberKind, stringKind, patternKind, signKind, delimiterKind, delimiter, parenOpener, parenCloser, braceOpener, braceCloser}
+use Rattle.elements.specs.Elements.{nameKind, wordKind, numberKind, stringKind, patternKind, signKind, delimiterKind, delimiter, parenOpener, parenCloser, braceOpener, braceCloser, bracketOpener, bracketCloser}
 use Rattle.elements.specs.declared.Element.{Element}
 use Rattle.elements.proofs.Choices.{cond-both, cond-known}
 use Rattle.rule.specs.Rule.{Class, elementClass}
@@ -32,6 +32,9 @@ use Rattle.grammar.specs.Tokens.{
   closeParen,
   openBrace,
   closeBrace,
+  openBracket,
+  closeBracket,
+  comma,
   returnWord,
   functionWord,
   ifWord,
@@ -59,6 +62,7 @@ leaves =
     ∷ is colon Class.colon
     ∷ is semicolon Class.other
     ∷ is dot Class.dot
+    ∷ is comma Class.comma
     ∷ is returnWord Class.returnWord
     ∷ is functionWord Class.functionWord
     ∷ is ifWord Class.ifWord
@@ -86,6 +90,8 @@ pub data Told (e : Element) : ℕ → Type 0 where
   told-close-paren : e .kind ≡ 0 → eqb (e .which) parenCloser ≡ true → Told e closeParen
   told-open-brace : e .kind ≡ 0 → eqb (e .which) braceOpener ≡ true → Told e openBrace
   told-close-brace : e .kind ≡ 0 → eqb (e .which) braceCloser ≡ true → Told e closeBrace
+  told-open-bracket : e .kind ≡ 0 → eqb (e .which) bracketOpener ≡ true → Told e openBracket
+  told-close-bracket : e .kind ≡ 0 → eqb (e .which) bracketCloser ≡ true → Told e closeBracket
   told-nothing : Told e 0
 
 -- a word or sign that has a class of its own is a tree by itself, of the class that its row has for the prefix rule
@@ -130,18 +136,21 @@ module _ (e : Element) where
   delimiter-told : e .kind ≡ delimiterKind → Told e (delimiterClass (e .which))
   unfolding delimiter rowAt longestSign longestOf same
   delimiter-told k =
-      go (eqb (e .which) braceOpener) (eqb (e .which) braceCloser) (eqb (e .which) parenOpener) (eqb (e .which) parenCloser) refl refl refl refl
+      go (eqb (e .which) braceOpener) (eqb (e .which) braceCloser) (eqb (e .which) parenOpener) (eqb (e .which) parenCloser)
+      (eqb (e .which) bracketOpener) (eqb (e .which) bracketCloser) refl refl refl refl refl refl
     where
       at-sign : (number : ℕ) → eqb (e .which) number ≡ true → Told e (tokenClass (rowAt signs number)) → Told e (tokenClass (rowAt signs (e .which)))
       at-sign number q t = subst (λ (n : ℕ). Told e (tokenClass (rowAt signs n))) (sym (eqb-true (e .which) number q)) t
 
-      go : (a b c d : Bool) → eqb (e .which) braceOpener ≡ a → eqb (e .which) braceCloser ≡ b → eqb (e .which) parenOpener ≡ c → eqb (e .which) parenCloser ≡ d
-          → Told e (cond (a || b || c || d) (tokenClass (rowAt signs (e .which))) 0)
-      go true b c d p q r s = at-sign 1 p (told-open-brace k p)
-      go false true c d p q r s = at-sign 2 q (told-close-brace k q)
-      go false false true d p q r s = at-sign 3 r (told-open-paren k r)
-      go false false false true p q r s = at-sign 4 s (told-close-paren k s)
-      go false false false false p q r s = told-nothing
+      go : (a b c d g h : Bool) → eqb (e .which) braceOpener ≡ a → eqb (e .which) braceCloser ≡ b → eqb (e .which) parenOpener ≡ c → eqb (e .which) parenCloser ≡ d
+          → eqb (e .which) bracketOpener ≡ g → eqb (e .which) bracketCloser ≡ h → Told e (cond (a || b || c || d || g || h) (tokenClass (rowAt signs (e .which))) 0)
+      go true b c d g h p q r s t u = at-sign 1 p (told-open-brace k p)
+      go false true c d g h p q r s t u = at-sign 2 q (told-close-brace k q)
+      go false false true d g h p q r s t u = at-sign 3 r (told-open-paren k r)
+      go false false false true g h p q r s t u = at-sign 4 s (told-close-paren k s)
+      go false false false false true h p q r s t u = at-sign 5 t (told-open-bracket k t)
+      go false false false false false true p q r s t u = at-sign 6 u (told-close-bracket k u)
+      go false false false false false false p q r s t u = told-nothing
 
   pub told : Told e (classOf e)
   unfolding classOf elementClass isLeaf treeClass
@@ -171,4 +180,6 @@ leaf-told e (told-open-paren k w) t = absurd t
 leaf-told e (told-close-paren k w) t = absurd t
 leaf-told e (told-open-brace k w) t = absurd t
 leaf-told e (told-close-brace k w) t = absurd t
+leaf-told e (told-open-bracket k w) t = absurd t
+leaf-told e (told-close-bracket k w) t = absurd t
 leaf-told e told-nothing t = absurd t

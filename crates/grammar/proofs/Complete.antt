@@ -4,7 +4,8 @@ use mathlib.Core.Bool.{Bool, true, false}
 use mathlib.Core.List.{List, [], _∷_, _++_}
 use Prim.Native.Nat.{ℕ, _<_, _+_}
 use native.Mathlib.Omega.{arith}
-use Rattle.grammar.specs.Tokens.{Token, token, Spot, assign}
+use lib.Dec.{T}
+use Rattle.grammar.specs.Tokens.{Token, token, Spot, assign, closeParen, comma}
 use Rattle.grammar.specs.Syntax.{Syntax, nil, node, snoc, fullReturnSyntax, labelSyntax, ifSyntax, functionSyntax, declarationSyntax}
 use Rattle.grammar.specs.Grammar.{
   Leaf,
@@ -16,6 +17,17 @@ use Rattle.grammar.specs.Grammar.{
   reserved-word,
   precedence,
   body,
+  Items,
+  callArguments,
+  arrayElements,
+  objectProperties,
+  mayEndInComma,
+  Names,
+  one-name,
+  more-names,
+  Parameters,
+  no-parameters,
+  some-parameters,
   Form,
   chainForm,
   binaryForm,
@@ -23,14 +35,25 @@ use Rattle.grammar.specs.Grammar.{
   functionForm,
   statementForm,
   statementsForm,
+  itemsForm,
+  listForm,
   Derives,
+  Function,
   chain-leaf,
-  chain-empty,
+  chain-array,
   chain-object,
   chain-parens,
   chain-function,
+  chain-unnamed,
+  chain-index,
   chain-call,
   chain-member,
+  no-items,
+  add-item,
+  add-hole,
+  list-empty,
+  list-items,
+  list-last,
   binary-chain,
   binary-operator,
   assign-binary,
@@ -47,14 +70,19 @@ use Rattle.grammar.specs.Grammar.{
   add-declaration,
   Program,
 }
-use Rattle.grammar.specs.Machinery.Machine.{endOfText, Pending, pending, Frame, frame, empty, completeStatement, markOf, heldWord, toStatement, Ending, byStatement, byReturn, byParen, byBrace, Role, declared, operandIn, ifNest, Setting, among, inNest, Control, statementDue, statementDone, behindStatement, operandDue, operandDone, functionFirst, finished, Open, nested, State, dead, live, run, start}
+use Rattle.grammar.specs.Machinery.Machine.{endOfText, Pending, pending, Frame, frame, empty, completeStatement, markOf, heldWord, toParameter, toStatement, Ending, byStatement, byReturn, byParen, byBracket, byItem, Role, declared, operandIn, ifNest, Setting, among, inNest, Control, statementDue, statementDone, behindStatement, operandDue, operandDone, functionFirst, functionNamed, itemDue, parameterDue, parameterNamed, parameterPast, Closing, close, listCloser, finished, Open, grouped, nested, State, dead, live, consume, run, start}
 use Rattle.grammar.proofs.Ran.{ran, ran-is-run, anywhere}
 use Rattle.grammar.proofs.ReduceLaws.{Looser, looser-up}
-use Rattle.grammar.proofs.Beginnings.{Sees, assign-begins, expression-is-taken, value-is-returned}
+use Rattle.grammar.proofs.Beginnings.{noColon, Sees, assign-begins, betweenItems, expression-is-taken, value-is-returned, item-is-taken}
 use Rattle.grammar.proofs.Passing.{
   Passed,
-  parens-passed,
-  object-passed,
+  by-paren,
+  by-bracket,
+  group-passed,
+  item-passed,
+  ListPassed,
+  list-passed,
+  last-passed,
   expression-passed,
   return-passed,
   operator-passed,
@@ -81,7 +109,7 @@ leaf-taken stop spot after ending target done starts waiting operand around leaf
 leaf-taken stop spot after ending target done starts waiting operand around leaf-pattern = refl
 
 ran-sees : (stop : Spot) → Sees (ran stop)
-ran-sees stop = record { by-take = λ state other t ts same. ap (λ (s : State). ran stop s ts) same; past-name = λ state spot ts. refl }
+ran-sees stop = record { by-take = λ state other t ts same. ap (λ (s : State). ran stop s ts) same; past-other = λ state class spot ts other. refl }
 
 -- a nest that is complete is left, whatever comes
 nest-left : (stop : Spot) (setting : Setting) (value : Syntax) (mark : ℕ) (done : Syntax) (starts : List Pending) (around : List Open) (after : List Token)
@@ -90,6 +118,40 @@ nest-left : (stop : Spot) (setting : Setting) (value : Syntax) (mark : ℕ) (don
     ≡ ran stop (live (behindStatement setting) (completeStatement done starts value) around) after
 nest-left stop setting value mark done starts around [] = refl
 nest-left stop setting value mark done starts around (token class spot ∷ after) = refl
+
+-- a function without a name goes on as one with a name
+unnamed-taken : {before after : List Token} {value : Syntax} (stop : Spot) (ending : Ending) (target : Bool) (f : Frame) (around : List Open)
+    → Function before after value
+    → ran stop (live (functionFirst (operandIn ending target)) f around) before ≡ ran stop (live (functionNamed (operandIn ending target)) f around) before
+unnamed-taken stop ending target f around (function-all parameters statements) = refl
+
+names-taken : {before after : List Token} (stop : Spot) (around : List Open) → Names before after
+    → ran stop (live (parameterDue false) empty around) before ≡ ran stop (live parameterNamed empty around) after
+names-taken stop around one-name = refl
+names-taken stop around (more-names names) = names-taken stop around names
+
+-- parameters are taken up to the closer behind them
+parameters-taken : {before after : List Token} {closer : Spot} (stop : Spot) (behind : Control) (mark : ℕ) (f : Frame) (around : List Open)
+    → Parameters before (token closeParen closer ∷ after)
+    → ran stop (live (parameterDue false) empty (grouped behind toParameter mark f ∷ around)) before ≡ ran stop (live behind f around) after
+parameters-taken stop behind mark f around no-parameters = refl
+parameters-taken stop behind mark f around (some-parameters names) = names-taken stop (grouped behind toParameter mark f ∷ around) names
+
+-- a list that may end behind a `,` ends where an item may come
+between-closes : (items : Items) (first : Bool) (behind : Control) (closing : Closing) (mark : ℕ) (f : Frame) (around : List Open) (value : Syntax) (closer : Spot)
+    → T (mayEndInComma items)
+    → consume (live (betweenItems items first) (frame value [] [] nil) (grouped behind closing mark f ∷ around)) (token (listCloser items) closer)
+    ≡ live behind (close closing mark value f) around
+between-closes callArguments first behind closing mark f around value closer allowed = absurd allowed
+between-closes arrayElements true behind closing mark f around value closer allowed = refl
+between-closes arrayElements false behind closing mark f around value closer allowed = refl
+between-closes objectProperties true behind closing mark f around value closer allowed = refl
+between-closes objectProperties false behind closing mark f around value closer allowed = refl
+
+hole-taken : (first : Bool) (stop sign : Spot) (f : Frame) (around : List Open) (after : List Token)
+    → ran stop (live (betweenItems arrayElements first) f around) (token comma sign ∷ after) ≡ ran stop (live (itemDue arrayElements) f around) after
+hole-taken true stop sign f around after = refl
+hole-taken false stop sign f around after = refl
 
 next : (n : ℕ) → n < n + 1
 next n = omega arith
@@ -109,7 +171,7 @@ Taken stop assignForm before after value =
     → Passed stop ending done starts around 0 waiting (live (operandDue ending true) (frame done starts waiting operand) around) before after value
 Taken stop functionForm before after value =
     (role : Role) (done : Syntax) (starts waiting : List Pending) (word : Syntax) (around : List Open)
-    → ran stop (live (functionFirst role) (frame done starts waiting word) around) before
+    → ran stop (live (functionNamed role) (frame done starts waiting word) around) before
     ≡ ran stop (live (behindFunction role) (withFunction role value done starts waiting word) around) after
 Taken stop statementForm before after value =
     (must : Bool) (setting : Setting) (done : Syntax) (starts : List Pending) (around : List Open)
@@ -118,18 +180,31 @@ Taken stop statementForm before after value =
 Taken stop (statementsForm scope) before after value =
     (around : List Open) → ran stop (live (statementDue false (among scope)) empty around) before
     ≡ ran stop (live (statementDue false (among scope)) (frame value [] [] nil) around) after
+Taken stop (itemsForm items) before after value =
+    (around : List Open) → (first : Bool) × (ran stop (live (itemDue items) empty around) before
+    ≡ ran stop (live (betweenItems items first) (frame value [] [] nil) around) after)
+Taken stop (listForm items) before after value =
+    (behind : Control) (closing : Closing) (mark : ℕ) (f : Frame) (around : List Open) → T (noColon after)
+    → ListPassed stop items behind closing mark f around before after value
 
 taken : (stop : Spot) {form : Form} {before after : List Token} {value : Syntax} → Derives form before after value → Taken stop form before after value
 taken stop (chain-leaf {spot = spot} {after = after} leaf) =
     λ ending target done starts waiting operand around. leaf-taken stop spot after ending target done starts waiting operand around leaf
-taken stop chain-empty = λ ending target done starts waiting operand around. refl
-taken stop (chain-object value) = λ ending target done starts waiting operand around. object-passed (taken stop value byBrace nil [] [] nil _ tt)
-taken stop (chain-parens value) = λ ending target done starts waiting operand around. parens-passed (taken stop value byParen nil [] [] nil _ tt)
-taken stop (chain-function {word = word} called) =
-    λ ending target done starts waiting operand around. taken stop called (operandIn ending target) done starts waiting (heldWord (word .mark)) around
-taken stop (chain-call callee value) =
+taken stop (chain-array values) = λ ending target done starts waiting operand around. list-passed (taken stop values _ _ _ _ _ tt)
+taken stop (chain-object values) = λ ending target done starts waiting operand around. list-passed (taken stop values _ _ _ _ _ tt)
+taken stop (chain-parens value) = λ ending target done starts waiting operand around. group-passed by-paren (taken stop value byParen nil [] [] nil _ tt)
+taken stop (chain-function {word = word} function) =
+    λ ending target done starts waiting operand around. taken stop function (operandIn ending target) done starts waiting (heldWord (word .mark)) around
+taken stop (chain-unnamed {word = word} function) =
     λ ending target done starts waiting operand around.
-    taken stop callee ending target done starts waiting operand around ∙ parens-passed (taken stop value byParen nil [] [] nil _ tt)
+    unnamed-taken stop ending target (frame done starts waiting (heldWord (word .mark))) around function
+    ∙ taken stop function (operandIn ending target) done starts waiting (heldWord (word .mark)) around
+taken stop (chain-index object value) =
+    λ ending target done starts waiting operand around.
+    taken stop object ending target done starts waiting operand around ∙ group-passed by-bracket (taken stop value byBracket nil [] [] nil _ tt)
+taken stop (chain-call callee values) =
+    λ ending target done starts waiting operand around.
+    taken stop callee ending target done starts waiting operand around ∙ list-passed (taken stop values _ _ _ _ _ tt)
 taken stop (chain-member identifier object) = taken stop object
 taken stop (chain-member reserved-word object) = taken stop object
 taken stop (binary-chain {value = value} chain) =
@@ -151,8 +226,10 @@ taken stop (assign-to {sign = sign} {target = first} target value) =
     λ ending done starts waiting operand around loose.
     assignment-passed sign loose (taken stop target ending true done starts waiting operand around)
     (taken stop value ending done starts (pending assign (sign .mark) first ∷ waiting) nil around (omega arith))
-taken stop (function-all statements) =
-    λ role done starts waiting word around. elim role [ declared ↦ taken stop statements _ | operandIn ending target ↦ taken stop statements _ ]
+taken stop (function-all {opener = opener} parameters statements) =
+    λ role done starts waiting word around.
+    parameters-taken stop (parameterPast role) (opener .mark) (frame done starts waiting word) around parameters
+    ∙ elim role [ declared ↦ taken stop statements _ | operandIn ending target ↦ taken stop statements _ ]
 taken stop (statement-block statements) = λ must setting done starts around. taken stop statements _
 taken stop (statement-expression allowed value) =
     λ must setting done starts around.
@@ -160,7 +237,7 @@ taken stop (statement-expression allowed value) =
     ∙ expression-passed (taken stop value (byStatement setting) done starts [] nil around tt)
 taken stop (statement-if {word = word} {after = after} {condition = first} {inner = value} condition inner) =
     λ must setting done starts around.
-    parens-passed (taken stop condition byParen nil [] [] nil _ tt)
+    group-passed by-paren (taken stop condition byParen nil [] [] nil _ tt)
     ∙ taken stop inner true (inNest ifNest) nil (pending ifSyntax (word .mark) first ∷ [])
     (nested (behindStatement setting) toStatement (word .mark) (frame done starts [] nil) ∷ around)
     ∙ nest-left stop setting (node ifSyntax (word .mark) first value) (word .mark) done starts around after
@@ -176,6 +253,33 @@ taken stop (add-statement {scope = scope} {statements = first} statements last) 
     λ around. taken stop statements around ∙ taken stop last false (among scope) first [] around
 taken stop (add-declaration {word = word} {statements = first} statements function) =
     λ around. taken stop statements around ∙ taken stop function declared first [] [] (heldWord (word .mark)) around
+taken stop no-items = λ around. (true, refl)
+taken stop (add-item {items = items} {values = first} values starts last) =
+    λ around.
+    let v = taken stop values around in (
+      false,
+      v .1
+          ∙ item-is-taken (ran-sees stop) items (v .0) (frame first [] [] nil) around starts (assign-begins last tt)
+          ∙ item-passed (taken stop last (byItem items) first [] [] nil around tt),
+    )
+taken stop (add-hole {sign = sign} {after = after} {values = first} values) =
+    λ around. let v = taken stop values around in (true, v .1 ∙ hole-taken (v .0) stop sign (frame first [] [] nil) around after)
+taken stop list-empty = λ behind closing mark f around past. record { control = itemDue callArguments; last = empty; runs = refl; closes = λ closer. refl }
+taken stop (list-items {items = items} {values = first} allowed values) =
+    λ behind closing mark f around past.
+    let v = taken stop values (grouped behind closing mark f ∷ around) in
+    record {
+      control = betweenItems items (v .0);
+      last = frame first [] [] nil;
+      runs = v .1;
+      closes = λ closer. between-closes items (v .0) behind closing mark f around first closer allowed;
+    }
+taken stop (list-last {items = items} {values = first} values starts last) =
+    λ behind closing mark f around past.
+    let v = taken stop values (grouped behind closing mark f ∷ around) in
+    last-passed
+    (v .1 ∙ item-is-taken (ran-sees stop) items (v .0) (frame first [] [] nil) (grouped behind closing mark f ∷ around) starts (assign-begins last past))
+    (taken stop last (byItem items) first [] [] nil (grouped behind closing mark f ∷ around) tt)
 
 -- a program's tokens and the text's end behind them are taken, with the program's syntax
 pub complete : {all : List Token} {parts : Syntax} (stop : Spot) → Program all parts → ran stop start all ≡ live finished (frame parts [] [] nil) []

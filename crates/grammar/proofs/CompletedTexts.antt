@@ -22,6 +22,7 @@ use Rattle.grammar.proofs.Completion.{
   spelled-semicolon,
   spelled-open-paren,
   spelled-close-paren,
+  spelled-close-bracket,
   spelled-open-brace,
   spelled-close-brace,
   spelled-return,
@@ -51,6 +52,7 @@ spelling spelled-colon = made _ (bytes ": ") _ refl refl
 spelling spelled-semicolon = made _ (bytes "; ") _ refl refl
 spelling spelled-open-paren = made _ (bytes "( ") _ refl refl
 spelling spelled-close-paren = made _ (bytes ") ") _ refl refl
+spelling spelled-close-bracket = made _ (bytes "] ") _ refl refl
 spelling spelled-open-brace = made _ (bytes "{ ") _ refl refl
 spelling spelled-close-brace = made _ (bytes "} ") _ refl refl
 spelling spelled-return = made _ (bytes "return ") _ refl refl

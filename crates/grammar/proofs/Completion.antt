@@ -3,7 +3,7 @@
 use mathlib.Core.Path.{_≡_}
 use mathlib.Core.List.{List, [], _∷_}
 use Prim.Native.Nat.{ℕ}
-use Rattle.grammar.specs.Tokens.{Token, token, Spot, name, colon, semicolon, openParen, closeParen, openBrace, closeBrace, returnWord}
+use Rattle.grammar.specs.Tokens.{Token, token, Spot, name, colon, semicolon, openParen, closeParen, closeBracket, openBrace, closeBrace, returnWord}
 use Rattle.grammar.specs.Machinery.Machine.{
   endOfText,
   Frame,
@@ -30,6 +30,7 @@ pub data Spelled : ℕ → Type 0 where
   spelled-semicolon : Spelled semicolon
   spelled-open-paren : Spelled openParen
   spelled-close-paren : Spelled closeParen
+  spelled-close-bracket : Spelled closeBracket
   spelled-open-brace : Spelled openBrace
   spelled-close-brace : Spelled closeBrace
   spelled-return : Spelled returnWord

@@ -4,7 +4,7 @@ use mathlib.Core.List.{List, [], _∷_}
 use Prim.Native.Nat.{ℕ, _+_, _≤_}
 use native.Mathlib.Omega.{arith}
 use lib.Dec.{T, eqb}
-use Rattle.grammar.specs.Tokens.{Token, token, Spot, closeParen, closeBrace}
+use Rattle.grammar.specs.Tokens.{Token, token, Spot, colon, closeParen, closeBracket, closeBrace}
 use Rattle.grammar.specs.Syntax.{Syntax, size}
 use Rattle.grammar.specs.Grammar.{
   Leaf,
@@ -19,13 +19,32 @@ use Rattle.grammar.specs.Grammar.{
   IdentifierName,
   identifier,
   reserved-word,
+  Items,
+  ItemStart,
+  at-argument,
+  at-element,
+  at-property,
+  Names,
+  one-name,
+  more-names,
+  Parameters,
+  no-parameters,
+  some-parameters,
   chain-leaf,
-  chain-empty,
+  chain-array,
   chain-object,
   chain-parens,
   chain-function,
+  chain-unnamed,
+  chain-index,
   chain-call,
   chain-member,
+  no-items,
+  add-item,
+  add-hole,
+  list-empty,
+  list-items,
+  list-last,
   binary-chain,
   binary-operator,
   assign-binary,
@@ -46,7 +65,7 @@ use Rattle.grammar.proofs.TableLaws.{at-operator}
 
 -- the class of a closer
 abbrev pub isClosing : ℕ → Bool
-isClosing class = eqb class closeParen || eqb class closeBrace
+isClosing class = eqb class closeParen || eqb class closeBracket || eqb class closeBrace
 
 -- the tokens that are no closers: each has a tree record
 abbrev pub countTreeTokens : List Token → ℕ
@@ -73,15 +92,31 @@ one-more class spot rest h = go (isClosing class) h
     go true h = absurd h
     go false h = omega arith
 
+item-counted : {items : Items} {before after : List Token} → ItemStart items before after → countTreeTokens after ≤ countTreeTokens before
+item-counted at-argument = omega arith
+item-counted at-element = omega arith
+item-counted (at-property {class = class} {called = called} {sign = sign} {here = here} identified) =
+    omega (arith, one-more class called (token colon sign ∷ here) (name-open identified))
+
+names-counted : {before after : List Token} → Names before after → countTreeTokens after ≤ countTreeTokens before
+names-counted one-name = omega arith
+names-counted (more-names names) = omega (arith, names-counted names)
+
+parameters-counted : {before after : List Token} → Parameters before after → countTreeTokens after ≤ countTreeTokens before
+parameters-counted no-parameters = omega arith
+parameters-counted (some-parameters names) = names-counted names
+
 -- each part's records are at most as many as the tokens from before it to behind it that are no closers
 counted : {form : Form} {before after : List Token} {value : Syntax} → Derives form before after value
     → size value + countTreeTokens after ≤ countTreeTokens before
 counted (chain-leaf {class = class} {spot = spot} {after = after} leaf) = omega (arith, one-more class spot after (leaf-open leaf))
-counted chain-empty = omega arith
-counted (chain-object value) = omega (arith, counted value)
+counted (chain-array values) = omega (arith, counted values)
+counted (chain-object values) = omega (arith, counted values)
 counted (chain-parens value) = omega (arith, counted value)
 counted (chain-function function) = omega (arith, counted function)
-counted (chain-call callee value) = omega (arith, counted callee, counted value)
+counted (chain-unnamed function) = omega (arith, counted function)
+counted (chain-index object value) = omega (arith, counted object, counted value)
+counted (chain-call callee values) = omega (arith, counted callee, counted values)
 counted (chain-member {class = class} {property = property} {after = after} called object) =
     omega (arith, counted object, one-more class property after (name-open called))
 counted (binary-chain chain) = counted chain
@@ -89,7 +124,7 @@ counted (binary-operator {class = class} {sign = sign} {middle = middle} op tigh
     omega (arith, counted left, counted right, one-more class sign middle (operator-open class op))
 counted (assign-binary binary) = counted binary
 counted (assign-to target value) = omega (arith, counted target, counted value)
-counted (function-all statements) = omega (arith, counted statements)
+counted (function-all parameters statements) = omega (arith, parameters-counted parameters, counted statements)
 counted (statement-block statements) = omega (arith, counted statements)
 counted (statement-expression allowed value) = omega (arith, counted value)
 counted (statement-if condition inner) = omega (arith, counted condition, counted inner)
@@ -99,6 +134,12 @@ counted (statement-label inner) = omega (arith, counted inner)
 counted no-statements = omega arith
 counted (add-statement statements last) = omega (arith, counted statements, counted last)
 counted (add-declaration statements function) = omega (arith, counted statements, counted function)
+counted no-items = omega arith
+counted (add-item values starts last) = omega (arith, counted values, item-counted starts, counted last)
+counted (add-hole values) = omega (arith, counted values)
+counted list-empty = omega arith
+counted (list-items allowed values) = counted values
+counted (list-last values starts last) = omega (arith, counted values, item-counted starts, counted last)
 
 pub few-parts : {all : List Token} {parts : Syntax} → Program all parts → size parts ≤ countTreeTokens all
 few-parts program = omega (arith, counted program)

@@ -1,7 +1,7 @@
 -- The records of trees are those of their elements, closers left out, in order: so an element's index is the number of those before it.
 use mathlib.Core.Path.{_≡_, refl, sym, ap, subst, _∙_}
 use mathlib.Core.List.{List, [], _∷_, _++_, append-assoc, append-nil}
-use mathlib.Core.Bool.{Bool, true, false, false≢true, cond, _||_}
+use mathlib.Core.Bool.{Bool, true, false, false≢true, cond}
 use Prim.Native.Nat.{ℕ, _+_, _*_}
 use native.Mathlib.Nat.{zero-add}
 use native.Mathlib.Omega.{arith}
@@ -11,9 +11,9 @@ use lib.ListN.{getD, length-append}
 use lib.Seq.{getD-append-add}
 use Rattle.text.specs.Runs.{same}
 use Rattle.signs.specs.Signs.{longestSign, longestOf}
-use Rattle.elements.specs.Elements.{delimiterKind, parenOpener, braceOpener, parenCloser, braceCloser}
+use Rattle.elements.specs.Elements.{delimiterKind, parenOpener, braceOpener, bracketOpener}
 use Rattle.elements.specs.declared.Element.{Element}
-use Rattle.rule.specs.Trees.{Trees, none, leaf, group, count, parenKind}
+use Rattle.rule.specs.Trees.{Trees, none, leaf, group, count, parenKind, bracketKind}
 use Rattle.tables.specs.Records.{treeWidth, treeRecord}
 use Rattle.storing.specs.Records.{records}
 use Rattle.reader.proofs.Formed.{Formed}
@@ -23,38 +23,33 @@ use Rattle.grammar.specs.Derivations.{countTrees}
 use Rattle.grammar.specs.TreeElements.{openerOf, closerOf, elementsOf}
 use Rattle.grammar.specs.Shown.{RecordOf, Indexed}
 use Rattle.grammar.proofs.ClassSteps.{leaf-no-closer}
+use Rattle.grammar.proofs.TreeSizes.{opener-counts, closer-closes}
+
+-- the kind of a group, by its opener
+abbrev KindOf : ℕ → Element → Type 0
+KindOf kind e = (e .kind ≡ delimiterKind → e .which ≡ parenOpener → kind ≡ parenKind) × (e .kind ≡ delimiterKind → e .which ≡ bracketOpener → kind ≡ bracketKind)
 
 data RecordsOf : List Element → List ℕ → Type 0 where
   no-records : RecordsOf [] []
   closer-none : {e : Element} {es : List Element} {cells : List ℕ} → isCloser e ≡ true → RecordsOf es cells → RecordsOf (e ∷ es) cells
   a-record : {e : Element} {es : List Element} {cells : List ℕ} (kind end number : ℕ) → isCloser e ≡ false
-      → ((e .kind ≡ delimiterKind → ⊥) → (kind ≡ e .kind) × (end ≡ e .end)) → (e .kind ≡ delimiterKind → e .which ≡ parenOpener → kind ≡ parenKind) → RecordsOf es cells
+      → ((e .kind ≡ delimiterKind → ⊥) → (kind ≡ e .kind) × (end ≡ e .end)) → KindOf kind e → RecordsOf es cells
       → RecordsOf (e ∷ es) (treeRecord kind (e .first) end number (e .newline) ++ cells)
 
--- the opener of a group is no closer, and its closer is one
-group-opener : (kind first : ℕ) (newline : Bool) → isCloser (openerOf kind first newline) ≡ false
+-- the opener of a group has its kind
+opener-kind : (kind first : ℕ) (newline : Bool) → KindOf kind (openerOf kind first newline)
 unfolding longestSign longestOf same
-group-opener kind first newline = go (eqb kind parenKind)
+opener-kind kind first newline = ((λ k w. paren (eqb kind parenKind) (eqb kind bracketKind) refl w), (λ k w. bracket (eqb kind parenKind) (eqb kind bracketKind) refl w))
   where
-    go : (b : Bool) → (eqb (cond b parenOpener braceOpener) parenCloser || eqb (cond b parenOpener braceOpener) braceCloser) ≡ false
-    go true = refl
-    go false = refl
+    paren : (a b : Bool) → eqb kind parenKind ≡ a → cond a parenOpener (cond b bracketOpener braceOpener) ≡ parenOpener → kind ≡ parenKind
+    paren true b q w = eqb-true kind parenKind q
+    paren false true q w = absurd (omega arith)
+    paren false false q w = absurd (omega arith)
 
-paren-group : (kind first : ℕ) (newline : Bool) → openerOf kind first newline .which ≡ parenOpener → kind ≡ parenKind
-unfolding longestSign longestOf same
-paren-group kind first newline w = go (eqb kind parenKind) refl w
-  where
-    go : (b : Bool) → eqb kind parenKind ≡ b → cond b parenOpener braceOpener ≡ parenOpener → kind ≡ parenKind
-    go true q w = eqb-true kind parenKind q
-    go false q w = absurd (omega arith)
-
-group-closer : (kind end : ℕ) → isCloser (closerOf kind end) ≡ true
-unfolding longestSign longestOf same
-group-closer kind end = go (eqb kind parenKind)
-  where
-    go : (b : Bool) → (eqb (cond b parenCloser braceCloser) parenCloser || eqb (cond b parenCloser braceCloser) braceCloser) ≡ true
-    go true = refl
-    go false = refl
+    bracket : (a b : Bool) → eqb kind bracketKind ≡ b → cond a parenOpener (cond b bracketOpener braceOpener) ≡ bracketOpener → kind ≡ bracketKind
+    bracket true b q w = absurd (omega arith)
+    bracket false true q w = eqb-true kind bracketKind q
+    bracket false false q w = absurd (omega arith)
 
 -- trees in front of elements and their records
 tree-records : (trees : Trees) → Formed trees → {es : List Element} {cells : List ℕ} → RecordsOf es cells → RecordsOf (elementsOf trees ++ es) (records trees ++ cells)
@@ -62,13 +57,13 @@ unfolding elementsOf records
 tree-records none f r = r
 tree-records (leaf before e) f {es} {cells} r =
     rw (append-assoc (elementsOf before) (e ∷ []) es, append-assoc (records before) (treeRecord (e .kind) (e .first) (e .end) 1 (e .newline)) cells)
-    (tree-records before (f .0) (a-record (e .kind) (e .end) 1 (leaf-no-closer e (λ z. omega (arith, f .1))) (λ n. (refl, refl)) (λ k. absurd (omega (arith, f .1))) r))
+    (tree-records before (f .0) (a-record (e .kind) (e .end) 1 (leaf-no-closer e (λ z. omega (arith, f .1))) (λ n. (refl, refl)) ((λ k. absurd (omega (arith, f .1))), (λ k. absurd (omega (arith, f .1)))) r))
 tree-records (group before kind first end newline within) f {es} {cells} r =
     let opener = openerOf kind first newline in
     let closer = closerOf kind end in
     let own = treeRecord kind first end (count within + 1) newline in
-    let inner : RecordsOf (elementsOf within ++ (closer ∷ es)) (records within ++ cells) = tree-records within (f .3) (closer-none (group-closer kind end) r) in
-    let all = tree-records before (f .0) (a-record {e = opener} kind end (count within + 1) (group-opener kind first newline) (λ n. absurd (n refl)) (λ k w. paren-group kind first newline w) inner) in
+    let inner : RecordsOf (elementsOf within ++ (closer ∷ es)) (records within ++ cells) = tree-records within (f .3) (closer-none (closer-closes kind end) r) in
+    let all = tree-records before (f .0) (a-record {e = opener} kind end (count within + 1) (opener-counts kind first newline) (λ n. absurd (n refl)) (opener-kind kind first newline) inner) in
     rw (append-assoc (elementsOf before) (opener ∷ (elementsOf within ++ (closer ∷ []))) es, append-assoc (elementsOf within) (closer ∷ []) es, append-assoc (records before) (own ++ records within) cells) all
 
 -- a record more in front
@@ -79,6 +74,7 @@ past-record kind first end number newline cells m e r =
       within = omega (arith, r .within, length-append (treeRecord kind first end number newline) cells);
       kind = λ n. later (treeWidth * (1 + m)) (treeWidth * m) (omega arith) ∙ r .kind n;
       parens = λ k w. later (treeWidth * (1 + m)) (treeWidth * m) (omega arith) ∙ r .parens k w;
+      brackets = λ k w. later (treeWidth * (1 + m)) (treeWidth * m) (omega arith) ∙ r .brackets k w;
       first = later (treeWidth * (1 + m) + 1) (treeWidth * m + 1) (omega arith) ∙ r .first;
       end = λ n. later (treeWidth * (1 + m) + 2) (treeWidth * m + 2) (omega arith) ∙ r .end n;
       newline = later (treeWidth * (1 + m) + 4) (treeWidth * m + 4) (omega arith) ∙ r .newline;
@@ -88,12 +84,13 @@ past-record kind first end number newline cells m e r =
     later at from q = rw q (getD-append-add (treeRecord kind first end number newline) cells from 0)
 
 first-record : (kind end number : ℕ) (cells : List ℕ) (e : Element) → ((e .kind ≡ delimiterKind → ⊥) → (kind ≡ e .kind) × (end ≡ e .end))
-    → (e .kind ≡ delimiterKind → e .which ≡ parenOpener → kind ≡ parenKind) → RecordOf (treeRecord kind (e .first) end number (e .newline) ++ cells) 0 e
-first-record kind end number cells e own paren =
+    → KindOf kind e → RecordOf (treeRecord kind (e .first) end number (e .newline) ++ cells) 0 e
+first-record kind end number cells e own opened =
     record {
       within = omega (arith, length-append (treeRecord kind (e .first) end number (e .newline)) cells);
       kind = λ n. own n .0;
-      parens = paren;
+      parens = opened .0;
+      brackets = opened .1;
       first = refl;
       end = λ n. own n .1;
       newline = refl;
@@ -106,10 +103,10 @@ record-at (closer-none {e = f} k r) [] e after q c = let s : f ≡ e = cc in abs
 record-at (closer-none {e = f} {cells = cells} k r) (b ∷ before) e after q c =
     let s : isCloser b ≡ true = let t : f ≡ b = cc in ap isCloser (sym t) ∙ k in
     rw (s, zero-add (countTrees before)) (record-at r before e after (cc) c)
-record-at (a-record {e = f} {cells = cells} kind end number k own paren r) [] e after q c =
+record-at (a-record {e = f} {cells = cells} kind end number k own opened r) [] e after q c =
     let s : f ≡ e = cc in
-    subst (λ (x : Element). RecordOf (treeRecord kind (f .first) end number (f .newline) ++ cells) 0 x) s (first-record kind end number cells f own paren)
-record-at (a-record {e = f} {cells = cells} kind end number k own paren r) (b ∷ before) e after q c =
+    subst (λ (x : Element). RecordOf (treeRecord kind (f .first) end number (f .newline) ++ cells) 0 x) s (first-record kind end number cells f own opened)
+record-at (a-record {e = f} {cells = cells} kind end number k own opened r) (b ∷ before) e after q c =
     let s : isCloser b ≡ false = let t : f ≡ b = cc in ap isCloser (sym t) ∙ k in
     rw s (past-record kind (f .first) end number (f .newline) cells (countTrees before) e (record-at r before e after (cc) c))
 

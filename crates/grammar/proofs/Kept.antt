@@ -10,7 +10,7 @@ use lib.Dec.{T, eqb, leb}
 use Rattle.text.proofs.Members.{allIn, at, isIn, found}
 use Rattle.elements.specs.declared.Element.{Element}
 use Rattle.elements.proofs.Choices.{cond-known}
-use Rattle.rule.specs.Trees.{Trees, count, leaf, group, parenKind, objectKind, blockKind}
+use Rattle.rule.specs.Trees.{Trees, count, leaf, group, parenKind, objectKind, blockKind, bracketKind}
 use Rattle.rule.specs.Rule.{backwards, groupClass}
 use Rattle.rule.specs.Levels.{Levels, wholeText, kindOf, slashOpens, wordIsName, braceOpens, depth, countSoFar}
 use Rattle.prefix.specs.Reading.{Limits, Step, stop, more, deep, treesFull, step}
@@ -18,7 +18,7 @@ use Rattle.rule.specs.Machinery.Summary.{nothing, slashBy, nameBy, summary}
 use Rattle.prefix.proofs.StateLaws.{count-on-top}
 use Rattle.prefix.proofs.StepLaws.{step-leaf}
 use Rattle.grammar.specs.Cuts.{isCloser, recorded}
-use Rattle.grammar.specs.Tokens.{Spot, token, tokenOf, classOf, pattern, divide, openParen, wordName}
+use Rattle.grammar.specs.Tokens.{Spot, token, tokenOf, classOf, pattern, divide, openParen, openBracket, wordName}
 use Rattle.grammar.specs.Syntax.{Syntax}
 use Rattle.grammar.specs.Machinery.Machine.{
   Frame,
@@ -74,12 +74,13 @@ pub record Kept (limits : Limits) (levels : Levels) (e : Element) (after : State
 
 -- an opener opens a group
 opened-no-text : (object : Bool) (class : ℕ) → openedKind object class ≡ 0 → ⊥
-opened-no-text object class = go (eqb class openParen) object
+opened-no-text object class = go (eqb class openParen) (eqb class openBracket) object
   where
-    go : (a b : Bool) → cond a parenKind (cond b objectKind blockKind) ≡ 0 → ⊥
-    go true b q = omega arith
-    go false true q = omega arith
-    go false false q = omega arith
+    go : (a b c : Bool) → cond a parenKind (cond b bracketKind (cond c objectKind blockKind)) ≡ 0 → ⊥
+    go true b c q = omega arith
+    go false true c q = omega arith
+    go false false true q = omega arith
+    go false false false q = omega arith
 
 module _ (limits : Limits) (levels : Levels) (e : Element) where
   leaf-outcome : {next : Control} {f : Frame} {around : List Open} → T (isLeaf (classOf e))
@@ -129,28 +130,28 @@ closer-outcome limits levels e place value (in-group {behind = behind} {closing 
     (closer-braces around kind first (e .end) newline trees (live behind (close closing mark value f) rest) (classOf e) (e .first) t))
 
 -- a slash, and a reserved word, is taken as the prefix rule says
-opens : (levels : Levels) (class : ℕ) → T (takenRight (summaryOf levels) class) → class ≡ pattern → slashOpens levels ≡ true
+opens : (levels : Levels) (class : ℕ) → T (takenRight (kindOf levels) (summaryOf levels) class) → class ≡ pattern → slashOpens levels ≡ true
 unfolding takenRight
 opens levels class t q = sym (slash-summary levels) ∙ holds (slashBy (summaryOf levels)) (rw q at t)
 
-divides : (levels : Levels) (class : ℕ) → T (takenRight (summaryOf levels) class) → class ≡ divide → slashOpens levels ≡ false
+divides : (levels : Levels) (class : ℕ) → T (takenRight (kindOf levels) (summaryOf levels) class) → class ≡ divide → slashOpens levels ≡ false
 unfolding takenRight
 divides levels class t q = sym (slash-summary levels) ∙ fails (slashBy (summaryOf levels)) (rw q at t)
 
-names : (levels : Levels) (class : ℕ) → T (takenRight (summaryOf levels) class) → class ≡ wordName → wordIsName levels ≡ true
+names : (levels : Levels) (class : ℕ) → T (takenRight (kindOf levels) (summaryOf levels) class) → class ≡ wordName → wordIsName levels ≡ true
 unfolding takenRight
-names levels class t q = sym (name-summary levels) ∙ holds (nameBy (summaryOf levels)) (rw q at t)
+names levels class t q = sym (name-summary levels) ∙ holds (nameBy (eqb (kindOf levels) objectKind) (summaryOf levels)) (rw q at t)
 
-keeps-word : (levels : Levels) (class : ℕ) → T (takenRight (summaryOf levels) class) → T (isIn wordClasses class) → wordIsName levels ≡ false
+keeps-word : (levels : Levels) (class : ℕ) → T (takenRight (kindOf levels) (summaryOf levels) class) → T (isIn wordClasses class) → wordIsName levels ≡ false
 unfolding takenRight
 keeps-word levels class t w =
     let other : (x : ℕ) → T (allIn (λ class. not (eqb class x)) wordClasses) → eqb class x ≡ false =
     λ x none. fails (eqb class x) (at (λ class. not (eqb class x)) (found wordClasses class w) none) in
     sym (name-summary levels)
-    ∙ fails (nameBy (summaryOf levels)) (rw (other pattern tt, other divide tt, other wordName tt, holds (isIn wordClasses class) w) at t)
+    ∙ fails (nameBy (eqb (kindOf levels) objectKind) (summaryOf levels)) (rw (other pattern tt, other divide tt, other wordName tt, holds (isIn wordClasses class) w) at t)
 
 module _ (limits : Limits) (levels : Levels) (e : Element) where
-  keep : {after : State} → T (takenRight (summaryOf levels) (classOf e)) → Outcome limits levels e after (step limits levels e) → Kept limits levels e after
+  keep : {after : State} → T (takenRight (kindOf levels) (summaryOf levels) (classOf e)) → Outcome limits levels e after (step limits levels e) → Kept limits levels e after
   keep t o = record {
     pattern-opens = opens levels (classOf e) t;
     divide-divides = divides levels (classOf e) t;

@@ -3,7 +3,8 @@ use mathlib.Core.Path.{_≡_, refl}
 use mathlib.Core.Bool.{Bool}
 use Prim.Native.Nat.{ℕ}
 use Rattle.elements.specs.declared.Element.{Element}
-use Rattle.rule.specs.Trees.{Trees, leaf, group}
+use lib.Dec.{eqb}
+use Rattle.rule.specs.Trees.{Trees, leaf, group, objectKind}
 use Rattle.rule.specs.Rule.{Class, elementClass, groupClass, backwards}
 use Rattle.rule.specs.Levels.{Levels, wholeText, inside, isExpression, kindOf, treesOf, slashOpens, wordIsName, braceOpens, onTop}
 use Rattle.rule.specs.Machinery.Summary.{Summary, braceBy, slashBy, nameBy, add, summary}
@@ -20,9 +21,9 @@ pub slash-summary : (levels : Levels) → slashBy (summaryOf levels) ≡ slashOp
 unfolding summaryOf
 slash-summary levels = slash-right (isExpression (kindOf levels)) (backwards (treesOf levels))
 
-pub name-summary : (levels : Levels) → nameBy (summaryOf levels) ≡ wordIsName levels
+pub name-summary : (levels : Levels) → nameBy (eqb (kindOf levels) objectKind) (summaryOf levels) ≡ wordIsName levels
 unfolding summaryOf
-name-summary levels = name-right (isExpression (kindOf levels)) (backwards (treesOf levels))
+name-summary levels = name-right (isExpression (kindOf levels)) (eqb (kindOf levels) objectKind) (backwards (treesOf levels))
 
 pub brace-summary : (levels : Levels) (newline : Bool) → braceBy (isExpression (kindOf levels)) (summaryOf levels) newline ≡ braceOpens levels newline
 unfolding summaryOf

@@ -4,18 +4,37 @@ use mathlib.Core.Path.{_≡_, refl, subst}
 use mathlib.Core.List.{List, [], List·Memᴰ}
 use Prim.Native.Nat.{ℕ, _+_, _≤_, _<_}
 use native.Mathlib.Omega.{arith}
-use Rattle.grammar.specs.Tokens.{Token, name, assign, colon, semicolon, dot, openParen, closeParen, openBrace, closeBrace, returnWord, functionWord, ifWord}
+use Rattle.grammar.specs.Tokens.{Token, name, assign, colon, semicolon, dot, openParen, closeParen, openBracket, closeBracket, openBrace, closeBrace, comma, returnWord, functionWord, ifWord}
 use Rattle.grammar.specs.Syntax.{Syntax, nil, node}
 use Rattle.grammar.specs.Grammar.{
+  Items,
+  ItemStart,
+  at-argument,
+  at-element,
+  at-property,
+  Names,
+  one-name,
+  more-names,
+  Parameters,
+  no-parameters,
+  some-parameters,
   Form,
   Derives,
   chain-leaf,
-  chain-empty,
+  chain-array,
   chain-object,
   chain-parens,
   chain-function,
+  chain-unnamed,
+  chain-index,
   chain-call,
   chain-member,
+  no-items,
+  add-item,
+  add-hole,
+  list-empty,
+  list-items,
+  list-last,
   binary-chain,
   binary-operator,
   assign-binary,
@@ -46,20 +65,48 @@ record MarksTo (total low : ℕ) (after : List Token) (value : Syntax) : Type 0 
 leaf-marks : {low kind mark : ℕ} → mark ≡ low → Marks low (low + 1) (node kind mark nil nil)
 leaf-marks {low} own = let passed : low < low + 1 = omega arith in before-parts own passed (no-marks (low + 1)) (no-marks (low + 1))
 
+-- tokens that make no part are passed: the next mark behind them
+record Skips (total low : ℕ) (after : List Token) : Type 0 where
+  high : ℕ
+  rest : Counting total high after
+  up : low ≤ high
+
 module _ {total : ℕ} where
+  skips-none : {low : ℕ} {here : List Token} → Counting total low here → Skips total low here
+  skips-none {low} counting = record { high = low; rest = counting; up = omega arith }
+
+  item-skips : {low : ℕ} {items : Items} {before after : List Token} → ItemStart items before after → Counting total low before → Skips total low after
+  item-skips at-argument counting = skips-none counting
+  item-skips at-element counting = skips-none counting
+  item-skips {low} (at-property {class = class} identified) counting =
+      let n = at-mark class (name-open identified) counting in
+      let s = at-mark colon tt (n .then) in
+      record { high = low + 1 + 1; rest = s .then; up = omega arith }
+
+  names-skip : {low : ℕ} {before after : List Token} → Names before after → Counting total low before → Skips total low after
+  names-skip {low} one-name counting = let n = at-mark name tt counting in record { high = low + 1; rest = n .then; up = omega arith }
+  names-skip (more-names names) counting =
+      let b = names-skip names counting in
+      let s = at-mark comma tt (b .rest) in
+      let n = at-mark name tt (s .then) in
+      record { high = b .high + 1 + 1; rest = n .then; up = omega arith }
+
+  parameters-skip : {low : ℕ} {before after : List Token} → Parameters before after → Counting total low before → Skips total low after
+  parameters-skip no-parameters counting = skips-none counting
+  parameters-skip (some-parameters names) counting = names-skip names counting
+
   marked : {low : ℕ} {form : Form} {before after : List Token} {value : Syntax} → Derives form before after value → Counting total low before
       → MarksTo total low after value
   marked {low} (chain-leaf {class = class} leaf) counting =
       let m = at-mark class (leaf-open leaf) counting in
       record { high = low + 1; rest = m .then; marks = leaf-marks (m .own) }
-  marked {low} chain-empty counting =
+  marked {low} (chain-array values) counting =
+      let m = at-mark openBracket tt counting in
+      let v = marked values (m .then) in
+      record { high = v .high; rest = past-closer closeBracket tt (v .rest); marks = before-parts (m .own) (omega arith) (v .marks) (no-marks (v .high)) }
+  marked {low} (chain-object values) counting =
       let m = at-mark openBrace tt counting in
-      record { high = low + 1; rest = past-closer closeBrace tt (m .then); marks = leaf-marks (m .own) }
-  marked {low} (chain-object value) counting =
-      let m = at-mark openBrace tt counting in
-      let n = at-mark name tt (m .then) in
-      let s = at-mark colon tt (n .then) in
-      let v = marked value (s .then) in
+      let v = marked values (m .then) in
       record { high = v .high; rest = past-closer closeBrace tt (v .rest); marks = before-parts (m .own) (omega arith) (v .marks) (no-marks (v .high)) }
   marked {low} (chain-parens value) counting =
       let m = at-mark openParen tt counting in
@@ -67,12 +114,22 @@ module _ {total : ℕ} where
       record { high = v .high; rest = past-closer closeParen tt (v .rest); marks = before-parts (m .own) (omega arith) (v .marks) (no-marks (v .high)) }
   marked {low} (chain-function function) counting =
       let m = at-mark functionWord tt counting in
+      let n = at-mark name tt (m .then) in
+      let v = marked function (n .then) in
+      record { high = v .high; rest = v .rest; marks = before-parts (m .own) (omega arith) (v .marks) (no-marks (v .high)) }
+  marked {low} (chain-unnamed function) counting =
+      let m = at-mark functionWord tt counting in
       let v = marked function (m .then) in
       record { high = v .high; rest = v .rest; marks = before-parts (m .own) (omega arith) (v .marks) (no-marks (v .high)) }
-  marked (chain-call callee value) counting =
+  marked (chain-index object value) counting =
+      let o = marked object counting in
+      let m = at-mark openBracket tt (o .rest) in
+      let v = marked value (m .then) in
+      record { high = v .high; rest = past-closer closeBracket tt (v .rest); marks = between-parts (o .marks) (m .own) (v .marks) }
+  marked (chain-call callee values) counting =
       let c = marked callee counting in
       let m = at-mark openParen tt (c .rest) in
-      let v = marked value (m .then) in
+      let v = marked values (m .then) in
       record { high = v .high; rest = past-closer closeParen tt (v .rest); marks = between-parts (c .marks) (m .own) (v .marks) }
   marked (chain-member {class = class} called object) counting =
       let o = marked object counting in
@@ -91,13 +148,12 @@ module _ {total : ℕ} where
       let m = at-mark assign tt (t .rest) in
       let v = marked value (m .then) in
       record { high = v .high; rest = v .rest; marks = between-parts (t .marks) (m .own) (v .marks) }
-  marked {low} (function-all statements) counting =
-      let n = at-mark name tt counting in
-      let o = at-mark openParen tt (n .then) in
-      let p = at-mark name tt (o .then) in
-      let b = at-mark openBrace tt (past-closer closeParen tt (p .then)) in
+  marked {low} (function-all parameters statements) counting =
+      let o = at-mark openParen tt counting in
+      let p = parameters-skip parameters (o .then) in
+      let b = at-mark openBrace tt (past-closer closeParen tt (p .rest)) in
       let s = marked statements (b .then) in
-      let up : low ≤ low + 1 + 1 + 1 + 1 = omega arith in
+      let up : low ≤ p .high + 1 = omega (arith, p .up) in
       record { high = s .high; rest = past-closer closeBrace tt (s .rest); marks = from-lower up (s .marks) }
   marked (statement-block statements) counting =
       let m = at-mark openBrace tt counting in
@@ -135,12 +191,31 @@ module _ {total : ℕ} where
   marked (add-declaration statements function) counting =
       let s = marked statements counting in
       let m = at-mark functionWord tt (s .rest) in
-      let f = marked function (m .then) in
+      let n = at-mark name tt (m .then) in
+      let f = marked function (n .then) in
       record {
         high = f .high;
         rest = f .rest;
         marks = marks-both (s .marks) (before-parts (m .own) (omega arith) (f .marks) (no-marks (f .high)));
       }
+  marked {low} no-items counting = record { high = low; rest = counting; marks = no-marks low }
+  marked (add-item values starts last) counting =
+      let v = marked values counting in
+      let s = item-skips starts (v .rest) in
+      let l = marked last (s .rest) in
+      let c = at-mark comma tt (l .rest) in
+      record { high = l .high + 1; rest = c .then; marks = to-higher (omega arith) (marks-both (v .marks) (from-lower (s .up) (l .marks))) }
+  marked (add-hole values) counting =
+      let v = marked values counting in
+      let c = at-mark comma tt (v .rest) in
+      record { high = v .high + 1; rest = c .then; marks = to-higher (omega arith) (v .marks) }
+  marked {low} list-empty counting = record { high = low; rest = counting; marks = no-marks low }
+  marked (list-items allowed values) counting = marked values counting
+  marked (list-last values starts last) counting =
+      let v = marked values counting in
+      let s = item-skips starts (v .rest) in
+      let l = marked last (s .rest) in
+      record { high = l .high; rest = l .rest; marks = marks-both (v .marks) (from-lower (s .up) (l .marks)) }
 
 -- the marks of a program's parts are from the first mark up to the total
 program-marks : {total first : ℕ} {all : List Token} {parts : Syntax} → Counting total first all → Program all parts → Marks first total parts

@@ -11,24 +11,43 @@ use Rattle.grammar.specs.Tokens.{
   dot,
   openParen,
   closeParen,
-  openBrace,
+  closeBracket,
+  comma,
   closeBrace,
   returnWord,
   functionWord,
   ifWord,
 }
-use Rattle.grammar.specs.Syntax.{Syntax, nil, node, snoc, fullReturnSyntax, expressionSyntax, ifSyntax}
+use Rattle.grammar.specs.Syntax.{Syntax, nil, node, snoc, functionSyntax, fullReturnSyntax, expressionSyntax, ifSyntax}
 use Rattle.grammar.specs.Grammar.{
   Scope,
   body,
+  IdentifierName,
+  Items,
+  callArguments,
+  arrayElements,
+  objectProperties,
+  at-argument,
+  Names,
+  Parameters,
+  itemsForm,
+  listForm,
+  Derives,
   Chain,
   Assign,
+  Function,
   Statement,
   Statements,
+  chain-array,
   chain-object,
   chain-parens,
   chain-function,
+  chain-unnamed,
+  chain-index,
   chain-call,
+  add-item,
+  list-items,
+  list-last,
   function-all,
   statement-block,
   statement-expression,
@@ -45,7 +64,7 @@ use Rattle.grammar.specs.Machinery.Machine.{
   empty,
   heldWord,
   completeStatement,
-  toObject,
+  doneOf,
   toParameter,
   toStatement,
   ifNest,
@@ -55,7 +74,8 @@ use Rattle.grammar.specs.Machinery.Machine.{
   byStatement,
   byReturn,
   byParen,
-  byBrace,
+  byBracket,
+  byItem,
   Role,
   declared,
   operandIn,
@@ -72,11 +92,13 @@ use Rattle.grammar.specs.Machinery.Machine.{
   functionFirst,
   functionNamed,
   parameterPast,
-  objectOpened,
+  itemDue,
   propertyNamed,
   parameterDue,
   parameterNamed,
   finished,
+  listCloser,
+  behindComma,
   Open,
   grouped,
   nested,
@@ -86,10 +108,14 @@ use Rattle.grammar.specs.Machinery.Machine.{
   popTo,
   finishIn,
 }
-use Rattle.grammar.proofs.Waiting.{Waiting}
+use Rattle.grammar.proofs.Waiting.{Waiting, none-waits}
 use Rattle.grammar.proofs.Places.{
   statementAt,
   expressionAt,
+  listAt,
+  Head,
+  with-name,
+  without-name,
   Reached,
   in-program,
   in-block,
@@ -100,9 +126,12 @@ use Rattle.grammar.proofs.Places.{
   in-expression,
   in-return,
   in-parens,
-  in-call,
+  in-index,
   in-condition,
+  in-call,
+  in-array,
   in-object,
+  in-item,
   with-declaration,
 }
 
@@ -147,33 +176,33 @@ pub data Partial (all : List Token) : Control → Frame → List Open → List T
   behind-function : {role : Role} {done : Syntax} {starts waiting : List Pending} {around : List Open} {word : Spot} {here : List Token}
       → FunctionAt all role done starts waiting around (token functionWord word ∷ here)
       → Partial all (functionFirst role) (frame done starts waiting (heldWord (word .mark))) around here
-  behind-function-name : {role : Role} {done : Syntax} {starts waiting : List Pending} {around : List Open} {word called : Spot}
-      {here : List Token} → FunctionAt all role done starts waiting around (token functionWord word ∷ token name called ∷ here)
+  behind-function-name : {role : Role} {done : Syntax} {starts waiting : List Pending} {around : List Open} {word : Spot} {before here : List Token}
+      → FunctionAt all role done starts waiting around before → Head role word before here
       → Partial all (functionNamed role) (frame done starts waiting (heldWord (word .mark))) around here
-  at-parameter : {role : Role} {done : Syntax} {starts waiting : List Pending} {around : List Open} {word called opener : Spot}
-      {here : List Token}
-      → FunctionAt all role done starts waiting around (token functionWord word ∷ token name called ∷ token openParen opener ∷ here)
-      → Partial all parameterDue empty
+  at-parameters : {role : Role} {done : Syntax} {starts waiting : List Pending} {around : List Open} {word opener : Spot} {before here : List Token}
+      → FunctionAt all role done starts waiting around before → Head role word before (token openParen opener ∷ here)
+      → Partial all (parameterDue false) empty
       (grouped (parameterPast role) toParameter (opener .mark) (frame done starts waiting (heldWord (word .mark))) ∷ around) here
-  behind-parameter : {role : Role} {done : Syntax} {starts waiting : List Pending} {around : List Open} {word called opener parameter : Spot}
-      {here : List Token}
-      → FunctionAt all role done starts waiting around
-      (token functionWord word ∷ token name called ∷ token openParen opener ∷ token name parameter ∷ here)
+  behind-parameter : {role : Role} {done : Syntax} {starts waiting : List Pending} {around : List Open} {word opener : Spot}
+      {before named here : List Token} → FunctionAt all role done starts waiting around before → Head role word before (token openParen opener ∷ named)
+      → Names named here
       → Partial all parameterNamed empty
       (grouped (parameterPast role) toParameter (opener .mark) (frame done starts waiting (heldWord (word .mark))) ∷ around) here
-  at-function-body : {role : Role} {done : Syntax} {starts waiting : List Pending} {around : List Open}
-      {word called opener parameter closer : Spot} {here : List Token}
-      → FunctionAt all role done starts waiting around
-      (token functionWord word ∷ token name called ∷ token openParen opener ∷ token name parameter ∷ token closeParen closer ∷ here)
+  at-parameter : {role : Role} {done : Syntax} {starts waiting : List Pending} {around : List Open} {word opener sign : Spot}
+      {before named here : List Token} → FunctionAt all role done starts waiting around before → Head role word before (token openParen opener ∷ named)
+      → Names named (token comma sign ∷ here)
+      → Partial all (parameterDue true) empty
+      (grouped (parameterPast role) toParameter (opener .mark) (frame done starts waiting (heldWord (word .mark))) ∷ around) here
+  at-function-body : {role : Role} {done : Syntax} {starts waiting : List Pending} {around : List Open} {word opener closer : Spot}
+      {before named here : List Token} → FunctionAt all role done starts waiting around before → Head role word before (token openParen opener ∷ named)
+      → Parameters named (token closeParen closer ∷ here)
       → Partial all (parameterPast role) (frame done starts waiting (heldWord (word .mark))) around here
-  in-braces : {ending : Ending} {target : Bool} {done operand : Syntax} {starts waiting : List Pending} {around : List Open} {opener : Spot}
-      {first here : List Token} → Reached all (expressionAt ending) done starts around first
-      → Waiting target waiting first (token openBrace opener ∷ here)
-      → Partial all objectOpened empty (grouped (operandDone ending target) toObject (opener .mark) (frame done starts waiting operand) ∷ around) here
-  behind-property : {ending : Ending} {target : Bool} {done operand : Syntax} {starts waiting : List Pending} {around : List Open}
-      {opener property : Spot} {first here : List Token} → Reached all (expressionAt ending) done starts around first
-      → Waiting target waiting first (token openBrace opener ∷ token name property ∷ here)
-      → Partial all propertyNamed empty (grouped (operandDone ending target) toObject (opener .mark) (frame done starts waiting operand) ∷ around) here
+  at-item : {items : Items} {done : Syntax} {around : List Open} {first here : List Token} → Reached all (listAt items) nil [] around first
+      → Derives (itemsForm items) first here done → Derives (listForm items) first here done
+      → Partial all (itemDue items) (frame done [] [] nil) around here
+  behind-property : {class : ℕ} {called : Spot} {done : Syntax} {around : List Open} {first here : List Token}
+      → Reached all (listAt objectProperties) nil [] around first → Derives (itemsForm objectProperties) first (token class called ∷ here) done
+      → IdentifierName class → Partial all propertyNamed (frame done [] [] nil) around here
   behind-end : {done : Syntax} {end : Spot} {here : List Token} → Statements body all (token endOfText end ∷ here) done
       → Partial all finished (frame done [] [] nil) [] here
 
@@ -182,6 +211,11 @@ abbrev pub PartialOf : List Token → State → List Token → Type 0
 PartialOf all (dead place) here = Unit {0}
 PartialOf all (live control f around) here = Partial all control f around here
 
+function-chain : {ending : Ending} {target : Bool} {word : Spot} {before rest after : List Token} {inside : Syntax}
+    → Head (operandIn ending target) word before rest → Function rest after inside → Chain before after (node functionSyntax (word .mark) inside nil)
+function-chain with-name function = chain-function function
+function-chain without-name function = chain-unnamed function
+
 module _ {all : List Token} where
   -- a statement is complete
   pub with-statement : {setting : Setting} {done last : Syntax} {starts : List Pending} {around : List Open} {before here : List Token}
@@ -189,8 +223,9 @@ module _ {all : List Token} where
       → Partial all (behindStatement setting) (completeStatement done starts last) around here
   with-statement (in-program statements) last = at-statement (in-program (add-statement statements last))
   with-statement (in-block outer statements) last = at-statement (in-block outer (add-statement statements last))
-  with-statement (in-declaration outer statements) last = at-statement (in-declaration outer (add-statement statements last))
-  with-statement (in-function outer waits statements) last = at-statement (in-function outer waits (add-statement statements last))
+  with-statement (in-declaration outer parameters statements) last = at-statement (in-declaration outer parameters (add-statement statements last))
+  with-statement (in-function outer waits head parameters statements) last =
+      at-statement (in-function outer waits head parameters (add-statement statements last))
   with-statement (after-if outer condition) last = behind-then outer condition last
   with-statement (after-label outer) last = with-statement outer (statement-label last)
 
@@ -199,20 +234,42 @@ module _ {all : List Token} where
       → Reached all (statementAt (among scope)) done [] around (token closeBrace closer ∷ here) → (place : ℕ) → PartialOf all (popTo place done around) here
   statements-close (in-program statements) place = tt
   statements-close (in-block outer statements) place = with-statement outer (statement-block statements)
-  statements-close (in-declaration outer statements) place = at-statement (with-declaration outer (function-all statements))
-  statements-close (in-function outer waits statements) place = behind-operand outer waits (chain-function (function-all statements))
+  statements-close (in-declaration outer parameters statements) place = at-statement (with-declaration outer (function-all parameters statements))
+  statements-close (in-function outer waits head parameters statements) place =
+      behind-operand outer waits (function-chain head (function-all parameters statements))
 
   pub parens-close : {done value : Syntax} {starts : List Pending} {around : List Open} {closer : Spot} {first here : List Token}
       → Reached all (expressionAt byParen) done starts around first → Assign first (token closeParen closer ∷ here) value
       → (place : ℕ) → PartialOf all (popTo place value around) here
   parens-close (in-parens outer waits) value place = behind-operand outer waits (chain-parens value)
-  parens-close (in-call outer waits callee) value place = behind-operand outer waits (chain-call callee value)
   parens-close (in-condition outer) value place = at-inner-statement (after-if outer value)
 
-  pub object-closes : {done value : Syntax} {starts : List Pending} {around : List Open} {closer : Spot} {first here : List Token}
-      → Reached all (expressionAt byBrace) done starts around first → Assign first (token closeBrace closer ∷ here) value
+  pub index-closes : {done value : Syntax} {starts : List Pending} {around : List Open} {closer : Spot} {first here : List Token}
+      → Reached all (expressionAt byBracket) done starts around first → Assign first (token closeBracket closer ∷ here) value
       → (place : ℕ) → PartialOf all (popTo place value around) here
-  object-closes (in-object outer waits) value place = behind-operand outer waits (chain-object value)
+  index-closes (in-index outer waits object) value place = behind-operand outer waits (chain-index object value)
+
+  pub list-closes : {items : Items} {value : Syntax} {around : List Open} {closer : Spot} {first here : List Token}
+      → Reached all (listAt items) nil [] around first → Derives (listForm items) first (token (listCloser items) closer ∷ here) value
+      → (place : ℕ) → PartialOf all (popTo place value around) here
+  list-closes (in-call outer waits callee) values place = behind-operand outer waits (chain-call callee values)
+  list-closes (in-array outer waits) values place = behind-operand outer waits (chain-array values)
+  list-closes (in-object outer waits) values place = behind-operand outer waits (chain-object values)
+
+  -- an item ends: a `,` stands behind it, or the closer
+  pub item-ends : {items : Items} {done value : Syntax} {starts : List Pending} {around : List Open} {sign : Spot} {first here : List Token}
+      → Reached all (expressionAt (byItem items)) done starts around first → Assign first (token comma sign ∷ here) value
+      → Partial all (behindComma items) (completeStatement done starts value) around here
+  item-ends (in-item {items = callArguments} outer values begins) value = at-operand (in-item outer (add-item values begins value) at-argument) none-waits
+  item-ends (in-item {items = arrayElements} outer values begins) value =
+      at-item outer (add-item values begins value) (list-items tt (add-item values begins value))
+  item-ends (in-item {items = objectProperties} outer values begins) value =
+      at-item outer (add-item values begins value) (list-items tt (add-item values begins value))
+
+  pub last-item-ends : {items : Items} {done value : Syntax} {starts : List Pending} {around : List Open} {closer : Spot} {first here : List Token}
+      → Reached all (expressionAt (byItem items)) done starts around first → Assign first (token (listCloser items) closer ∷ here) value
+      → (place : ℕ) → PartialOf all (popTo place (doneOf (completeStatement done starts value)) around) here
+  last-item-ends (in-item outer values begins) value place = list-closes outer (list-last values begins value) place
 
   -- an expression ends with its statement
   pub expression-ends : {setting : Setting} {done value : Syntax} {starts : List Pending} {around : List Open} {end : Spot} {first here : List Token}
@@ -229,5 +286,5 @@ module _ {all : List Token} where
   pub text-ends : {done : Syntax} {around : List Open} {end : Spot} {here : List Token}
       → Reached all (statementAt (among body)) done [] around (token endOfText end ∷ here) → (place : ℕ) → PartialOf all (finishIn place (frame done [] [] nil) around) here
   text-ends (in-program statements) place = behind-end statements
-  text-ends (in-declaration outer statements) place = tt
-  text-ends (in-function outer waits statements) place = tt
+  text-ends (in-declaration outer parameters statements) place = tt
+  text-ends (in-function outer waits head parameters statements) place = tt

@@ -1,13 +1,13 @@
 -- The machine passes an expression: the run stands behind its last operand, with operators pending that close to its syntax.
-use mathlib.Core.Path.{_≡_, _∙_, ap}
+use mathlib.Core.Path.{_≡_, refl, _∙_, ap}
 use mathlib.Core.Bool.{Bool, true, false}
 use mathlib.Core.List.{List, [], _∷_}
 use Prim.Native.Nat.{ℕ, _+_, _≤_}
 use native.Mathlib.Omega.{arith}
 use lib.Dec.{T}
-use Rattle.grammar.specs.Tokens.{Token, token, Spot, assign, semicolon, closeParen, closeBrace}
-use Rattle.grammar.specs.Syntax.{Syntax, nil, node, expressionSyntax}
-use Rattle.grammar.specs.Grammar.{operators, isOperator, precedence}
+use Rattle.grammar.specs.Tokens.{Token, token, Spot, assign, semicolon, closeParen, closeBracket, comma}
+use Rattle.grammar.specs.Syntax.{Syntax, nil, node, snoc, expressionSyntax}
+use Rattle.grammar.specs.Grammar.{Items, callArguments, arrayElements, objectProperties, operators, isOperator, precedence}
 use Rattle.grammar.specs.Machinery.Machine.{
   Pending,
   pending,
@@ -17,8 +17,9 @@ use Rattle.grammar.specs.Machinery.Machine.{
   reduce,
   completeStatement,
   completeExpression,
-  completeReturn,
+  completeValue,
   operandOf,
+  doneOf,
   await,
   Closing,
   close,
@@ -27,11 +28,15 @@ use Rattle.grammar.specs.Machinery.Machine.{
   byStatement,
   byReturn,
   byParen,
-  byBrace,
+  byBracket,
+  byItem,
   Control,
   behindStatement,
+  behindComma,
   operandDue,
   operandDone,
+  itemDue,
+  listCloser,
   Action,
   besidesOperators,
   Open,
@@ -39,6 +44,7 @@ use Rattle.grammar.specs.Machinery.Machine.{
   State,
   live,
   act,
+  consume,
 }
 use Rattle.grammar.proofs.Ran.{ran}
 use Rattle.grammar.proofs.TableLaws.{threshold-operator, look-operator}
@@ -54,22 +60,38 @@ pub record Passed (stop : Spot) (ending : Ending) (done : Syntax) (starts : List
   pub runs : ran stop from before ≡ ran stop (live (operandDone ending target) (frame done starts unclosed last) around) after
   pub closes : (n : ℕ) → n ≤ least → reduce n done starts unclosed last ≡ reduce n done starts waiting value
 
--- the ends of an expression: a group's closer, and `;`
+-- the endings that stand for a closer
+pub data ClosedBy : Ending → ℕ → Type 0 where
+  by-paren : ClosedBy byParen closeParen
+  by-bracket : ClosedBy byBracket closeBracket
+
+-- what the closer of a group does behind an expression, and that of a list behind an item
+module _ (behind : Control) (closing : Closing) (mark : ℕ) (f : Frame) (around : List Open) (closer : Spot) where
+  group-closed : {ending : Ending} {class : ℕ} → ClosedBy ending class → (target : Bool) (unclosed : List Pending) (last : Syntax)
+      → consume (live (operandDone ending target) (frame nil [] unclosed last) (grouped behind closing mark f ∷ around)) (token class closer)
+      ≡ live behind (close closing mark (operandOf (reduce 0 nil [] unclosed last)) f) around
+  group-closed by-paren target unclosed last = refl
+  group-closed by-bracket target unclosed last = refl
+
+  last-closed : (items : Items) (target : Bool) (done : Syntax) (unclosed : List Pending) (last : Syntax)
+      → consume (live (operandDone (byItem items) target) (frame done [] unclosed last) (grouped behind closing mark f ∷ around)) (token (listCloser items) closer)
+      ≡ live behind (close closing mark (doneOf (completeValue (reduce 0 done [] unclosed last))) f) around
+  last-closed callArguments target done unclosed last = refl
+  last-closed arrayElements target done unclosed last = refl
+  last-closed objectProperties target done unclosed last = refl
+
+-- the ends of an expression: a group's closer, `;`, and `,`
 module _ {stop : Spot} {behind : Control} {closing : Closing} {mark : ℕ} {f : Frame} {around : List Open} {closer : Spot} {inside after : List Token}
     {value : Syntax} where
-  pub parens-passed : Passed stop byParen nil [] (grouped behind closing mark f ∷ around) 0 []
-      (live (operandDue byParen true) empty (grouped behind closing mark f ∷ around)) inside (token closeParen closer ∷ after) value
-      → ran stop (live (operandDue byParen true) empty (grouped behind closing mark f ∷ around)) inside
+  pub group-passed : {ending : Ending} {class : ℕ} → ClosedBy ending class
+      → Passed stop ending nil [] (grouped behind closing mark f ∷ around) 0 []
+      (live (operandDue ending true) empty (grouped behind closing mark f ∷ around)) inside (token class closer ∷ after) value
+      → ran stop (live (operandDue ending true) empty (grouped behind closing mark f ∷ around)) inside
       ≡ ran stop (live behind (close closing mark value f) around) after
-  parens-passed p =
-      p .runs ∙ ap (λ (z : Frame). ran stop (live behind (close closing mark (operandOf z) f) around) after) (p .closes 0 (omega arith))
-
-  pub object-passed : Passed stop byBrace nil [] (grouped behind closing mark f ∷ around) 0 []
-      (live (operandDue byBrace true) empty (grouped behind closing mark f ∷ around)) inside (token closeBrace closer ∷ after) value
-      → ran stop (live (operandDue byBrace true) empty (grouped behind closing mark f ∷ around)) inside
-      ≡ ran stop (live behind (close closing mark value f) around) after
-  object-passed p =
-      p .runs ∙ ap (λ (z : Frame). ran stop (live behind (close closing mark (operandOf z) f) around) after) (p .closes 0 (omega arith))
+  group-passed closed p =
+      p .runs
+      ∙ ap (λ (z : State). ran stop z after) (group-closed behind closing mark f around closer closed (p .target) (p .unclosed) (p .last))
+      ∙ ap (λ (z : Frame). ran stop (live behind (close closing mark (operandOf z) f) around) after) (p .closes 0 (omega arith))
 
 module _ {stop : Spot} {setting : Setting} {done : Syntax} {starts : List Pending} {around : List Open} {from : State} {end : Spot} {before after : List Token}
     {value : Syntax} where
@@ -82,7 +104,41 @@ module _ {stop : Spot} {setting : Setting} {done : Syntax} {starts : List Pendin
   pub return-passed : Passed stop (byReturn setting) done starts around 0 [] from before (token semicolon end ∷ after) value
       → ran stop from before ≡ ran stop (live (behindStatement setting) (completeStatement done starts value) around) after
   return-passed p =
-      p .runs ∙ ap (λ (z : Frame). ran stop (live (behindStatement setting) (completeReturn z) around) after) (p .closes 0 (omega arith))
+      p .runs ∙ ap (λ (z : Frame). ran stop (live (behindStatement setting) (completeValue z) around) after) (p .closes 0 (omega arith))
+
+module _ {stop : Spot} {items : Items} {done : Syntax} {around : List Open} {from : State} {before after : List Token} {value : Syntax} where
+  -- behind an item stands a `,`
+  pub item-passed : {sign : Spot} → Passed stop (byItem items) done [] around 0 [] from before (token comma sign ∷ after) value
+      → ran stop from before ≡ ran stop (live (behindComma items) (frame (snoc done value) [] [] nil) around) after
+  item-passed p = p .runs ∙ ap (λ (z : Frame). ran stop (live (behindComma items) (completeValue z) around) after) (p .closes 0 (omega arith))
+
+-- The run comes from the tokens of a list to those after it, where the closer ends the list with its value.
+pub record ListPassed (stop : Spot) (items : Items) (behind : Control) (closing : Closing) (mark : ℕ) (f : Frame) (around : List Open) (before after : List Token)
+    (value : Syntax) : Type 0 where
+  pub control : Control
+  pub last : Frame
+  pub runs : ran stop (live (itemDue items) empty (grouped behind closing mark f ∷ around)) before
+      ≡ ran stop (live control last (grouped behind closing mark f ∷ around)) after
+  pub closes : (closer : Spot) → consume (live control last (grouped behind closing mark f ∷ around)) (token (listCloser items) closer)
+      ≡ live behind (close closing mark value f) around
+
+module _ {stop : Spot} {behind : Control} {closing : Closing} {mark : ℕ} {f : Frame} {around : List Open} {before after : List Token} {value : Syntax} where
+  pub list-passed : {items : Items} {closer : Spot} → ListPassed stop items behind closing mark f around before (token (listCloser items) closer ∷ after) value
+      → ran stop (live (itemDue items) empty (grouped behind closing mark f ∷ around)) before ≡ ran stop (live behind (close closing mark value f) around) after
+  list-passed {closer = closer} p = p .runs ∙ ap (λ (z : State). ran stop z after) (p .closes closer)
+
+  -- the list ends with an item
+  pub last-passed : {items : Items} {done : Syntax} {from : State} {middle : List Token}
+      → ran stop (live (itemDue items) empty (grouped behind closing mark f ∷ around)) before ≡ ran stop from middle
+      → Passed stop (byItem items) done [] (grouped behind closing mark f ∷ around) 0 [] from middle after value
+      → ListPassed stop items behind closing mark f around before after (snoc done value)
+  last-passed {items = items} {done = done} runs p = record {
+    control = operandDone (byItem items) (p .target);
+    last = frame done [] (p .unclosed) (p .last);
+    runs = runs ∙ p .runs;
+    closes = λ closer. last-closed behind closing mark f around closer items (p .target) done (p .unclosed) (p .last)
+        ∙ ap (λ (z : Frame). live behind (close closing mark (doneOf (completeValue z)) f) around) (p .closes 0 (omega arith));
+  }
 
 -- expressions of two parts
 module _ {stop : Spot} {ending : Ending} {done : Syntax} {starts : List Pending} {around : List Open} {waiting : List Pending} {from : State}

@@ -2,13 +2,21 @@
 use mathlib.Core.Bool.{Bool, true, false}
 use mathlib.Core.List.{List, [], _∷_}
 use lib.Dec.{T}
-use Rattle.grammar.specs.Tokens.{Token, token, Spot, name, colon, openParen, closeParen, openBrace, returnWord, functionWord, ifWord}
+use Rattle.grammar.specs.Tokens.{Token, token, Spot, name, colon, openParen, closeParen, openBracket, openBrace, returnWord, functionWord, ifWord}
 use Rattle.grammar.specs.Syntax.{Syntax, nil, node, snoc, fullReturnSyntax, labelSyntax, ifSyntax, declarationSyntax}
 use Rattle.grammar.specs.Grammar.{
   startsExpression,
   onSameLine,
   body,
   block,
+  Items,
+  callArguments,
+  arrayElements,
+  objectProperties,
+  ItemStart,
+  Parameters,
+  itemsForm,
+  Derives,
   Chain,
   Assign,
   Function,
@@ -23,6 +31,8 @@ use Rattle.grammar.specs.Machinery.Machine.{
   toParens,
   toCall,
   toObject,
+  toArray,
+  toIndex,
   toBlock,
   toCondition,
   toDeclaration,
@@ -36,7 +46,10 @@ use Rattle.grammar.specs.Machinery.Machine.{
   byStatement,
   byReturn,
   byParen,
-  byBrace,
+  byBracket,
+  byItem,
+  Role,
+  operandIn,
   statementDue,
   behindStatement,
   operandDone,
@@ -46,32 +59,33 @@ use Rattle.grammar.specs.Machinery.Machine.{
 }
 use Rattle.grammar.proofs.Waiting.{Waiting}
 
--- a place where a statement may start, in its setting, or an expression starts, with its ending
+-- a place where a statement may start, in its setting, an expression starts, with its ending, or a list starts
 pub data Place : Type 0 where
   statementAt : Setting → Place
   expressionAt : Ending → Place
+  listAt : Items → Place
 
--- The tokens of `all` lead to a place: with the statements done on its level, the beginnings of statements, the groups and
+-- the word of a function, and its name if it has one: in an expression it needs none
+pub data Head : Role → Spot → List Token → List Token → Type 0 where
+  with-name : {role : Role} {word called : Spot} {here : List Token} → Head role word (token functionWord word ∷ token name called ∷ here) here
+  without-name : {ending : Ending} {target : Bool} {word : Spot} {here : List Token} → Head (operandIn ending target) word (token functionWord word ∷ here) here
+
+-- The tokens of `all` lead to a place: with the statements or items done on its level, the beginnings of statements, the groups and
 -- nests around it, and the tokens from there on.
 pub data Reached (all : List Token) : Place → Syntax → List Pending → List Open → List Token → Type 0 where
   in-program : {done : Syntax} {here : List Token} → Statements body all here done → Reached all (statementAt (among body)) done [] [] here
   in-block : {setting : Setting} {outer done : Syntax} {starts : List Pending} {around : List Open} {opener : Spot} {inside here : List Token}
       → Reached all (statementAt setting) outer starts around (token openBrace opener ∷ inside) → Statements block inside here done
       → Reached all (statementAt (among block)) done [] (grouped (behindStatement setting) toBlock (opener .mark) (frame outer starts [] nil) ∷ around) here
-  in-declaration : {outer done : Syntax} {around : List Open} {word called opener parameter closer openBody : Spot} {inside here : List Token}
-      → Reached all (statementAt (among body)) outer [] around
-      (token functionWord word ∷ token name called ∷ token openParen opener ∷ token name parameter ∷ token closeParen closer
-      ∷ token openBrace openBody ∷ inside)
-      → Statements body inside here done
+  in-declaration : {outer done : Syntax} {around : List Open} {word called opener closer openBody : Spot} {named inside here : List Token}
+      → Reached all (statementAt (among body)) outer [] around (token functionWord word ∷ token name called ∷ token openParen opener ∷ named)
+      → Parameters named (token closeParen closer ∷ token openBrace openBody ∷ inside) → Statements body inside here done
       → Reached all (statementAt (among body)) done []
       (grouped (statementDue false (among body)) toDeclaration (openBody .mark) (frame outer [] [] (heldWord (word .mark))) ∷ around) here
   in-function : {ending : Ending} {target : Bool} {outer done : Syntax} {starts waiting : List Pending} {around : List Open}
-      {word called opener parameter closer openBody : Spot} {first inside here : List Token}
-      → Reached all (expressionAt ending) outer starts around first
-      → Waiting target waiting first
-      (token functionWord word ∷ token name called ∷ token openParen opener ∷ token name parameter ∷ token closeParen closer
-      ∷ token openBrace openBody ∷ inside)
-      → Statements body inside here done
+      {word opener closer openBody : Spot} {first before named inside here : List Token} → Reached all (expressionAt ending) outer starts around first
+      → Waiting target waiting first before → Head (operandIn ending target) word before (token openParen opener ∷ named)
+      → Parameters named (token closeParen closer ∷ token openBrace openBody ∷ inside) → Statements body inside here done
       → Reached all (statementAt (among body)) done []
       (grouped (operandDone ending target) toFunction (openBody .mark) (frame outer starts waiting (heldWord (word .mark))) ∷ around) here
   after-if : {setting : Setting} {done condition : Syntax} {starts : List Pending} {around : List Open} {word opener closer : Spot}
@@ -93,28 +107,41 @@ pub data Reached (all : List Token) : Place → Syntax → List Pending → List
       → Waiting target waiting first (token openParen opener ∷ here)
       → Reached all (expressionAt byParen) nil []
       (grouped (operandDone ending target) toParens (opener .mark) (frame done starts waiting operand) ∷ around) here
-  in-call : {ending : Ending} {target : Bool} {done callee : Syntax} {starts waiting : List Pending} {around : List Open} {opener : Spot}
+  in-index : {ending : Ending} {target : Bool} {done object : Syntax} {starts waiting : List Pending} {around : List Open} {opener : Spot}
       {first before here : List Token} → Reached all (expressionAt ending) done starts around first → Waiting target waiting first before
-      → Chain before (token openParen opener ∷ here) callee
-      → Reached all (expressionAt byParen) nil []
-      (grouped (operandDone ending target) toCall (opener .mark) (frame done starts waiting callee) ∷ around) here
+      → Chain before (token openBracket opener ∷ here) object
+      → Reached all (expressionAt byBracket) nil []
+      (grouped (operandDone ending target) toIndex (opener .mark) (frame done starts waiting object) ∷ around) here
   in-condition : {setting : Setting} {done : Syntax} {starts : List Pending} {around : List Open} {word opener : Spot} {here : List Token}
       → Reached all (statementAt setting) done starts around (token ifWord word ∷ token openParen opener ∷ here)
       → Reached all (expressionAt byParen) nil []
       (grouped (statementDue true (inNest ifNest)) toCondition (opener .mark) (frame nil [] [] (heldWord (word .mark)))
       ∷ nested (behindStatement setting) toStatement (word .mark) (frame done starts [] nil) ∷ around)
       here
-  in-object : {ending : Ending} {target : Bool} {done operand : Syntax} {starts waiting : List Pending} {around : List Open}
-      {opener property sign : Spot} {first here : List Token} → Reached all (expressionAt ending) done starts around first
-      → Waiting target waiting first (token openBrace opener ∷ token name property ∷ token colon sign ∷ here)
-      → Reached all (expressionAt byBrace) nil []
+  in-call : {ending : Ending} {target : Bool} {done callee : Syntax} {starts waiting : List Pending} {around : List Open} {opener : Spot}
+      {first before here : List Token} → Reached all (expressionAt ending) done starts around first → Waiting target waiting first before
+      → Chain before (token openParen opener ∷ here) callee
+      → Reached all (listAt callArguments) nil []
+      (grouped (operandDone ending target) toCall (opener .mark) (frame done starts waiting callee) ∷ around) here
+  in-array : {ending : Ending} {target : Bool} {done operand : Syntax} {starts waiting : List Pending} {around : List Open} {opener : Spot}
+      {first here : List Token} → Reached all (expressionAt ending) done starts around first
+      → Waiting target waiting first (token openBracket opener ∷ here)
+      → Reached all (listAt arrayElements) nil []
+      (grouped (operandDone ending target) toArray (opener .mark) (frame done starts waiting operand) ∷ around) here
+  in-object : {ending : Ending} {target : Bool} {done operand : Syntax} {starts waiting : List Pending} {around : List Open} {opener : Spot}
+      {first here : List Token} → Reached all (expressionAt ending) done starts around first
+      → Waiting target waiting first (token openBrace opener ∷ here)
+      → Reached all (listAt objectProperties) nil []
       (grouped (operandDone ending target) toObject (opener .mark) (frame done starts waiting operand) ∷ around) here
+  in-item : {items : Items} {done : Syntax} {around : List Open} {first middle here : List Token} → Reached all (listAt items) nil [] around first
+      → Derives (itemsForm items) first middle done → ItemStart items middle here
+      → Reached all (expressionAt (byItem items)) done [] around here
 
 module _ {all : List Token} where
   -- a declaration is added
-  pub with-declaration : {done inside : Syntax} {around : List Open} {word : Spot} {rest here : List Token}
-      → Reached all (statementAt (among body)) done [] around (token functionWord word ∷ rest) → Function rest here inside
+  pub with-declaration : {done inside : Syntax} {around : List Open} {word called : Spot} {rest here : List Token}
+      → Reached all (statementAt (among body)) done [] around (token functionWord word ∷ token name called ∷ rest) → Function rest here inside
       → Reached all (statementAt (among body)) (snoc done (node declarationSyntax (word .mark) inside nil)) [] around here
   with-declaration (in-program statements) last = in-program (add-declaration statements last)
-  with-declaration (in-declaration outer statements) last = in-declaration outer (add-declaration statements last)
-  with-declaration (in-function outer waits statements) last = in-function outer waits (add-declaration statements last)
+  with-declaration (in-declaration outer parameters statements) last = in-declaration outer parameters (add-declaration statements last)
+  with-declaration (in-function outer waits head parameters statements) last = in-function outer waits head parameters (add-declaration statements last)

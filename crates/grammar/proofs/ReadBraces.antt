@@ -7,9 +7,9 @@ use borrow.Author.Tests.{eqb-true}
 use lib.Dec.{T, not-T, eqb, eqb→eq}
 use Rattle.text.proofs.Members.{isIn}
 use Rattle.elements.specs.declared.Element.{Element}
-use Rattle.rule.specs.Trees.{Trees, none, leaf, group, parenKind, objectKind, blockKind}
+use Rattle.rule.specs.Trees.{Trees, none, leaf, group, parenKind, objectKind, blockKind, bracketKind}
 use Rattle.rule.specs.Levels.{Levels, wholeText, inside, onTop}
-use Rattle.grammar.specs.Tokens.{openParen, openBrace}
+use Rattle.grammar.specs.Tokens.{openParen, openBracket, openBrace}
 use Rattle.grammar.specs.Shown.{Brace, braceOf}
 use Rattle.grammar.specs.Machinery.Machine.{Control, Frame, Open, State, live}
 use Rattle.grammar.proofs.Classes.{isLeaf, no-leaf}
@@ -55,14 +55,15 @@ closer-braces around kind first end newline trees after class place t =
 -- an opener adds the brace that it is, as the machine takes it
 opened-brace : (object : Bool) (class first : ℕ) (within : Control) (f : Frame) (around : List Open) → T (opensGroup class)
     → T (isIn (kinds within) (openedKind object class)) → braceOf (openedKind object class) first ≡ braceAt (live within f around) class first
-opened-brace object class first within f around = go (eqb class openParen) refl object
+opened-brace object class first within f around = go (eqb class openParen) (eqb class openBracket) refl refl object
   where
-    go : (paren : Bool) → eqb class openParen ≡ paren → (object : Bool) → T (paren || eqb class openBrace)
-        → T (isIn (kinds within) (cond paren parenKind (cond object objectKind blockKind)))
-        → braceOf (cond paren parenKind (cond object objectKind blockKind)) first ≡ braceAt (live within f around) class first
-    go true q object t r = rw (eqb-true class openParen q)
-    go false q true t r = rw (holds (eqb class openBrace) t, holds (isIn (kinds within) objectKind) r)
-    go false q false t r = rw (holds (eqb class openBrace) t, no-object within r)
+    go : (paren bracket : Bool) → eqb class openParen ≡ paren → eqb class openBracket ≡ bracket → (object : Bool) → T (paren || bracket || eqb class openBrace)
+        → T (isIn (kinds within) (cond paren parenKind (cond bracket bracketKind (cond object objectKind blockKind))))
+        → braceOf (cond paren parenKind (cond bracket bracketKind (cond object objectKind blockKind))) first ≡ braceAt (live within f around) class first
+    go true bracket p q object t r = rw (eqb-true class openParen p)
+    go false true p q object t r = rw (eqb-true class openBracket q)
+    go false false p q true t r = rw (holds (eqb class openBrace) t, holds (isIn (kinds within) objectKind) r)
+    go false false p q false t r = rw (holds (eqb class openBrace) t, no-object within r)
 
 pub opener-braces : (object : Bool) (class first : ℕ) (newline : Bool) (levels : Levels) (within : Control) (f : Frame) (around : List Open)
     → T (opensGroup class) → T (isIn (kinds within) (openedKind object class))

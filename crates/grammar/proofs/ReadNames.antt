@@ -6,7 +6,6 @@ use Prim.Native.Nat.{ℕ, _+_}
 use native.Mathlib.Omega.{arith}
 use borrow.Author.Tests.{eqb-true}
 use lib.Dec.{T, eqb}
-use Rattle.text.proofs.Members.{isIn}
 use Rattle.elements.specs.Elements.{elementAt, wordMet, nameKind, wordKind}
 use Rattle.elements.specs.declared.Element.{Element}
 use Rattle.elements.specs.declared.Next.{Next}
@@ -15,18 +14,19 @@ use Rattle.elements.proofs.Delimiters.{delimiter-byte, delimiter-which}
 use Rattle.elements.proofs.StatedAnswers.{Reserved, found-reserved}
 use Rattle.rule.specs.Trees.{Trees}
 use Rattle.rule.specs.Levels.{Levels, statedBy, wordIsName, kindOf}
-use Rattle.rule.specs.Machinery.Summary.{afterDot, code}
 use Rattle.prefix.specs.Reading.{Limits, Step, more, step, accepted, reading}
 use Rattle.prefix.proofs.Course.{Course, ended, went, accepted-course}
 use Rattle.grammar.specs.Cuts.{isCloser, recorded}
 use Rattle.grammar.specs.Tokens.{Token, token, Spot, name, wordName, classOf, tokenOf, tokensFrom, tokens}
 use Rattle.grammar.specs.TreeElements.{elementsOf}
+use Rattle.grammar.specs.Grammar.{callArguments, arrayElements, objectProperties}
 use Rattle.grammar.specs.Machinery.Machine.{
   Frame,
   byStatement,
   byReturn,
   byParen,
-  byBrace,
+  byBracket,
+  byItem,
   declared,
   operandIn,
   Control,
@@ -41,7 +41,7 @@ use Rattle.grammar.specs.Machinery.Machine.{
   functionFirst,
   functionNamed,
   parameterPast,
-  objectOpened,
+  itemDue,
   propertyNamed,
   parameterDue,
   parameterNamed,
@@ -55,7 +55,7 @@ use Rattle.grammar.specs.Machinery.Machine.{
   start,
 }
 use Rattle.grammar.proofs.LevelSummary.{summaryOf, name-summary}
-use Rattle.grammar.proofs.Related.{summaries, codes, behind-dot}
+use Rattle.grammar.proofs.Related.{namesWord, word-named}
 use Rattle.grammar.proofs.InStep.{InStep, stopped, in-step, start-in-step}
 use Rattle.grammar.proofs.Kept.{Outcome, went-on, too-deep, too-many, kept}
 use Rattle.grammar.proofs.SoFar.{elementsSoFar, step-elements}
@@ -69,8 +69,8 @@ recordClass class = cond (eqb class wordName) name class
 abbrev pub recordToken : Token → Token
 recordToken (token class spot) = token (recordClass class) spot
 
--- behind a dot the machine takes both alike; elsewhere a reserved word is no name
-names-alike : (control : Control) (spot : Spot) (f : Frame) (around : List Open) → T (isIn (codes (summaries control)) (code afterDot))
+-- behind a dot and where a property is due the machine takes both alike; elsewhere a reserved word is no name
+names-alike : (control : Control) (spot : Spot) (f : Frame) (around : List Open) → T (namesWord control)
     → consume (live control f around) (token name spot) ≡ consume (live control f around) (token wordName spot)
 names-alike (statementDue true setting) spot f around t = absurd t
 names-alike (statementDue false setting) spot f around t = absurd t
@@ -81,7 +81,10 @@ names-alike ifFirst spot f around t = absurd t
 names-alike (operandDue (byStatement setting) target) spot f around t = absurd t
 names-alike (operandDue (byReturn setting) target) spot f around t = absurd t
 names-alike (operandDue byParen target) spot f around t = absurd t
-names-alike (operandDue byBrace target) spot f around t = absurd t
+names-alike (operandDue byBracket target) spot f around t = absurd t
+names-alike (operandDue (byItem callArguments) target) spot f around t = absurd t
+names-alike (operandDue (byItem arrayElements) target) spot f around t = absurd t
+names-alike (operandDue (byItem objectProperties) target) spot f around t = absurd t
 names-alike (operandDone ending target) spot f around t = absurd t
 names-alike (dotLast ending target) spot f around t = refl
 names-alike (functionFirst declared) spot f around t = absurd t
@@ -90,9 +93,12 @@ names-alike (functionNamed declared) spot f around t = absurd t
 names-alike (functionNamed (operandIn ending target)) spot f around t = absurd t
 names-alike (parameterPast declared) spot f around t = absurd t
 names-alike (parameterPast (operandIn ending target)) spot f around t = absurd t
-names-alike objectOpened spot f around t = absurd t
+names-alike (itemDue callArguments) spot f around t = absurd t
+names-alike (itemDue arrayElements) spot f around t = absurd t
+names-alike (itemDue objectProperties) spot f around t = refl
 names-alike propertyNamed spot f around t = absurd t
-names-alike parameterDue spot f around t = absurd t
+names-alike (parameterDue true) spot f around t = absurd t
+names-alike (parameterDue false) spot f around t = absurd t
 names-alike parameterNamed spot f around t = absurd t
 names-alike finished spot f around t = absurd t
 
@@ -123,7 +129,7 @@ module _ (bytes : List ℕ) (limits : Limits) where
         go true q =
             let class : classOf e ≡ wordName = eqb-true (classOf e) wordName q in
             let rule : wordIsName levels ≡ true = named-by-rule (statedBy levels) (wordMet bytes place) e (found-reserved bytes place (statedBy levels) e found) class in
-            names-alike control spot f around (behind-dot control (kindOf levels) (summaryOf levels) r (name-summary levels ∙ rule))
+            names-alike control spot f around (word-named control (kindOf levels) (summaryOf levels) r (name-summary levels ∙ rule))
             ∙ ap (λ (x : ℕ). consume (live control f around) (token x spot)) (sym class)
         go false q = refl
 

@@ -1,9 +1,9 @@
 -- Where the token machine stands, and what the prefix rule has seen of the level there.
 use mathlib.Core.Path.{_≡_, refl}
-use mathlib.Core.Bool.{Bool, true, false, _&&_}
+use mathlib.Core.Bool.{Bool, true, false, false≢true, cond, _&&_, _||_}
 use mathlib.Core.List.{List, [], _∷_}
 use Prim.Native.Nat.{ℕ}
-use Rattle.rule.specs.Trees.{parenKind, objectKind, blockKind}
+use Rattle.rule.specs.Trees.{parenKind, objectKind, blockKind, bracketKind}
 use Rattle.rule.specs.Machinery.Summary.{
   Summary,
   nothing,
@@ -11,6 +11,7 @@ use Rattle.rule.specs.Machinery.Summary.{
   afterOperator,
   afterColon,
   afterDot,
+  afterComma,
   afterOther,
   afterReturn,
   afterIf,
@@ -20,14 +21,15 @@ use Rattle.rule.specs.Machinery.Summary.{
   afterFunctionName,
   afterFunctionParens,
   nameBy,
-  code,
 }
+use Rattle.grammar.specs.Grammar.{Items, callArguments, arrayElements, objectProperties}
 use Rattle.grammar.specs.Machinery.Machine.{
   Ending,
   byStatement,
   byReturn,
   byParen,
-  byBrace,
+  byBracket,
+  byItem,
   Role,
   declared,
   operandIn,
@@ -44,7 +46,7 @@ use Rattle.grammar.specs.Machinery.Machine.{
   functionFirst,
   functionNamed,
   parameterPast,
-  objectOpened,
+  itemDue,
   propertyNamed,
   parameterDue,
   parameterNamed,
@@ -52,20 +54,27 @@ use Rattle.grammar.specs.Machinery.Machine.{
 }
 use Rattle.text.proofs.Members.{allIn, at, isIn, found}
 use Rattle.text.proofs.Range.{and-left, and-right}
+use Rattle.grammar.proofs.ClassSteps.{holds}
 use Rattle.rule.proofs.Finite.{allSummaries, at-summary}
 use borrow.Author.Tests.{eqb-true}
-use lib.Dec.{T}
+use lib.Dec.{T, eqb}
 
 -- statement levels: the whole text, of kind 0, and blocks
 abbrev pub statementKinds : List ℕ
 statementKinds = 0 ∷ blockKind ∷ []
 
 -- the kinds of levels on which a control may stand
+abbrev itemKinds : Items → List ℕ
+itemKinds callArguments = parenKind ∷ []
+itemKinds arrayElements = bracketKind ∷ []
+itemKinds objectProperties = objectKind ∷ []
+
 abbrev endingKinds : Ending → List ℕ
 endingKinds (byStatement setting) = statementKinds
 endingKinds (byReturn setting) = statementKinds
 endingKinds byParen = parenKind ∷ []
-endingKinds byBrace = objectKind ∷ []
+endingKinds byBracket = bracketKind ∷ []
+endingKinds (byItem items) = itemKinds items
 
 abbrev roleKinds : Role → List ℕ
 roleKinds declared = statementKinds
@@ -83,18 +92,24 @@ kinds (dotLast ending target) = endingKinds ending
 kinds (functionFirst role) = roleKinds role
 kinds (functionNamed role) = roleKinds role
 kinds (parameterPast role) = roleKinds role
-kinds objectOpened = objectKind ∷ []
+kinds (itemDue items) = itemKinds items
 kinds propertyNamed = objectKind ∷ []
-kinds parameterDue = parenKind ∷ []
+kinds (parameterDue must) = parenKind ∷ []
 kinds parameterNamed = parenKind ∷ []
 kinds finished = []
 
 -- where a control may stand in a block, it may not stand in an object
+items-no-object : (items : Items) → T (isIn (itemKinds items) blockKind) → isIn (itemKinds items) objectKind ≡ false
+items-no-object callArguments t = absurd t
+items-no-object arrayElements t = absurd t
+items-no-object objectProperties t = absurd t
+
 ending-no-object : (ending : Ending) → T (isIn (endingKinds ending) blockKind) → isIn (endingKinds ending) objectKind ≡ false
 ending-no-object (byStatement setting) t = refl
 ending-no-object (byReturn setting) t = refl
 ending-no-object byParen t = absurd t
-ending-no-object byBrace t = absurd t
+ending-no-object byBracket t = absurd t
+ending-no-object (byItem items) t = items-no-object items t
 
 role-no-object : (role : Role) → T (isIn (roleKinds role) blockKind) → isIn (roleKinds role) objectKind ≡ false
 role-no-object declared t = refl
@@ -112,9 +127,9 @@ no-object (dotLast ending target) t = ending-no-object ending t
 no-object (functionFirst role) t = role-no-object role t
 no-object (functionNamed role) t = role-no-object role t
 no-object (parameterPast role) t = role-no-object role t
-no-object objectOpened t = absurd t
+no-object (itemDue items) t = items-no-object items t
 no-object propertyNamed t = absurd t
-no-object parameterDue t = absurd t
+no-object (parameterDue must) t = absurd t
 no-object parameterNamed t = absurd t
 no-object finished t = absurd t
 
@@ -123,7 +138,15 @@ abbrev dueBehind : Ending → List Summary
 dueBehind (byStatement setting) = afterOperator ∷ []
 dueBehind (byReturn setting) = afterOperator ∷ []
 dueBehind byParen = nothing ∷ afterOperator ∷ []
-dueBehind byBrace = afterColon ∷ afterOperator ∷ []
+dueBehind byBracket = nothing ∷ afterOperator ∷ []
+dueBehind (byItem callArguments) = afterComma ∷ afterOperator ∷ []
+dueBehind (byItem arrayElements) = afterOperator ∷ []
+dueBehind (byItem objectProperties) = afterColon ∷ afterOperator ∷ []
+
+abbrev itemBehind : Items → List Summary
+itemBehind callArguments = nothing ∷ []
+itemBehind arrayElements = nothing ∷ afterComma ∷ []
+itemBehind objectProperties = nothing ∷ afterComma ∷ []
 
 -- whether a function is an operand
 abbrev isOperand : Role → Bool
@@ -143,15 +166,35 @@ summaries (dotLast ending target) = afterDot ∷ []
 summaries (functionFirst role) = afterFunction (isOperand role) ∷ []
 summaries (functionNamed role) = afterFunctionName (isOperand role) ∷ []
 summaries (parameterPast role) = afterFunctionParens (isOperand role) ∷ []
-summaries objectOpened = nothing ∷ []
+summaries (itemDue items) = itemBehind items
 summaries propertyNamed = operand ∷ []
-summaries parameterDue = nothing ∷ []
+summaries (parameterDue must) = cond must afterComma nothing ∷ []
 summaries parameterNamed = operand ∷ []
 summaries finished = []
 
-abbrev pub codes : List Summary → List ℕ
-codes [] = []
-codes (s ∷ rest) = code s ∷ codes rest
+-- summaries are looked for by numbers of their own
+abbrev ordinal : Summary → ℕ
+ordinal nothing = 0
+ordinal operand = 1
+ordinal afterOperator = 2
+ordinal afterColon = 3
+ordinal afterDot = 4
+ordinal afterComma = 5
+ordinal afterOther = 6
+ordinal afterReturn = 7
+ordinal afterIf = 8
+ordinal afterIfParens = 9
+ordinal afterBlock = 10
+ordinal (afterFunction inObject) = cond inObject 12 11
+ordinal (afterFunctionName inObject) = cond inObject 14 13
+ordinal (afterFunctionParens inObject) = cond inObject 16 15
+
+abbrev ordinals : List Summary → List ℕ
+ordinals [] = []
+ordinals (s ∷ rest) = ordinal s ∷ ordinals rest
+
+abbrev isLast : Control → Summary → Bool
+isLast control s = isIn (ordinals (summaries control)) (ordinal s)
 
 abbrev pub implies : Bool → Bool → Bool
 implies true b = b
@@ -163,18 +206,57 @@ implied false b t s = absurd s
 
 -- whether a control may stand on a level of a kind, behind trees with a summary
 unfoldable pub related : Control → ℕ → Summary → Bool
-related control kind s = isIn (kinds control) kind && isIn (codes (summaries control)) (code s)
+related control kind s = isIn (kinds control) kind && isLast control s
 
 pub on-kind : (control : Control) (kind : ℕ) (s : Summary) → T (related control kind s) → T (isIn (kinds control) kind)
 unfolding related
-on-kind control kind s r = and-left (isIn (kinds control) kind) (isIn (codes (summaries control)) (code s)) r
+on-kind control kind s r = and-left (isIn (kinds control) kind) (isLast control s) r
 
--- where a reserved word is a name, a dot stands last
-pub behind-dot : (control : Control) (kind : ℕ) (s : Summary) → T (related control kind s) → nameBy s ≡ true → T (isIn (codes (summaries control)) (code afterDot))
-unfolding related
-behind-dot control kind s r n =
-    let only : code s ≡ code afterDot = eqb-true (code s) (code afterDot) n in
-    rw only at (and-right (isIn (kinds control) kind) (isIn (codes (summaries control)) (code s)) r)
+-- whether a reserved word may be a name there: a dot stands last, or a property is due
+abbrev dueFirst : Control → Bool
+dueFirst control = (isLast control nothing || isLast control afterComma) && isIn (kinds control) objectKind
+
+abbrev pub namesWord : Control → Bool
+namesWord control = isLast control afterDot || dueFirst control
+
+left-of : (a b : Bool) → T a → T (a || b)
+left-of true b t = tt
+left-of false b t = absurd t
+
+right-of : (a b : Bool) → T b → T (a || b)
+right-of true b t = tt
+right-of false b t = t
+
+module _ (control : Control) (kind : ℕ) where
+  -- on the level of an object
+  in-object : (s : Summary) → T (related control kind s) → eqb kind objectKind ≡ true → T (isIn (kinds control) objectKind) × T (isLast control s)
+  unfolding related
+  in-object s r q =
+      let same : kind ≡ objectKind = eqb-true kind objectKind q in
+      (rw same at (and-left (isIn (kinds control) kind) (isLast control s) r), and-right (isIn (kinds control) kind) (isLast control s) r)
+
+  property-due : (s : Summary) → T (related control kind s) → eqb kind objectKind ≡ true → (T (isLast control s) → T (isLast control nothing || isLast control afterComma))
+      → T (namesWord control)
+  property-due s r q last =
+      let t = in-object s r q in
+      right-of (isLast control afterDot) (dueFirst control) (rw (holds (isLast control nothing || isLast control afterComma) (last (t .1))) (t .0))
+
+  pub word-named : (s : Summary) → T (related control kind s) → nameBy (eqb kind objectKind) s ≡ true → T (namesWord control)
+  unfolding related
+  word-named nothing r n = property-due nothing r n (left-of (isLast control nothing) (isLast control afterComma))
+  word-named afterComma r n = property-due afterComma r n (right-of (isLast control nothing) (isLast control afterComma))
+  word-named afterDot r n = left-of (isLast control afterDot) (dueFirst control) (and-right (isIn (kinds control) kind) (isLast control afterDot) r)
+  word-named operand r n = absurd (false≢true n)
+  word-named afterOperator r n = absurd (false≢true n)
+  word-named afterColon r n = absurd (false≢true n)
+  word-named afterOther r n = absurd (false≢true n)
+  word-named afterReturn r n = absurd (false≢true n)
+  word-named afterIf r n = absurd (false≢true n)
+  word-named afterIfParens r n = absurd (false≢true n)
+  word-named afterBlock r n = absurd (false≢true n)
+  word-named (afterFunction inObject) r n = absurd (false≢true n)
+  word-named (afterFunctionName inObject) r n = absurd (false≢true n)
+  word-named (afterFunctionParens inObject) r n = absurd (false≢true n)
 
 -- whether a statement may be complete there
 abbrev pub settled : ℕ → Summary → Bool

@@ -17,8 +17,23 @@ use Rattle.grammar.specs.Grammar.{
   Scope,
   body,
   block,
+  identifier,
+  reserved-word,
+  Items,
+  callArguments,
+  arrayElements,
+  objectProperties,
+  at-argument,
+  at-element,
+  itemsForm,
+  listForm,
+  Derives,
   Chain,
   chain-leaf,
+  no-items,
+  add-hole,
+  list-empty,
+  list-items,
   no-statements,
 }
 use Rattle.grammar.specs.Machinery.Machine.{
@@ -27,9 +42,10 @@ use Rattle.grammar.specs.Machinery.Machine.{
   frame,
   reduce,
   operandOf,
+  doneOf,
   await,
   completeExpression,
-  completeReturn,
+  completeValue,
   takeOperator,
   Ending,
   Setting,
@@ -37,7 +53,8 @@ use Rattle.grammar.specs.Machinery.Machine.{
   byStatement,
   byReturn,
   byParen,
-  byBrace,
+  byBracket,
+  byItem,
   statementDue,
   behindStatement,
   operandDue,
@@ -45,19 +62,21 @@ use Rattle.grammar.specs.Machinery.Machine.{
   goto,
   operand,
   noStatement,
-  endingEntry,
+  endingRow,
+  behindComma,
   assignAction,
   besidesOperators,
   afterOperand,
+  itemRow,
   Open,
   popTo,
   act,
   row,
 }
-use Rattle.grammar.proofs.TableLaws.{EachEntry, operator-entries, precedence-positive, threshold-operator}
+use Rattle.grammar.proofs.TableLaws.{EachEntry, map-entries, operator-entries, precedence-positive, threshold-operator}
 use Rattle.grammar.proofs.ReduceLaws.{reduce-stops}
 use Rattle.grammar.proofs.Waiting.{Waiting, none-waits, assign-waits, operator-waits, targets-looser, chain-closes, chain-closes-tight}
-use Rattle.grammar.proofs.Places.{statementAt, expressionAt, Reached, in-block, in-expression, in-parens, in-call}
+use Rattle.grammar.proofs.Places.{statementAt, expressionAt, listAt, Reached, in-block, in-expression, in-parens, in-index, in-call, in-array, in-object, in-item}
 use Rattle.grammar.proofs.Partial.{
   declaration-at,
   operand-at,
@@ -70,11 +89,15 @@ use Rattle.grammar.proofs.Partial.{
   behind-operand,
   behind-dot,
   behind-function,
-  in-braces,
+  at-item,
+  behind-property,
   PartialOf,
   statements-close,
   parens-close,
-  object-closes,
+  index-closes,
+  list-closes,
+  item-ends,
+  last-item-ends,
   expression-ends,
   return-ends,
   text-ends,
@@ -96,7 +119,7 @@ module _ (all : List Token) (spot : Spot) (rest : List Token) (around : List Ope
   operand-row ending target done starts waiting last = (
     (λ first outer waits. behind-operand outer waits (chain-leaf leaf-name)),
     (
-      (λ first outer waits. in-braces outer waits),
+      (λ first outer waits. at-item (in-object outer waits) no-items (list-items tt no-items)),
       (
         (λ first outer waits. behind-function (operand-at outer waits)),
         (
@@ -107,7 +130,10 @@ module _ (all : List Token) (spot : Spot) (rest : List Token) (around : List Ope
               (λ first outer waits. behind-operand outer waits (chain-leaf leaf-pattern)),
               (
                 (λ first outer waits. at-operand (in-parens outer waits) none-waits),
-                tt,
+                (
+                  (λ first outer waits. at-item (in-array outer waits) no-items (list-items tt no-items)),
+                  tt,
+                ),
               ),
             ),
           ),
@@ -131,31 +157,43 @@ module _ (all : List Token) (spot : Spot) (rest : List Token) (around : List Ope
         (sym (ap (λ (least : ℕ). reduce least done starts waiting last) (threshold-operator class op) ∙ r .same))
         (at-operand outer (operator-waits (r .waits) op (r .looser) (r .whole)))
 
-    ending-entry : (ending : Ending) → EachEntry (KeepsChain ending target done starts waiting last) (endingEntry ending ∷ [])
-    ending-entry (byStatement setting) = (
+    ending-row : (ending : Ending) → EachEntry (KeepsChain ending target done starts waiting last) (endingRow ending)
+    ending-row (byStatement setting) = (
       λ first before outer waits chain.
           let r = chain-closes done starts waits chain in
           subst (λ (f : Frame). Partial all (behindStatement setting) (completeExpression (spot .mark) f) around rest) (sym (r .same))
           (expression-ends outer (r .whole)),
       tt,
     )
-    ending-entry (byReturn setting) = (
+    ending-row (byReturn setting) = (
       λ first before outer waits chain.
           let r = chain-closes done starts waits chain in
-          subst (λ (f : Frame). Partial all (behindStatement setting) (completeReturn f) around rest) (sym (r .same)) (return-ends outer (r .whole)),
+          subst (λ (f : Frame). Partial all (behindStatement setting) (completeValue f) around rest) (sym (r .same)) (return-ends outer (r .whole)),
       tt,
     )
-    ending-entry byParen = (
+    ending-row byParen = (
       λ first before outer waits chain.
           let r = chain-closes done starts waits chain in
           subst (λ (f : Frame). PartialOf all (popTo (spot .first) (operandOf f) around) rest) (sym (r .same)) (parens-close outer (r .whole) (spot .first)),
       tt,
     )
-    ending-entry byBrace = (
+    ending-row byBracket = (
       λ first before outer waits chain.
           let r = chain-closes done starts waits chain in
-          subst (λ (f : Frame). PartialOf all (popTo (spot .first) (operandOf f) around) rest) (sym (r .same)) (object-closes outer (r .whole) (spot .first)),
+          subst (λ (f : Frame). PartialOf all (popTo (spot .first) (operandOf f) around) rest) (sym (r .same)) (index-closes outer (r .whole) (spot .first)),
       tt,
+    )
+    ending-row (byItem items) = (
+      (λ first before outer waits chain.
+          let r = chain-closes done starts waits chain in
+          subst (λ (f : Frame). Partial all (behindComma items) (completeValue f) around rest) (sym (r .same)) (item-ends outer (r .whole))),
+      (
+        (λ first before outer waits chain.
+            let r = chain-closes done starts waits chain in
+            subst (λ (f : Frame). PartialOf all (popTo (spot .first) (doneOf (completeValue f)) around) rest) (sym (r .same))
+            (last-item-ends outer (r .whole) (spot .first))),
+        tt,
+      ),
     )
 
   assign-entry : (ending : Ending) (target : Bool) (done : Syntax) (starts waiting : List Pending) (last : Syntax)
@@ -172,13 +210,47 @@ module _ (all : List Token) (spot : Spot) (rest : List Token) (around : List Ope
       (λ class op. operator-entry target done starts waiting last ending class op) (
         (λ first before outer waits chain. behind-dot outer waits chain),
         (
-          (λ first before outer waits chain. at-operand (in-call outer waits chain) none-waits),
+          (λ first before outer waits chain. at-item (in-call outer waits chain) no-items list-empty),
           (
-            assign-entry ending target done starts waiting last,
-            ending-entry target done starts waiting last ending,
+            (λ first before outer waits chain. at-operand (in-index outer waits chain) none-waits),
+            (
+              assign-entry ending target done starts waiting last,
+              ending-row target done starts waiting last ending,
+            ),
           ),
         ),
       )
+
+  -- an item may come, or the list may end
+  abbrev KeepsItem : Items → List Token → Syntax → ℕ → Action → Type 0
+  KeepsItem items first done class action =
+      Keeps (frame done [] [] nil) (λ here. Derives (itemsForm items) first here done × Derives (listForm items) first here done) class action
+
+  pub item-row : (items : Items) (first : List Token) (done : Syntax) → Reached all (listAt items) nil [] around first
+      → EachEntry (KeepsItem items first done) (itemRow items)
+  item-row callArguments first done outer = (
+    (λ s. list-closes outer (s .1) (spot .first)),
+    map-entries (KeepsOperand (byItem callArguments) true done [] [] nil) (KeepsItem callArguments first done) (operand (byItem callArguments) true)
+        (λ k action keeps s. keeps _ (in-item outer (s .0) at-argument) none-waits) (operand-row (byItem callArguments) true done [] [] nil),
+  )
+  item-row arrayElements first done outer = (
+    (λ s. at-item outer (add-hole (s .0)) (list-items tt (add-hole (s .0)))),
+    (
+      (λ s. list-closes outer (s .1) (spot .first)),
+      map-entries (KeepsOperand (byItem arrayElements) true done [] [] nil) (KeepsItem arrayElements first done) (operand (byItem arrayElements) true)
+          (λ k action keeps s. keeps _ (in-item outer (s .0) at-element) none-waits) (operand-row (byItem arrayElements) true done [] [] nil),
+    ),
+  )
+  item-row objectProperties first done outer = (
+    (λ s. behind-property outer (s .0) identifier),
+    (
+      (λ s. behind-property outer (s .0) reserved-word),
+      (
+        (λ s. list-closes outer (s .1) (spot .first)),
+        tt,
+      ),
+    ),
+  )
 
   -- a statement may start
   abbrev pub KeepsStatement : Setting → Syntax → List Pending → ℕ → Action → Type 0
@@ -216,7 +288,10 @@ module _ (all : List Token) (spot : Spot) (rest : List Token) (around : List Ope
                 (λ place. behind-operand (in-expression tt place) none-waits (chain-leaf leaf-pattern)),
                 (
                   (λ place. at-operand (in-parens (in-expression tt place) none-waits) none-waits),
-                  more,
+                  (
+                    (λ place. at-item (in-array (in-expression tt place) none-waits) no-items (list-items tt no-items)),
+                    more,
+                  ),
                 ),
               ),
             ),

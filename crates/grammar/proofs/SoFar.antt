@@ -1,17 +1,17 @@
 -- The elements of levels so far, closers included: a step adds its element to them.
 use mathlib.Core.Path.{_≡_, refl, sym, ap, _∙_}
 use mathlib.Core.List.{List, [], _∷_, _++_, append-assoc}
-use mathlib.Core.Bool.{Bool, true, false, false≢true, cond, _||_}
+use mathlib.Core.Bool.{Bool, true, false, cond, _||_}
 use Prim.Native.Nat.{ℕ, _+_, _-_}
 use native.Mathlib.Omega.{arith}
 use borrow.Author.Tests.{eqb-true, ne-eqb}
 use lib.Dec.{eqb, leb}
 use Rattle.text.specs.Runs
 use Rattle.signs.specs.Signs.{longestSign, longestOf}
-use Rattle.elements.specs.Elements.{delimiter, delimiterKind, parenOpener, parenCloser, braceOpener, braceCloser}
+use Rattle.elements.specs.Elements.{delimiter, delimiterKind, parenOpener, parenCloser, braceOpener, braceCloser, bracketOpener, bracketCloser}
 use Rattle.elements.specs.declared.Element.{Element}
 use Rattle.elements.proofs.Choices.{cond-both, cond-known}
-use Rattle.rule.specs.Trees.{Trees, leaf, group, parenKind, objectKind, blockKind}
+use Rattle.rule.specs.Trees.{Trees, leaf, group, parenKind, objectKind, blockKind, bracketKind}
 use Rattle.rule.specs.Levels.{Levels, wholeText, inside, braceOpens, depth, countSoFar, onTop}
 use Rattle.prefix.specs.Reading.{Limits, Step, stop, more, addLeaf, openGroup, closes, closeGroup, delimit, step}
 use Rattle.grammar.specs.Cuts.{recorded}
@@ -48,43 +48,40 @@ module _ (limits : Limits) (levels : Levels) (e : Element) where
 
 -- the opener or the closer that a delimiter is
 module _ (e : Element) (k : e .kind ≡ delimiterKind) (single : e .end ≡ e .first + 1) where
-  opens : (kind which : ℕ) → e .which ≡ which → openerOf kind (e .first) (e .newline) .which ≡ which → (eqb which parenCloser || eqb which braceCloser) ≡ false
+  opens : (kind which : ℕ) → e .which ≡ which → openerOf kind (e .first) (e .newline) .which ≡ which → (eqb which parenCloser || eqb which braceCloser || eqb which bracketCloser) ≡ false
       → openerOf kind (e .first) (e .newline) ≡ recorded e
   opens kind which w o c = rw (k, w, single, o, c)
 
-  shuts : (kind which : ℕ) → e .which ≡ which → closerOf kind (e .end) .which ≡ which → (eqb which parenCloser || eqb which braceCloser) ≡ true
+  shuts : (kind which : ℕ) → e .which ≡ which → closerOf kind (e .end) .which ≡ which → (eqb which parenCloser || eqb which braceCloser || eqb which bracketCloser) ≡ true
       → closerOf kind (e .end) ≡ recorded e
   shuts kind which w o c =
       let first : e .end - 1 ≡ e .first = omega arith in
       rw (k, w, first, o, c)
 
--- a brace's kind is not that of parentheses
-no-parens : (kind : ℕ) → (eqb kind objectKind || eqb kind blockKind) ≡ true → eqb kind parenKind ≡ false
-no-parens kind c = go (eqb kind objectKind) refl c
+-- a brace's kind is none but an object's and a block's
+brace-kind : (kind x : ℕ) → (x ≡ objectKind → ⊥) → (x ≡ blockKind → ⊥) → (eqb kind objectKind || eqb kind blockKind) ≡ true → eqb kind x ≡ false
+brace-kind kind x no-object no-block c = go (eqb kind objectKind) refl c
   where
-    go : (b : Bool) → eqb kind objectKind ≡ b → (b || eqb kind blockKind) ≡ true → eqb kind parenKind ≡ false
+    go : (b : Bool) → eqb kind objectKind ≡ b → (b || eqb kind blockKind) ≡ true → eqb kind x ≡ false
     go true e c =
         let h = eqb-true kind objectKind e in
-        ne-eqb kind parenKind (λ p. absurd (omega arith))
+        ne-eqb kind x (λ p. no-object (sym p ∙ h))
     go false e c =
         let h = eqb-true kind blockKind c in
-        ne-eqb kind parenKind (λ p. absurd (omega arith))
+        ne-eqb kind x (λ p. no-block (sym p ∙ h))
 
--- one of four that is none of three is the fourth
-fourth : (a b c d : Bool) → (a || b || c || d) ≡ true → a ≡ false → c ≡ false → d ≡ false → b ≡ true
-fourth true b c d h x y z = absurd (false≢true (sym x))
-fourth false b true d h x y z = absurd (false≢true (sym y))
-fourth false b false true h x y z = absurd (false≢true (sym z))
-fourth false true false false h x y z = refl
-fourth false false false false h x y z = h
+-- one of six that is none of five is the sixth
+sixth : (a b c d g h : Bool) → (a || b || c || d || g || h) ≡ true → a ≡ false → c ≡ false → d ≡ false → g ≡ false → h ≡ false → b ≡ true
+sixth a true c d g h some u v w x y = refl
+sixth a false c d g h some u v w x y = rw (u, v, w, x, y) at some
 
 module _ (limits : Limits) (e : Element) (k : e .kind ≡ delimiterKind) (single : e .end ≡ e .first + 1) (known : delimiter (e .which) ≡ true) where
-  close-adds : (levels : Levels) → eqb (e .which) parenOpener ≡ false → eqb (e .which) braceOpener ≡ false → Adds e levels (closeGroup levels e)
+  close-adds : (levels : Levels) → eqb (e .which) parenOpener ≡ false → eqb (e .which) braceOpener ≡ false → eqb (e .which) bracketOpener ≡ false → Adds e levels (closeGroup levels e)
   unfolding elementsOf delimiter longestSign longestOf Runs.same
-  close-adds (wholeText trees) p b = tt
-  close-adds (inside around kind first newline trees) p b =
+  close-adds (wholeText trees) p b g = tt
+  close-adds (inside around kind first newline trees) p b g =
       let levels = inside around kind first newline trees in
-      cond-known (Adds e levels) (closes (e .which) kind) (λ c. added (shut (eqb (e .which) parenCloser) refl c)) (λ c. tt)
+      cond-known (Adds e levels) (closes (e .which) kind) (λ c. added (shut (eqb (e .which) parenCloser) (eqb (e .which) bracketCloser) refl refl c)) (λ c. tt)
     where
       added : closerOf kind (e .end) ≡ recorded e
           → elementsSoFar (onTop (λ before. group before kind first (e .end) newline trees) around)
@@ -94,16 +91,23 @@ module _ (limits : Limits) (e : Element) (k : e .kind ≡ delimiterKind) (single
           (openerOf kind first newline ∷ (elementsOf trees ++ (closerOf kind (e .end) ∷ []))) (λ t. refl) around
           ∙ rw (same, append-assoc (elementsSoFar around) (openerOf kind first newline ∷ elementsOf trees) (recorded e ∷ []))
 
-      shut : (q : Bool) → eqb (e .which) parenCloser ≡ q → cond q (eqb kind parenKind) (eqb kind objectKind || eqb kind blockKind) ≡ true
-          → closerOf kind (e .end) ≡ recorded e
-      shut true q c = shuts e k single kind 4 (eqb-true (e .which) 4 q) (rw c) refl
-      shut false q c =
-          let brace = fourth (eqb (e .which) braceOpener) (eqb (e .which) braceCloser) (eqb (e .which) parenOpener) (eqb (e .which) parenCloser) known b p q in
-          shuts e k single kind 2 (eqb-true (e .which) 2 brace) (rw (no-parens kind c)) refl
+      shut : (q h : Bool) → eqb (e .which) parenCloser ≡ q → eqb (e .which) bracketCloser ≡ h
+          → cond q (eqb kind parenKind) (cond h (eqb kind bracketKind) (eqb kind objectKind || eqb kind blockKind)) ≡ true → closerOf kind (e .end) ≡ recorded e
+      shut true h q s c = shuts e k single kind 4 (eqb-true (e .which) 4 q) (rw c) refl
+      shut false true q s c = shuts e k single kind 6 (eqb-true (e .which) 6 s) (rw (eqb-true kind bracketKind c)) refl
+      shut false false q s c =
+          let brace = sixth (eqb (e .which) braceOpener) (eqb (e .which) braceCloser) (eqb (e .which) parenOpener) (eqb (e .which) parenCloser)
+          (eqb (e .which) bracketOpener) (eqb (e .which) bracketCloser) known b p q g s in
+          shuts e k single kind 2 (eqb-true (e .which) 2 brace)
+          (rw (brace-kind kind parenKind (λ z. omega arith) (λ z. omega arith) c, brace-kind kind bracketKind (λ z. omega arith) (λ z. omega arith) c)) refl
 
   parens-adds : (levels : Levels) → eqb (e .which) parenOpener ≡ true → Adds e levels (openGroup limits levels parenKind e)
   unfolding longestSign longestOf Runs.same
   parens-adds levels w = open-adds limits levels e parenKind (opens e k single parenKind 3 (eqb-true (e .which) 3 w) refl refl)
+
+  brackets-add : (levels : Levels) → eqb (e .which) bracketOpener ≡ true → Adds e levels (openGroup limits levels bracketKind e)
+  unfolding longestSign longestOf Runs.same
+  brackets-add levels w = open-adds limits levels e bracketKind (opens e k single bracketKind 5 (eqb-true (e .which) 5 w) refl refl)
 
   brace-adds : (levels : Levels) (b : Bool) → eqb (e .which) braceOpener ≡ true → Adds e levels (openGroup limits levels (cond b objectKind blockKind) e)
   unfolding longestSign longestOf Runs.same
@@ -116,11 +120,18 @@ module _ (limits : Limits) (levels : Levels) (e : Element) (single : e .kind ≡
   unfolding step
   step-adds = go (eqb (e .kind) delimiterKind) refl
     where
+      bracket : (k : e .kind ≡ delimiterKind) → eqb (e .which) parenOpener ≡ false → eqb (e .which) braceOpener ≡ false
+          → Adds e levels (cond (eqb (e .which) bracketOpener) (openGroup limits levels bracketKind e) (closeGroup levels e))
+      bracket k p b =
+          cond-known (Adds e levels) (eqb (e .which) bracketOpener) (brackets-add limits e k (single k) (known k) levels)
+          (close-adds limits e k (single k) (known k) levels p b)
+
       brace : (k : e .kind ≡ delimiterKind) → eqb (e .which) parenOpener ≡ false
-          → Adds e levels (cond (eqb (e .which) braceOpener) (openGroup limits levels (cond (braceOpens levels (e .newline)) objectKind blockKind) e) (closeGroup levels e))
+          → Adds e levels (cond (eqb (e .which) braceOpener) (openGroup limits levels (cond (braceOpens levels (e .newline)) objectKind blockKind) e)
+          (cond (eqb (e .which) bracketOpener) (openGroup limits levels bracketKind e) (closeGroup levels e)))
       brace k p =
           cond-known (Adds e levels) (eqb (e .which) braceOpener) (brace-adds limits e k (single k) (known k) levels (braceOpens levels (e .newline)))
-          (close-adds limits e k (single k) (known k) levels p)
+          (bracket k p)
 
       go : (d : Bool) → eqb (e .kind) delimiterKind ≡ d → Adds e levels (cond d (delimit limits levels e) (addLeaf limits levels e))
       go true d =

@@ -6,8 +6,8 @@ use Prim.Native.Nat.{ℕ}
 use native.Mathlib.Omega.{arith}
 use Rattle.grammar.specs.Tokens.{Token, token, Spot}
 use Rattle.grammar.specs.Syntax.{Syntax, nil}
-use Rattle.grammar.specs.Grammar.{body, block, statement-if, no-statements, Program}
-use Rattle.grammar.specs.Machinery.Machine.{endOfText, Frame, frame, doneOf, byStatement, byReturn, byParen, byBrace, among, Control, returnFirst, finished, look, row, Open, State, dead, live, finishIn, act, consume, run, start}
+use Rattle.grammar.specs.Grammar.{body, block, callArguments, arrayElements, objectProperties, statement-if, no-statements, Program}
+use Rattle.grammar.specs.Machinery.Machine.{endOfText, Frame, frame, doneOf, byStatement, byReturn, byParen, byBracket, byItem, among, declared, operandIn, Control, returnFirst, finished, look, row, Open, State, dead, live, finishIn, act, consume, run, start}
 use Rattle.grammar.proofs.Complete.{run-append}
 use Rattle.grammar.proofs.Places.{statementAt, Reached, in-program, in-declaration, in-function}
 use Rattle.grammar.proofs.Partial.{
@@ -25,10 +25,11 @@ use Rattle.grammar.proofs.Partial.{
   behind-dot,
   behind-function,
   behind-function-name,
-  at-parameter,
+  at-parameters,
   behind-parameter,
+  at-parameter,
   at-function-body,
-  in-braces,
+  at-item,
   behind-property,
   behind-end,
   PartialOf,
@@ -57,8 +58,8 @@ module _ (all : List Token) (spot : Spot) (after : Control) (g : Frame) (outside
   finish-taken {done} (in-program statements) e =
       let same : frame done [] [] nil ≡ g = cc in
       record { at-end = cc; closed = cc; program = subst (λ (f : Frame). Program all (doneOf f)) same statements }
-  finish-taken (in-declaration outer statements) e = never e
-  finish-taken (in-function outer waits statements) e = never e
+  finish-taken (in-declaration outer parameters statements) e = never e
+  finish-taken (in-function outer waits head parameters statements) e = never e
 
   abbrev Takes : Control → Frame → List Open → Type 0
   Takes control f around = consume (live control f around) (token endOfText spot) ≡ live after g outside
@@ -86,16 +87,23 @@ module _ (all : List Token) (spot : Spot) (after : Control) (g : Frame) (outside
   end-taken later (behind-operand {ending = byStatement setting} outer waits chain) e = never e
   end-taken later (behind-operand {ending = byReturn setting} outer waits chain) e = never e
   end-taken later (behind-operand {ending = byParen} outer waits chain) e = never e
-  end-taken later (behind-operand {ending = byBrace} outer waits chain) e = never e
+  end-taken later (behind-operand {ending = byBracket} outer waits chain) e = never e
+  end-taken later (behind-operand {ending = byItem callArguments} outer waits chain) e = never e
+  end-taken later (behind-operand {ending = byItem arrayElements} outer waits chain) e = never e
+  end-taken later (behind-operand {ending = byItem objectProperties} outer waits chain) e = never e
   end-taken later (behind-dot outer waits chain) e = never e
-  end-taken later (behind-function place) e = never e
-  end-taken later (behind-function-name place) e = never e
-  end-taken later (at-parameter place) e = never e
-  end-taken later (behind-parameter place) e = never e
-  end-taken later (at-function-body (declaration-at place)) e = never e
-  end-taken later (at-function-body (operand-at outer waits)) e = never e
-  end-taken later (in-braces outer waits) e = never e
-  end-taken later (behind-property outer waits) e = never e
+  end-taken later (behind-function {role = declared} place) e = never e
+  end-taken later (behind-function {role = operandIn ending target} place) e = never e
+  end-taken later (behind-function-name place head) e = never e
+  end-taken later (at-parameters place head) e = never e
+  end-taken later (behind-parameter place head names) e = never e
+  end-taken later (at-parameter place head names) e = never e
+  end-taken later (at-function-body (declaration-at place) head parameters) e = never e
+  end-taken later (at-function-body (operand-at outer waits) head parameters) e = never e
+  end-taken later (at-item {items = callArguments} outer values list) e = never e
+  end-taken later (at-item {items = arrayElements} outer values list) e = never e
+  end-taken later (at-item {items = objectProperties} outer values list) e = never e
+  end-taken later (behind-property outer values identified) e = never e
   end-taken later (behind-end statements) e = never e
 
   each-end-taken : (around : List Open) (control : Control) (f : Frame) → Partial all control f around [] → Takes control f around

@@ -2,17 +2,13 @@
 use mathlib.Core.Bool.{true, false}
 use mathlib.Core.List.{List, [], _∷_}
 use Prim.Native.Nat.{ℕ}
-use Rattle.grammar.specs.Tokens.{Token, token, Spot, name, dot, openParen, closeParen, openBrace, returnWord, functionWord, ifWord}
+use Rattle.grammar.specs.Tokens.{Token, token, Spot, name, dot, openParen, closeParen, comma, returnWord, functionWord, ifWord}
 use Rattle.grammar.specs.Syntax.{nil, node, fullReturnSyntax}
-use Rattle.grammar.specs.Grammar.{leaf-name, identifier, reserved-word, body, Chain, chain-leaf, chain-empty, chain-member, statement-if, statement-bare-return, no-statements}
+use Rattle.grammar.specs.Grammar.{leaf-name, identifier, reserved-word, objectProperties, at-property, Names, one-name, more-names, Parameters, no-parameters, some-parameters, itemsForm, listForm, Derives, Chain, chain-leaf, chain-member, statement-if, statement-bare-return, no-statements}
 use Rattle.grammar.specs.Machinery.Machine.{
   pending,
   Frame,
   frame,
-  empty,
-  heldWord,
-  toParameter,
-  toObject,
   toStatement,
   among,
   byStatement,
@@ -25,12 +21,11 @@ use Rattle.grammar.specs.Machinery.Machine.{
   nameFirst,
   returnFirst,
   ifFirst,
-  operandDone,
   dotLast,
   functionFirst,
   functionNamed,
   parameterPast,
-  objectOpened,
+  itemDue,
   propertyNamed,
   parameterDue,
   parameterNamed,
@@ -40,7 +35,6 @@ use Rattle.grammar.specs.Machinery.Machine.{
   afterOperand,
   row,
   Open,
-  grouped,
   nested,
   State,
   dead,
@@ -49,9 +43,12 @@ use Rattle.grammar.specs.Machinery.Machine.{
   run,
 }
 use Rattle.grammar.proofs.TableLaws.{EachEntry, looked-up, map-entries, unless-entries}
-use Rattle.grammar.proofs.Waiting.{Waiting, none-waits}
+use Rattle.grammar.proofs.Waiting.{none-waits}
 use Rattle.grammar.proofs.Places.{
   statementAt,
+  Head,
+  with-name,
+  without-name,
   Reached,
   in-declaration,
   in-function,
@@ -59,7 +56,7 @@ use Rattle.grammar.proofs.Places.{
   in-expression,
   in-return,
   in-condition,
-  in-object,
+  in-item,
 }
 use Rattle.grammar.proofs.Partial.{
   FunctionAt,
@@ -77,16 +74,17 @@ use Rattle.grammar.proofs.Partial.{
   behind-dot,
   behind-function,
   behind-function-name,
-  at-parameter,
+  at-parameters,
   behind-parameter,
+  at-parameter,
   at-function-body,
-  in-braces,
+  at-item,
   behind-property,
   behind-end,
   PartialOf,
   with-statement,
 }
-use Rattle.grammar.proofs.Rows.{Keeps, KeepsOperand, operand-row, KeepsChain, chain-row, no-statement-row, statement-row}
+use Rattle.grammar.proofs.Rows.{Keeps, KeepsOperand, operand-row, KeepsChain, chain-row, item-row, no-statement-row, statement-row}
 
 module _ (all : List Token) (class : ℕ) (spot : Spot) (rest : List Token) where
   -- by the row of a control, of which each entry keeps what stands there
@@ -146,52 +144,40 @@ module _ (all : List Token) (class : ℕ) (spot : Spot) (rest : List Token) wher
       {before = before} outer waits chain) =
       by-row (row (dotLast ending target) (spot .newline)) f around (λ here. Chain before (token dot sign ∷ here) last)
       ((λ s. behind-operand outer waits (chain-member identifier s)), ((λ s. behind-operand outer waits (chain-member reserved-word s)), tt)) chain
-  step-keeps {f = f} {around = around} later (behind-function {role = role} {done = done} {starts = starts} {waiting = waiting} {word = word} place) =
-      by-row (row (functionFirst role) (spot .newline)) f around
-      (λ here. FunctionAt all role done starts waiting around (token functionWord word ∷ here))
-      ((λ s. behind-function-name s), tt) place
-  step-keeps {f = f} {around = around} later (behind-function-name {role = role} {done = done} {starts = starts} {waiting = waiting} {word = word}
-      {called = called} place) =
-      by-row (row (functionNamed role) (spot .newline)) f around
-      (λ here. FunctionAt all role done starts waiting around (token functionWord word ∷ token name called ∷ here))
-      ((λ s. at-parameter s), tt) place
-  step-keeps later (at-parameter {role = role} {done = done} {starts = starts} {waiting = waiting} {around = around} {word = word} {called = called}
-      {opener = opener} place) =
-      by-row (row parameterDue (spot .newline)) empty
-      (grouped (parameterPast role) toParameter (opener .mark) (frame done starts waiting (heldWord (word .mark))) ∷ around)
-      (λ here. FunctionAt all role done starts waiting around (token functionWord word ∷ token name called ∷ token openParen opener ∷ here))
-      ((λ s. behind-parameter s), tt) place
-  step-keeps later (behind-parameter {role = role} {done = done} {starts = starts} {waiting = waiting} {around = around} {word = word}
-      {called = called} {opener = opener} {parameter = parameter} place) =
-      by-row (row parameterNamed (spot .newline)) empty
-      (grouped (parameterPast role) toParameter (opener .mark) (frame done starts waiting (heldWord (word .mark))) ∷ around)
-      (λ here. FunctionAt all role done starts waiting around
-      (token functionWord word ∷ token name called ∷ token openParen opener ∷ token name parameter ∷ here))
-      ((λ s. at-function-body s), tt) place
-  step-keeps {f = f} {around = around} later (at-function-body {done = done} {word = word} {called = called} {opener = opener} {parameter = parameter}
-      {closer = closer} (declaration-at place)) =
-      by-row (row (parameterPast declared) (spot .newline)) f around
-      (λ here. Reached all (statementAt (among body)) done [] around
-      (token functionWord word ∷ token name called ∷ token openParen opener ∷ token name parameter ∷ token closeParen closer ∷ here))
-      ((λ s. at-statement (in-declaration s no-statements)), tt) place
-  step-keeps {f = f} {around = around} later (at-function-body {waiting = waiting} {word = word} {called = called} {opener = opener}
-      {parameter = parameter} {closer = closer} (operand-at {ending = ending} {target = target} {first = first} outer waits)) =
-      by-row (row (parameterPast (operandIn ending target)) (spot .newline)) f around
-      (λ here. Waiting target waiting first
-      (token functionWord word ∷ token name called ∷ token openParen opener ∷ token name parameter ∷ token closeParen closer ∷ here))
-      ((λ s. at-statement (in-function outer s no-statements)), tt) waits
-  step-keeps later (in-braces {ending = ending} {target = target} {done = done} {operand = last} {starts = starts} {waiting = waiting}
-      {around = around} {opener = opener} {first = first} outer waits) =
-      by-row (row objectOpened (spot .newline)) empty
-      (grouped (operandDone ending target) toObject (opener .mark) (frame done starts waiting last) ∷ around)
-      (λ here. Waiting target waiting first (token openBrace opener ∷ here))
-      ((λ s. behind-property outer s), ((λ s. behind-operand outer s chain-empty), tt)) waits
-  step-keeps later (behind-property {ending = ending} {target = target} {done = done} {operand = last} {starts = starts} {waiting = waiting}
-      {around = around} {opener = opener} {property = property} {first = first} outer waits) =
-      by-row (row propertyNamed (spot .newline)) empty
-      (grouped (operandDone ending target) toObject (opener .mark) (frame done starts waiting last) ∷ around)
-      (λ here. Waiting target waiting first (token openBrace opener ∷ token name property ∷ here))
-      ((λ s. at-operand (in-object outer s) none-waits), tt) waits
+  step-keeps {f = f} {around = around} later (behind-function {role = declared} {done = done} {starts = starts} {waiting = waiting} {word = word} place) =
+      by-row (row (functionFirst declared) (spot .newline)) f around
+      (λ here. FunctionAt all declared done starts waiting around (token functionWord word ∷ here))
+      ((λ s. behind-function-name s with-name), tt) place
+  step-keeps {f = f} {around = around} later (behind-function {role = operandIn ending target} {done = done} {starts = starts} {waiting = waiting}
+      {word = word} place) =
+      by-row (row (functionFirst (operandIn ending target)) (spot .newline)) f around
+      (λ here. FunctionAt all (operandIn ending target) done starts waiting around (token functionWord word ∷ here))
+      ((λ s. behind-function-name s with-name), ((λ s. at-parameters s without-name), tt)) place
+  step-keeps {f = f} {around = around} later (behind-function-name {role = role} {word = word} {before = before} place head) =
+      by-row (row (functionNamed role) (spot .newline)) f around (Head role word before) ((λ s. at-parameters place s), tt) head
+  step-keeps {f = f} {around = around} later (at-parameters {role = role} {word = word} {opener = opener} {before = before} place head) =
+      by-row (row (parameterDue false) (spot .newline)) f around (λ here. Head role word before (token openParen opener ∷ here))
+      ((λ s. behind-parameter place s one-name), ((λ s. at-function-body place s no-parameters), tt)) head
+  step-keeps {f = f} {around = around} later (behind-parameter {named = named} place head names) =
+      by-row (row parameterNamed (spot .newline)) f around (Names named)
+      ((λ s. at-parameter place head s), ((λ s. at-function-body place head (some-parameters s)), tt)) names
+  step-keeps {f = f} {around = around} later (at-parameter {sign = sign} {named = named} place head names) =
+      by-row (row (parameterDue true) (spot .newline)) f around (λ here. Names named (token comma sign ∷ here))
+      ((λ s. behind-parameter place head (more-names s)), tt) names
+  step-keeps {f = f} {around = around} later (at-function-body {closer = closer} {named = named} (declaration-at place) with-name parameters) =
+      by-row (row (parameterPast declared) (spot .newline)) f around (λ here. Parameters named (token closeParen closer ∷ here))
+      ((λ s. at-statement (in-declaration place s no-statements)), tt) parameters
+  step-keeps {f = f} {around = around} later (at-function-body {closer = closer} {named = named} (operand-at {ending = ending} {target = target} outer waits)
+      head parameters) =
+      by-row (row (parameterPast (operandIn ending target)) (spot .newline)) f around (λ here. Parameters named (token closeParen closer ∷ here))
+      ((λ s. at-statement (in-function outer waits head s no-statements)), tt) parameters
+  step-keeps {around = around} later (at-item {items = items} {done = done} {first = first} outer values list) =
+      by-row (row (itemDue items) (spot .newline)) (frame done [] [] nil) around
+      (λ here. Derives (itemsForm items) first here done × Derives (listForm items) first here done)
+      (item-row all spot rest around items first done outer) (values, list)
+  step-keeps {f = f} {around = around} later (behind-property {class = property} {called = called} {done = done} {first = first} outer values identified) =
+      by-row (row propertyNamed (spot .newline)) f around (λ here. Derives (itemsForm objectProperties) first (token property called ∷ here) done)
+      ((λ s. at-operand (in-item outer s (at-property identified)) none-waits), tt) values
   step-keeps later (behind-then outer condition inner) = later _ _ (with-statement outer (statement-if condition inner))
   step-keeps later (behind-end statements) = tt
 

@@ -3,15 +3,34 @@ use mathlib.Core.List.{List, _∷_}
 use Rattle.grammar.specs.Tokens.{Token}
 use Rattle.grammar.specs.Syntax.{Syntax}
 use Rattle.grammar.specs.Grammar.{
+  Items,
+  ItemStart,
+  at-argument,
+  at-element,
+  at-property,
+  Names,
+  one-name,
+  more-names,
+  Parameters,
+  no-parameters,
+  some-parameters,
   Form,
   Derives,
   chain-leaf,
-  chain-empty,
+  chain-array,
   chain-object,
   chain-parens,
   chain-function,
+  chain-unnamed,
+  chain-index,
   chain-call,
   chain-member,
+  no-items,
+  add-item,
+  add-hole,
+  list-empty,
+  list-items,
+  list-last,
   binary-chain,
   binary-operator,
   assign-binary,
@@ -41,19 +60,34 @@ then : {before middle after : List Token} → EndsWith before middle → EndsWit
 then itself e = e
 then (behind d) e = behind (then d e)
 
+item-end : {items : Items} {before after : List Token} → ItemStart items before after → EndsWith before after
+item-end at-argument = itself
+item-end at-element = itself
+item-end (at-property called) = behind (behind itself)
+
+names-end : {before after : List Token} → Names before after → EndsWith before after
+names-end one-name = behind itself
+names-end (more-names names) = past (past (names-end names))
+
+parameters-end : {before after : List Token} → Parameters before after → EndsWith before after
+parameters-end no-parameters = itself
+parameters-end (some-parameters names) = names-end names
+
 pub derived-end : {form : Form} {before after : List Token} {value : Syntax} → Derives form before after value → EndsWith before after
 derived-end (chain-leaf leaf) = behind itself
-derived-end chain-empty = behind (behind itself)
-derived-end (chain-object value) = behind (behind (behind (past (derived-end value))))
+derived-end (chain-array values) = behind (past (derived-end values))
+derived-end (chain-object values) = behind (past (derived-end values))
 derived-end (chain-parens value) = behind (past (derived-end value))
-derived-end (chain-function function) = behind (derived-end function)
-derived-end (chain-call callee value) = then (past (derived-end callee)) (past (derived-end value))
+derived-end (chain-function function) = behind (behind (derived-end function))
+derived-end (chain-unnamed function) = behind (derived-end function)
+derived-end (chain-index object value) = then (past (derived-end object)) (past (derived-end value))
+derived-end (chain-call callee values) = then (past (derived-end callee)) (past (derived-end values))
 derived-end (chain-member called object) = past (past (derived-end object))
 derived-end (binary-chain chain) = derived-end chain
 derived-end (binary-operator op tight left right) = then (past (derived-end left)) (derived-end right)
 derived-end (assign-binary binary) = derived-end binary
 derived-end (assign-to target value) = then (past (derived-end target)) (derived-end value)
-derived-end (function-all statements) = behind (behind (behind (behind (behind (past (derived-end statements))))))
+derived-end (function-all parameters statements) = behind (then (past (past (parameters-end parameters))) (past (derived-end statements)))
 derived-end (statement-block statements) = behind (past (derived-end statements))
 derived-end (statement-expression allowed value) = past (derived-end value)
 derived-end (statement-if condition inner) = behind (behind (then (past (derived-end condition)) (derived-end inner)))
@@ -62,4 +96,10 @@ derived-end (statement-full-return same value) = behind (past (derived-end value
 derived-end (statement-label inner) = behind (behind (derived-end inner))
 derived-end no-statements = itself
 derived-end (add-statement statements last) = then (derived-end statements) (derived-end last)
-derived-end (add-declaration statements function) = then (past (derived-end statements)) (derived-end function)
+derived-end (add-declaration statements function) = then (past (past (derived-end statements))) (derived-end function)
+derived-end no-items = itself
+derived-end (add-item values starts last) = then (derived-end values) (then (item-end starts) (past (derived-end last)))
+derived-end (add-hole values) = past (derived-end values)
+derived-end list-empty = itself
+derived-end (list-items allowed values) = derived-end values
+derived-end (list-last values starts last) = then (derived-end values) (then (item-end starts) (derived-end last))

@@ -11,7 +11,7 @@ use Rattle.text.proofs.Members.{Has, here, there, allIn, at}
 use Rattle.vocabulary.specs.Vocabulary.{Row, words, signs, tokenClass, rowAt}
 use Rattle.vocabulary.proofs.RowLaws.{eachRow, at-row, eachOther, at-other}
 use Rattle.signs.specs.Signs.{longestSign, longestOf}
-use Rattle.elements.specs.Elements.{delimiterKind, nameKind, wordKind, numberKind, stringKind, patternKind, signKind, delimiter, parenCloser, braceOpener, braceCloser}
+use Rattle.elements.specs.Elements.{delimiterKind, nameKind, wordKind, numberKind, stringKind, patternKind, signKind, delimiter, parenCloser, braceOpener, braceCloser, bracketCloser}
 use Rattle.elements.specs.declared.Element.{Element}
 use Rattle.grammar.specs.Cuts.{isCloser}
 use Rattle.grammar.specs.Tokens.{
@@ -103,11 +103,15 @@ module _ (test some : ℕ → Bool) (pass : (which : ℕ) → some which ≡ tru
 -- a token is a closer exactly if its element is
 pub closing-class : (e : Element) → isClosing (classOf e) ≡ isCloser e
 unfolding rowAt delimiter longestSign longestOf same
-closing-class = class-passes isClosing (λ which. eqb which parenCloser || eqb which braceCloser) (λ which. go which (eqb which parenCloser) refl) tt tt tt tt
+closing-class =
+    class-passes isClosing (λ which. eqb which parenCloser || eqb which braceCloser || eqb which bracketCloser)
+    (λ which. go which (eqb which parenCloser) (eqb which braceCloser) refl refl) tt tt tt tt
   where
-    go : (which : ℕ) (a : Bool) → eqb which parenCloser ≡ a → (a || eqb which braceCloser) ≡ true → isClosing (delimiterClass which) ≡ true
-    go which true p q = rw (eqb-true which _ p)
-    go which false p q = rw (eqb-true which _ q)
+    go : (which : ℕ) (a b : Bool) → eqb which parenCloser ≡ a → eqb which braceCloser ≡ b → (a || b || eqb which bracketCloser) ≡ true
+        → isClosing (delimiterClass which) ≡ true
+    go which true b p q r = rw (eqb-true which _ p)
+    go which false true p q r = rw (eqb-true which _ q)
+    go which false false p q r = rw (eqb-true which _ r)
 
 -- and an opening brace exactly if its element is
 pub brace-class : (e : Element) → eqb (classOf e) openBrace ≡ (eqb (e .kind) delimiterKind && eqb (e .which) braceOpener)

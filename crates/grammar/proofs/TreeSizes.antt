@@ -8,45 +8,44 @@ use borrow.Author.Tests.{ne-eqb}
 use lib.Dec.{eqb}
 use Rattle.text.specs.Runs
 use Rattle.signs.specs.Signs.{longestSign, longestOf}
-use Rattle.elements.specs.Elements.{parenCloser, braceCloser}
+use Rattle.elements.specs.Elements.{parenCloser, braceCloser, bracketCloser}
 use Rattle.elements.specs.declared.Element.{Element}
-use Rattle.rule.specs.Trees.{Trees, none, leaf, group, count, deepest, parenKind}
+use Rattle.rule.specs.Trees.{Trees, none, leaf, group, count, deepest, parenKind, bracketKind}
 use Rattle.reader.proofs.Formed.{Formed}
 use Rattle.grammar.specs.Cuts.{isCloser}
 use Rattle.grammar.specs.Derivations.{countTrees, openAfter, deepestFrom}
 use Rattle.grammar.specs.TreeElements.{openerOf, closerOf, elementsOf}
+use Rattle.grammar.proofs.ClassSteps.{leaf-no-closer}
 
 count-append : (es fs : List Element) → countTrees (es ++ fs) ≡ countTrees es + countTrees fs
 count-append [] fs = omega arith
 count-append (e ∷ es) fs = rw (count-append es fs) (omega arith)
 
 -- an opener is no closer, and a closer is one
-opener-counts : (kind first : ℕ) (newline : Bool) → isCloser (openerOf kind first newline) ≡ false
+pub opener-counts : (kind first : ℕ) (newline : Bool) → isCloser (openerOf kind first newline) ≡ false
 unfolding longestSign longestOf Runs.same
-opener-counts kind first newline = go (eqb kind parenKind)
+opener-counts kind first newline = go (eqb kind parenKind) (eqb kind bracketKind)
   where
-    go : (b : Bool) → (eqb (cond b 3 1) parenCloser || eqb (cond b 3 1) braceCloser) ≡ false
-    go true = refl
-    go false = refl
+    go : (a b : Bool) → (eqb (cond a 3 (cond b 5 1)) parenCloser || eqb (cond a 3 (cond b 5 1)) braceCloser || eqb (cond a 3 (cond b 5 1)) bracketCloser) ≡ false
+    go true b = refl
+    go false true = refl
+    go false false = refl
 
-closer-closes : (kind end : ℕ) → isCloser (closerOf kind end) ≡ true
+pub closer-closes : (kind end : ℕ) → isCloser (closerOf kind end) ≡ true
 unfolding longestSign longestOf Runs.same
-closer-closes kind end = go (eqb kind parenKind)
+closer-closes kind end = go (eqb kind parenKind) (eqb kind bracketKind)
   where
-    go : (b : Bool) → (eqb (cond b 4 2) parenCloser || eqb (cond b 4 2) braceCloser) ≡ true
-    go true = refl
-    go false = refl
-
--- an element that is no delimiter is no closer
-leaf-counts : (e : Element) → (e .kind ≡ 0 → ⊥) → isCloser e ≡ false
-leaf-counts e n = rw (ne-eqb (e .kind) 0 n)
+    go : (a b : Bool) → (eqb (cond a 4 (cond b 6 2)) parenCloser || eqb (cond a 4 (cond b 6 2)) braceCloser || eqb (cond a 4 (cond b 6 2)) bracketCloser) ≡ true
+    go true b = refl
+    go false true = refl
+    go false false = refl
 
 pub count-elements : (trees : Trees) → Formed trees → countTrees (elementsOf trees) ≡ count trees
 unfolding elementsOf count
 count-elements none f = refl
 count-elements (leaf before e) f =
     count-append (elementsOf before) (e ∷ [])
-    ∙ rw (leaf-counts e (λ k. absurd (omega (arith, f .1)))) (omega (arith, count-elements before (f .0)))
+    ∙ rw (leaf-no-closer e (λ k. absurd (omega (arith, f .1)))) (omega (arith, count-elements before (f .0)))
 count-elements (group before kind first end newline within) f =
     count-append (elementsOf before) (openerOf kind first newline ∷ (elementsOf within ++ (closerOf kind end ∷ [])))
     ∙ rw (opener-counts kind first newline, count-append (elementsOf within) (closerOf kind end ∷ []), closer-closes kind end)
@@ -55,19 +54,21 @@ count-elements (group before kind first end newline within) f =
 -- groups that are open behind an opener, a closer, and an element that is neither
 opener-opens : (depth kind first : ℕ) (newline : Bool) → openAfter depth (openerOf kind first newline) ≡ depth + 1
 unfolding longestSign longestOf Runs.same
-opener-opens depth kind first newline = go (eqb kind parenKind)
+opener-opens depth kind first newline = go (eqb kind parenKind) (eqb kind bracketKind)
   where
-    go : (b : Bool) → openAfter depth (record { kind = 0; which = cond b 3 1; first = first; end = first + 1; newline = newline }) ≡ depth + 1
-    go true = refl
-    go false = refl
+    go : (a b : Bool) → openAfter depth (record { kind = 0; which = cond a 3 (cond b 5 1); first = first; end = first + 1; newline = newline }) ≡ depth + 1
+    go true b = refl
+    go false true = refl
+    go false false = refl
 
 closer-shuts : (depth kind end : ℕ) → openAfter depth (closerOf kind end) ≡ depth - 1
 unfolding longestSign longestOf Runs.same
-closer-shuts depth kind end = go (eqb kind parenKind)
+closer-shuts depth kind end = go (eqb kind parenKind) (eqb kind bracketKind)
   where
-    go : (b : Bool) → openAfter depth (record { kind = 0; which = cond b 4 2; first = end - 1; end = end; newline = false }) ≡ depth - 1
-    go true = refl
-    go false = refl
+    go : (a b : Bool) → openAfter depth (record { kind = 0; which = cond a 4 (cond b 6 2); first = end - 1; end = end; newline = false }) ≡ depth - 1
+    go true b = refl
+    go false true = refl
+    go false false = refl
 
 leaf-stays : (depth : ℕ) (e : Element) → (e .kind ≡ 0 → ⊥) → openAfter depth e ≡ depth
 leaf-stays depth e n = rw (ne-eqb (e .kind) 0 n)

@@ -6,35 +6,42 @@ use Prim.Native.Nat.{ℕ}
 use native.Mathlib.Omega.{arith}
 use Rattle.grammar.specs.Tokens.{Token, token, Spot, name, colon, semicolon, openParen, closeParen, openBrace, closeBrace, returnWord}
 use Rattle.grammar.specs.Syntax.{Syntax}
-use Rattle.grammar.specs.Grammar.{Program}
+use Rattle.grammar.specs.Grammar.{Items, callArguments, arrayElements, objectProperties, Program}
 use Rattle.grammar.specs.Machinery.Machine.{
   endOfText,
   Pending,
   Frame,
+  Closing,
   doneOf,
   ifNest,
   Setting,
   inNest,
+  byItem,
   Role,
   Control,
   statementDue,
   behindStatement,
   operandDone,
+  itemDue,
   parameterPast,
   finished,
   Open,
+  grouped,
   State,
   dead,
   live,
+  popTo,
+  consume,
   run,
   start,
 }
 use Rattle.grammar.proofs.Ran.{ran, ran-is-run, ran-append, stays-dead, anywhere}
-use Rattle.grammar.proofs.Complete.{complete, complete-to-end}
+use Rattle.grammar.proofs.Complete.{complete}
 use Rattle.grammar.proofs.Places.{
   Place,
   statementAt,
   expressionAt,
+  listAt,
   Reached,
   in-program,
   in-block,
@@ -45,9 +52,12 @@ use Rattle.grammar.proofs.Places.{
   in-expression,
   in-return,
   in-parens,
-  in-call,
+  in-index,
   in-condition,
+  in-call,
+  in-array,
   in-object,
+  in-item,
 }
 use Rattle.grammar.proofs.Partial.{
   FunctionAt,
@@ -65,20 +75,23 @@ use Rattle.grammar.proofs.Partial.{
   behind-dot,
   behind-function,
   behind-function-name,
-  at-parameter,
+  at-parameters,
   behind-parameter,
+  at-parameter,
   at-function-body,
-  in-braces,
+  at-item,
   behind-property,
   behind-end,
 }
 use Rattle.grammar.proofs.Sound.{run-partial, sound}
 use Rattle.grammar.proofs.Completion.{
+  Spelled,
   spelled-name,
   spelled-colon,
   spelled-semicolon,
   spelled-open-paren,
   spelled-close-paren,
+  spelled-close-bracket,
   spelled-open-brace,
   spelled-close-brace,
   spelled-return,
@@ -86,6 +99,7 @@ use Rattle.grammar.proofs.Completion.{
   none-spelled,
   more-spelled,
   OfClasses,
+  Ends,
   ends-run,
   Completion,
   through,
@@ -101,25 +115,53 @@ inner-statement c = record {
   ends = λ f word end. c .ends _;
 }
 
--- how a place is left: where a statement may start, by the closer of what is around; an expression, by its ending
+-- the group around a list has been closed, with whatever value
+record Closed (around : List Open) : Type 0 where
+  classes : List ℕ
+  spelled : AllSpelled classes
+  ends : (place : ℕ) (value : Syntax) → Ends classes (popTo place value around)
+
+closed : {behind : Control} {closing : Closing} {mark : ℕ} {f : Frame} {around : List Open} → Completion behind around → Closed (grouped behind closing mark f ∷ around)
+closed c = record { classes = c .classes; spelled = c .spelled; ends = λ place value. c .ends _ }
+
+-- a list is closed behind an item, and where an item may come
+by-closer : {class : ℕ} {control : Control} {around : List Open} → Spelled class → (c : Closed around)
+    → ((f : Frame) (closer : Spot) → Ends (c .classes) (consume (live control f around) (token class closer))) → Completion control around
+by-closer {class} spelled c ends = record { classes = class ∷ c .classes; spelled = more-spelled spelled (c .spelled); ends = ends }
+
+behind-item : (items : Items) (target : Bool) {around : List Open} → Closed around → Completion (operandDone (byItem items) target) around
+behind-item callArguments target c = by-closer spelled-close-paren c λ f closer. c .ends (closer .first) _
+behind-item arrayElements target c = by-closer spelled-close-bracket c λ f closer. c .ends (closer .first) _
+behind-item objectProperties target c = by-closer spelled-close-brace c λ f closer. c .ends (closer .first) _
+
+before-item : (items : Items) {around : List Open} → Closed around → Completion (itemDue items) around
+before-item callArguments c = by-closer spelled-close-paren c λ f closer. c .ends (closer .first) _
+before-item arrayElements c = by-closer spelled-close-bracket c λ f closer. c .ends (closer .first) _
+before-item objectProperties c = by-closer spelled-close-brace c λ f closer. c .ends (closer .first) _
+
+-- how a place is left: where a statement may start, by the closer of what is around; an expression, by its ending; a list, once it is closed
 abbrev Left : Place → List Open → Type 0
 Left (statementAt setting) around = Completion (behindStatement setting) around
 Left (expressionAt ending) around = (target : Bool) → Completion (operandDone ending target) around
+Left (listAt items) around = Closed around
 
 left : {all : List Token} {place : Place} {done : Syntax} {starts : List Pending} {around : List Open} {here : List Token}
     → Reached all place done starts around here → Left place around
 left (in-program statements) = record { classes = []; spelled = none-spelled; ends = λ f stop. (f, refl) }
 left (in-block outer statements) = let c = left outer in through spelled-close-brace c λ f closer. c .ends _
-left (in-declaration outer statements) = let c = left outer in through spelled-close-brace c λ f closer. c .ends _
-left (in-function {target = behind} outer waits statements) = let c = left outer behind in through spelled-close-brace c λ f closer. c .ends _
+left (in-declaration outer parameters statements) = let c = left outer in through spelled-close-brace c λ f closer. c .ends _
+left (in-function {target = behind} outer waits head parameters statements) = let c = left outer behind in through spelled-close-brace c λ f closer. c .ends _
 left (after-if outer condition) = out-of-nest (left outer)
 left (after-label outer) = left outer
 left (in-expression allowed outer) = λ target. let c = left outer in through spelled-semicolon c λ f end. c .ends _
 left (in-return same outer) = λ target. let c = left outer in through spelled-semicolon c λ f end. c .ends _
 left (in-parens {target = behind} outer waits) = λ target. let c = left outer behind in through spelled-close-paren c λ f closer. c .ends _
-left (in-call {target = behind} outer waits callee) = λ target. let c = left outer behind in through spelled-close-paren c λ f closer. c .ends _
+left (in-index {target = behind} outer waits object) = λ target. let c = left outer behind in through spelled-close-bracket c λ f closer. c .ends _
 left (in-condition outer) = λ target. let c = inner-statement {setting = inNest ifNest} (out-of-nest (left outer)) in through spelled-close-paren c λ f closer. c .ends _
-left (in-object {target = behind} outer waits) = λ target. let c = left outer behind in through spelled-close-brace c λ f closer. c .ends _
+left (in-call {target = behind} outer waits callee) = closed (left outer behind)
+left (in-array {target = behind} outer waits) = closed (left outer behind)
+left (in-object {target = behind} outer waits) = closed (left outer behind)
+left (in-item {items = items} outer values starts) = λ target. behind-item items target (left outer)
 
 -- the body of a function: `{ }`
 function-body : {all : List Token} {role : Role} {done : Syntax} {starts waiting : List Pending} {around : List Open} {here : List Token}
@@ -160,34 +202,34 @@ completion (behind-dot {target = target} outer waits chain) more = let c = left 
 completion (behind-function place) more =
     let c = function-body place in
     record {
-      classes = name ∷ openParen ∷ name ∷ closeParen ∷ c .classes;
-      spelled = more-spelled spelled-name
-          (more-spelled spelled-open-paren (more-spelled spelled-name (more-spelled spelled-close-paren (c .spelled))));
-      ends = λ f called opener parameter closer. c .ends _;
+      classes = name ∷ openParen ∷ closeParen ∷ c .classes;
+      spelled = more-spelled spelled-name (more-spelled spelled-open-paren (more-spelled spelled-close-paren (c .spelled)));
+      ends = λ f called opener closer. c .ends _;
     }
-completion (behind-function-name place) more =
+completion (behind-function-name place head) more =
     let c = function-body place in
     record {
-      classes = openParen ∷ name ∷ closeParen ∷ c .classes;
-      spelled = more-spelled spelled-open-paren (more-spelled spelled-name (more-spelled spelled-close-paren (c .spelled)));
-      ends = λ f opener parameter closer. c .ends _;
+      classes = openParen ∷ closeParen ∷ c .classes;
+      spelled = more-spelled spelled-open-paren (more-spelled spelled-close-paren (c .spelled));
+      ends = λ f opener closer. c .ends _;
     }
-completion (at-parameter place) more =
+completion (at-parameters place head) more = let c = function-body place in through spelled-close-paren c λ f closer. c .ends _
+completion (behind-parameter place head names) more = let c = function-body place in through spelled-close-paren c λ f closer. c .ends _
+completion (at-parameter place head names) more =
     let c = function-body place in
     record {
       classes = name ∷ closeParen ∷ c .classes;
       spelled = more-spelled spelled-name (more-spelled spelled-close-paren (c .spelled));
       ends = λ f parameter closer. c .ends _;
     }
-completion (behind-parameter place) more = let c = function-body place in through spelled-close-paren c λ f closer. c .ends _
-completion (at-function-body place) more = function-body place
-completion (in-braces {target = target} outer waits) more = let c = left outer target in through spelled-close-brace c λ f closer. c .ends _
-completion (behind-property {target = target} outer waits) more =
-    let c = left outer target in
+completion (at-function-body place head parameters) more = function-body place
+completion (at-item {items = items} outer values list) more = before-item items (left outer)
+completion (behind-property outer values identified) more =
+    let c = behind-item objectProperties true (left outer) in
     record {
-      classes = colon ∷ name ∷ closeBrace ∷ c .classes;
-      spelled = more-spelled spelled-colon (more-spelled spelled-name (more-spelled spelled-close-brace (c .spelled)));
-      ends = λ f sign called closer. c .ends _;
+      classes = colon ∷ name ∷ c .classes;
+      spelled = more-spelled spelled-colon (more-spelled spelled-name (c .spelled));
+      ends = λ f sign called. c .ends _;
     }
 completion (behind-end statements) more = absurd (more refl)
 
@@ -220,13 +262,5 @@ refused all {place} e more parts program =
     ∙ sym (ran-is-run anywhere (dead place) more)
     ∙ stays-dead place (more ++ (token endOfText anywhere ∷ [])) in
     let lives = complete anywhere program in
-    let z : _≡_ {A = ℕ} 0 1 = cc in
-    omega arith
-
--- at the end of the text too
-pub refused-at-end : (all : List Token) (spot : Spot) {place : ℕ} → run start (all ++ (token endOfText spot ∷ [])) ≡ dead place → (parts : Syntax)
-    → Program all parts → ⊥
-refused-at-end all spot dies parts program =
-    let lives = complete-to-end spot program in
     let z : _≡_ {A = ℕ} 0 1 = cc in
     omega arith

@@ -1,19 +1,19 @@
 -- Document 01, Grammar: "A slash is met where an element would start with it and no comment starts there. It is taken as a
 -- regular expression or as the longest sign at that place. A choice is one such answer for each slash met, left to right;
--- which slashes are met later depends on the earlier answers." With document 02, U1, a reserved word that is met is taken as a
+-- which slashes are met later depends on the earlier answers." With document 02, U1 and U2, a reserved word that is met is taken as a
 -- word or as a name, and a choice has one such answer for it too.
 use Prim.Native.Nat.{ℕ}
 use mathlib.Core.Path.{_≡_}
 use mathlib.Core.Bool.{Bool, true, false, cond, _&&_, _||_}
 use mathlib.Core.List.{List, [], _∷_}
 use lib.Dec.{eqb}
-use Rattle.elements.specs.Elements.{stating, elementAt, slashMet, wordMet, delimiterKind, parenCloser, braceCloser}
+use Rattle.elements.specs.Elements.{stating, elementAt, slashMet, wordMet, delimiterKind, parenCloser, braceCloser, bracketCloser}
 use Rattle.elements.specs.declared.Element.{Element}
 use Rattle.elements.specs.declared.Next.{Next}
 
--- a closer: `)` or `}`
+-- a closer: `)`, `}` or `]`
 abbrev pub isCloser : Element → Bool
-isCloser e = eqb (e .kind) delimiterKind && (eqb (e .which) parenCloser || eqb (e .which) braceCloser)
+isCloser e = eqb (e .kind) delimiterKind && (eqb (e .which) parenCloser || eqb (e .which) braceCloser || eqb (e .which) bracketCloser)
 
 -- an element with its newline flag; a closer has no tree record, and so no newline flag
 abbrev pub recorded : Element → Element

@@ -1,4 +1,5 @@
--- Demand 3: what its statements over derivations say (`grammar/proofs/Theorems.antt`).
+-- Demand 3: what its statements over derivations say (`grammar/proofs/Theorems.antt`). Document 02, U2: "The agreement of reading and derivation then
+-- reaches programs with lists.": derivations have them (Grammar.antt).
 use Prim.Native.Nat.{ℕ, _+_, _≤_, _<_}
 use mathlib.Core.Path.{_≡_}
 use mathlib.Core.Bool.{Bool, true, false, not, cond, _&&_, _||_}

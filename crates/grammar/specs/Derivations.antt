@@ -7,7 +7,7 @@ use mathlib.Core.Path.{_≡_}
 use mathlib.Core.Bool.{Bool, cond, _&&_, _||_}
 use mathlib.Core.List.{List, [], _∷_, _++_}
 use lib.Dec.{eqb}
-use Rattle.elements.specs.Elements.{delimiterKind, parenOpener, braceOpener}
+use Rattle.elements.specs.Elements.{delimiterKind, parenOpener, braceOpener, bracketOpener}
 use Rattle.elements.specs.Lexemes.{SameElement}
 use Rattle.elements.specs.declared.Element.{Element}
 use Rattle.grammar.specs.Cuts.{isCloser, Cuts}
@@ -35,7 +35,7 @@ syntaxTree d = programTree (countTrees (d .elements)) (d .parts)
 -- groups that are open behind an element, where so many are open before it
 abbrev pub openAfter : ℕ → Element → ℕ
 openAfter depth e =
-    cond (eqb (e .kind) delimiterKind && (eqb (e .which) parenOpener || eqb (e .which) braceOpener)) (depth + 1)
+    cond (eqb (e .kind) delimiterKind && (eqb (e .which) parenOpener || eqb (e .which) braceOpener || eqb (e .which) bracketOpener)) (depth + 1)
     (cond (isCloser e) (depth - 1) depth)
 
 -- the most groups that are open at once

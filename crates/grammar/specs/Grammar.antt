@@ -1,4 +1,4 @@
--- Document 01, Grammar: derivations, one constructor for each step. Each part leads from the tokens before it to the tokens
+-- Document 01, Grammar, and document 02, U1 and U2: derivations, one constructor for each step. Each part leads from the tokens before it to the tokens
 -- after it, and has a syntax tree.
 use Prim.Native.Nat.{ℕ, zero, suc, _+_, _≤_}
 use mathlib.Core.Bool.{Bool, true, false, not, cond, _||_}
@@ -25,8 +25,11 @@ use Rattle.grammar.specs.Tokens.{
   functionWord,
   ifWord,
   wordName,
+  openBracket,
+  closeBracket,
+  comma,
 }
-use Rattle.grammar.specs.Syntax.{Syntax, nil, node, snoc, objectSyntax, parenthesisedSyntax, functionSyntax, memberSyntax, callSyntax, expressionSyntax, bareReturnSyntax, fullReturnSyntax, blockSyntax, labelSyntax, ifSyntax, declarationSyntax}
+use Rattle.grammar.specs.Syntax.{Syntax, nil, node, snoc, objectSyntax, parenthesisedSyntax, functionSyntax, memberSyntax, callSyntax, expressionSyntax, bareReturnSyntax, fullReturnSyntax, blockSyntax, labelSyntax, ifSyntax, declarationSyntax, arraySyntax, indexSyntax}
 
 -- "name, number, string, regular expression": the class of the token is the kind of the part
 pub data Leaf : ℕ → Type 0 where
@@ -35,7 +38,7 @@ pub data Leaf : ℕ → Type 0 where
   leaf-string : Leaf string
   leaf-pattern : Leaf pattern
 
--- what "`. name`" takes: a name, or (document 02, U1) a reserved word that is taken as a name. No other step takes such a word
+-- what "`. name`" and a property take: a name, or (document 02, U1 and U2) a reserved word that is taken as a name. No other step takes such a word
 pub data IdentifierName : ℕ → Type 0 where
   identifier : IdentifierName name
   reserved-word : IdentifierName wordName
@@ -83,13 +86,41 @@ pub data Scope : Type 0 where
   body : Scope
   block : Scope
 
--- what is derived: the statements of a scope, a statement, a Function behind its word, an Assign, a Binary by operators of at least a
--- precedence, and a Chain
+-- Lists of document 02, U2: their items that have values
+pub data Items : Type 0 where
+  callArguments arrayElements objectProperties : Items
+
+-- where the value of an item starts: with the item, or behind "name `:`" of a property
+pub data ItemStart : Items → List Token → List Token → Type 0 where
+  at-argument : {here : List Token} → ItemStart callArguments here here
+  at-element : {here : List Token} → ItemStart arrayElements here here
+  at-property : {class : ℕ} {called sign : Spot} {here : List Token} → IdentifierName class
+      → ItemStart objectProperties (token class called ∷ token colon sign ∷ here) here
+
+-- "a `,` may follow the last property"; it may follow the last element of an array too, which is no hole (ES5.1 11.1.4), and follows no last argument
+abbrev pub mayEndInComma : Items → Bool
+mayEndInComma callArguments = false
+mayEndInComma arrayElements = true
+mayEndInComma objectProperties = true
+
+-- names with a `,` between any two
+pub data Names : List Token → List Token → Type 0 where
+  one-name : {first : Spot} {after : List Token} → Names (token name first ∷ after) after
+  more-names : {sign next : Spot} {before after : List Token} → Names before (token comma sign ∷ token name next ∷ after) → Names before after
+
+-- "any number of .. parameters"
+pub data Parameters : List Token → List Token → Type 0 where
+  no-parameters : {here : List Token} → Parameters here here
+  some-parameters : {before after : List Token} → Names before after → Parameters before after
+
+-- what is derived: the statements of a scope, a statement, a Function behind its word and its name, if it has one, an Assign, a Binary by operators
+-- of at least a precedence, a Chain, the items of a list as far as each has a `,` behind it, and a whole list
 pub data Form : Type 0 where
   statementsForm : Scope → Form
   statementForm functionForm assignForm : Form
   binaryForm : ℕ → Form
   chainForm : Form
+  itemsForm listForm : Items → Form
 
 pub data Derives : Form → List Token → List Token → Syntax → Type 0 where
   -- "Program and function body: statements and declarations, possibly none", and the statements of a block
@@ -97,8 +128,8 @@ pub data Derives : Form → List Token → List Token → Syntax → Type 0 wher
   add-statement : {scope : Scope} {before middle after : List Token} {statements last : Syntax}
       → Derives (statementsForm scope) before middle statements → Derives statementForm middle after last
       → Derives (statementsForm scope) before after (snoc statements last)
-  add-declaration : {word : Spot} {before rest after : List Token} {statements inside : Syntax}
-      → Derives (statementsForm body) before (token functionWord word ∷ rest) statements → Derives functionForm rest after inside
+  add-declaration : {word called : Spot} {before rest after : List Token} {statements inside : Syntax}
+      → Derives (statementsForm body) before (token functionWord word ∷ token name called ∷ rest) statements → Derives functionForm rest after inside
       → Derives (statementsForm body) before after (snoc statements (node declarationSyntax (word .mark) inside nil))
   -- "block of statements (no declarations), possibly none"
   statement-block : {opener closer : Spot} {inside after : List Token} {statements : Syntax}
@@ -122,12 +153,11 @@ pub data Derives : Form → List Token → List Token → Syntax → Type 0 wher
   -- "name `:` statement"
   statement-label : {label sign : Spot} {middle after : List Token} {inner : Syntax} → Derives statementForm middle after inner
       → Derives statementForm (token name label ∷ token colon sign ∷ middle) after (node labelSyntax (label .mark) nil inner)
-  -- "Function: `function` name `( name )` block holding a body", behind its word
-  function-all : {called opener parameter closer openBody closeBody : Spot} {inside after : List Token} {statements : Syntax}
+  -- "Function: `function` name `( name )` block holding a body", with any number of parameters (document 02, U2), behind its word and its name
+  function-all : {opener closer openBody closeBody : Spot} {named inside after : List Token} {statements : Syntax}
+      → Parameters named (token closeParen closer ∷ token openBrace openBody ∷ inside)
       → Derives (statementsForm body) inside (token closeBrace closeBody ∷ after) statements
-      → Derives functionForm
-      (token name called ∷ token openParen opener ∷ token name parameter ∷ token closeParen closer ∷ token openBrace openBody ∷ inside)
-      after statements
+      → Derives functionForm (token openParen opener ∷ named) after statements
   -- "Assign: Binary, or Chain `=` Assign."
   assign-binary : {before after : List Token} {value : Syntax} → Derives (binaryForm 1) before after value → Derives assignForm before after value
   assign-to : {sign : Spot} {before middle after : List Token} {target value : Syntax}
@@ -145,23 +175,47 @@ pub data Derives : Form → List Token → List Token → Syntax → Type 0 wher
   -- `( Assign )` and `. name`."
   chain-leaf : {class : ℕ} {spot : Spot} {after : List Token} → Leaf class
       → Derives chainForm (token class spot ∷ after) after (node class (spot .mark) nil nil)
-  chain-empty : {opener closer : Spot} {after : List Token}
-      → Derives chainForm (token openBrace opener ∷ token closeBrace closer ∷ after) after (node objectSyntax (opener .mark) nil nil)
-  chain-object : {opener property sign closer : Spot} {inside after : List Token} {value : Syntax}
-      → Derives assignForm inside (token closeBrace closer ∷ after) value
-      → Derives chainForm (token openBrace opener ∷ token name property ∷ token colon sign ∷ inside) after
-      (node objectSyntax (opener .mark) value nil)
+  -- document 02, U2: "arrays with holes"
+  chain-array : {opener closer : Spot} {inside after : List Token} {values : Syntax}
+      → Derives (listForm arrayElements) inside (token closeBracket closer ∷ after) values
+      → Derives chainForm (token openBracket opener ∷ inside) after (node arraySyntax (opener .mark) values nil)
+  -- "any number of .. properties": `{ }` has none
+  chain-object : {opener closer : Spot} {inside after : List Token} {values : Syntax}
+      → Derives (listForm objectProperties) inside (token closeBrace closer ∷ after) values
+      → Derives chainForm (token openBrace opener ∷ inside) after (node objectSyntax (opener .mark) values nil)
   chain-parens : {opener closer : Spot} {inside after : List Token} {value : Syntax}
       → Derives assignForm inside (token closeParen closer ∷ after) value
       → Derives chainForm (token openParen opener ∷ inside) after (node parenthesisedSyntax (opener .mark) value nil)
-  chain-function : {word : Spot} {rest after : List Token} {inside : Syntax} → Derives functionForm rest after inside
+  chain-function : {word called : Spot} {rest after : List Token} {inside : Syntax} → Derives functionForm rest after inside
+      → Derives chainForm (token functionWord word ∷ token name called ∷ rest) after (node functionSyntax (word .mark) inside nil)
+  -- "unnamed function expressions"
+  chain-unnamed : {word : Spot} {rest after : List Token} {inside : Syntax} → Derives functionForm rest after inside
       → Derives chainForm (token functionWord word ∷ rest) after (node functionSyntax (word .mark) inside nil)
-  chain-call : {opener closer : Spot} {before inside after : List Token} {callee value : Syntax}
-      → Derives chainForm before (token openParen opener ∷ inside) callee → Derives assignForm inside (token closeParen closer ∷ after) value
-      → Derives chainForm before after (node callSyntax (opener .mark) callee value)
+  -- "indexing"
+  chain-index : {opener closer : Spot} {before inside after : List Token} {object value : Syntax}
+      → Derives chainForm before (token openBracket opener ∷ inside) object → Derives assignForm inside (token closeBracket closer ∷ after) value
+      → Derives chainForm before after (node indexSyntax (opener .mark) object value)
+  -- "any number of arguments"
+  chain-call : {opener closer : Spot} {before inside after : List Token} {callee values : Syntax}
+      → Derives chainForm before (token openParen opener ∷ inside) callee
+      → Derives (listForm callArguments) inside (token closeParen closer ∷ after) values
+      → Derives chainForm before after (node callSyntax (opener .mark) callee values)
   chain-member : {class : ℕ} {sign property : Spot} {before after : List Token} {object : Syntax} → IdentifierName class
       → Derives chainForm before (token dot sign ∷ token class property ∷ after) object
       → Derives chainForm before after (node memberSyntax (property .mark) object nil)
+  -- items with a `,` behind each; a `,` makes no record. In an array a `,` that stands where an element would is a hole, and so makes none either
+  no-items : {items : Items} {here : List Token} → Derives (itemsForm items) here here nil
+  add-item : {items : Items} {sign : Spot} {before middle first after : List Token} {values last : Syntax}
+      → Derives (itemsForm items) before middle values → ItemStart items middle first → Derives assignForm first (token comma sign ∷ after) last
+      → Derives (itemsForm items) before after (snoc values last)
+  add-hole : {sign : Spot} {before after : List Token} {values : Syntax} → Derives (itemsForm arrayElements) before (token comma sign ∷ after) values
+      → Derives (itemsForm arrayElements) before after values
+  -- a list: no argument; no item, or items with a `,` behind the last too; or items and a last one with none behind it
+  list-empty : {here : List Token} → Derives (listForm callArguments) here here nil
+  list-items : {items : Items} {before after : List Token} {values : Syntax} → T (mayEndInComma items)
+      → Derives (itemsForm items) before after values → Derives (listForm items) before after values
+  list-last : {items : Items} {before middle first after : List Token} {values last : Syntax} → Derives (itemsForm items) before middle values
+      → ItemStart items middle first → Derives assignForm first after last → Derives (listForm items) before after (snoc values last)
 
 abbrev pub Statements : Scope → List Token → List Token → Syntax → Type 0
 Statements scope before after value = Derives (statementsForm scope) before after value

@@ -5,9 +5,9 @@ use mathlib.Core.Bool.{Bool, false, cond, _&&_}
 use mathlib.Core.List.{List, [], _∷_, _++_}
 use lib.Dec.{eqb}
 use lib.ListN.{length, getD}
-use Rattle.elements.specs.Elements.{wordKind, patternKind, delimiterKind, parenOpener, braceOpener}
+use Rattle.elements.specs.Elements.{wordKind, patternKind, delimiterKind, parenOpener, braceOpener, bracketOpener}
 use Rattle.elements.specs.declared.Element.{Element}
-use Rattle.rule.specs.Trees.{parenKind, objectKind, blockKind}
+use Rattle.rule.specs.Trees.{parenKind, objectKind, blockKind, bracketKind}
 use Rattle.tables.specs.Records.{treeWidth}
 use Rattle.grammar.specs.Tokens.{Token}
 use Rattle.grammar.specs.Syntax.{Syntax}
@@ -30,12 +30,20 @@ use Rattle.grammar.specs.Grammar.{
   binary-chain,
   binary-operator,
   chain-leaf,
-  chain-empty,
+  chain-array,
   chain-object,
   chain-parens,
   chain-function,
+  chain-unnamed,
+  chain-index,
   chain-call,
   chain-member,
+  no-items,
+  add-item,
+  add-hole,
+  list-empty,
+  list-items,
+  list-last,
 }
 use Rattle.grammar.specs.Derivations.{Derivation, countTrees}
 
@@ -58,7 +66,7 @@ wordsOf (cut-word {e = e} {answer = answer} met found rest) = cond answer [] (e 
 pub data Brace : Type 0 where
   objectAt blockAt : ℕ → Brace
 
--- The braces of a derivation, in text order. "`{ }`" and "`{ name : Assign }`" of a Chain are objects; the "block holding a body" of a
+-- The braces of a derivation, in text order. Those of a Chain with properties, or none, are objects; the "block holding a body" of a
 -- Function and the "block of statements" are blocks. A derivation says so by its steps: nothing of the prefix rule is here.
 unfoldable pub bracesOf : {form : Form} {before after : List Token} {value : Syntax} → Derives form before after value → List Brace
 bracesOf no-statements = []
@@ -70,18 +78,26 @@ bracesOf (statement-if condition inner) = bracesOf condition ++ bracesOf inner
 bracesOf statement-bare-return = []
 bracesOf (statement-full-return same value) = bracesOf value
 bracesOf (statement-label inner) = bracesOf inner
-bracesOf (function-all {openBody = openBody} statements) = blockAt (openBody .first) ∷ bracesOf statements
+bracesOf (function-all {openBody = openBody} parameters statements) = blockAt (openBody .first) ∷ bracesOf statements
 bracesOf (assign-binary binary) = bracesOf binary
 bracesOf (assign-to target value) = bracesOf target ++ bracesOf value
 bracesOf (binary-chain chain) = bracesOf chain
 bracesOf (binary-operator op tight left right) = bracesOf left ++ bracesOf right
 bracesOf (chain-leaf leaf) = []
-bracesOf (chain-empty {opener = opener}) = objectAt (opener .first) ∷ []
-bracesOf (chain-object {opener = opener} value) = objectAt (opener .first) ∷ bracesOf value
+bracesOf (chain-array values) = bracesOf values
+bracesOf (chain-object {opener = opener} values) = objectAt (opener .first) ∷ bracesOf values
 bracesOf (chain-parens value) = bracesOf value
-bracesOf (chain-function called) = bracesOf called
-bracesOf (chain-call callee value) = bracesOf callee ++ bracesOf value
+bracesOf (chain-function function) = bracesOf function
+bracesOf (chain-unnamed function) = bracesOf function
+bracesOf (chain-index object value) = bracesOf object ++ bracesOf value
+bracesOf (chain-call callee values) = bracesOf callee ++ bracesOf values
 bracesOf (chain-member called object) = bracesOf object
+bracesOf no-items = []
+bracesOf (add-item values begins last) = bracesOf values ++ bracesOf last
+bracesOf (add-hole values) = bracesOf values
+bracesOf list-empty = []
+bracesOf (list-items allowed values) = bracesOf values
+bracesOf (list-last values begins last) = bracesOf values ++ bracesOf last
 
 -- Document 01, Records: "Tree record, five numbers ..: kind; first byte; ..": what records show, each by its kind and first byte
 unfoldable pub shownIn : {A : Type 0} → (ℕ → ℕ → List A) → List ℕ → List A
@@ -104,12 +120,13 @@ wordOf kind first = cond (eqb kind wordKind) (first ∷ []) []
 abbrev pub braceOf : ℕ → ℕ → List Brace
 braceOf kind first = cond (eqb kind objectKind) (objectAt first ∷ []) (cond (eqb kind blockKind) (blockAt first ∷ []) [])
 
--- the record of an index in cells is that of an element or, if it is an opener, of its group: the group of a `(` is of kind 7 (of a `{`: `braces`
+-- the record of an index in cells is that of an element or, if it is an opener, of its group: the group of a `(` is of kind 7, that of a `[` of kind 10 (of a `{`: `braces`
 -- of `Shown`), and where a group ends is no part of its opener
 pub record RecordOf (cells : List ℕ) (index : ℕ) (e : Element) : Type 0 where
   pub within : treeWidth * index + treeWidth ≤ length cells
   pub kind : (e .kind ≡ delimiterKind → ⊥) → getD cells (treeWidth * index) 0 ≡ e .kind
   pub parens : e .kind ≡ delimiterKind → e .which ≡ parenOpener → getD cells (treeWidth * index) 0 ≡ parenKind
+  pub brackets : e .kind ≡ delimiterKind → e .which ≡ bracketOpener → getD cells (treeWidth * index) 0 ≡ bracketKind
   pub first : getD cells (treeWidth * index + 1) 0 ≡ e .first
   pub end : (e .kind ≡ delimiterKind → ⊥) → getD cells (treeWidth * index + 2) 0 ≡ e .end
   pub newline : getD cells (treeWidth * index + 4) 0 ≡ cond (e .newline) 1 0

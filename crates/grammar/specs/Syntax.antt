@@ -4,7 +4,7 @@ use Prim.Native.Nat.{ℕ, _+_}
 use mathlib.Core.List.{List, [], _∷_, _++_}
 
 -- "Kinds with marks". 1 name, 2 number, 3 string, 4 regular expression, 10 divide, 11 plus and 12 assign are the classes of the
--- tokens that mark them (TokenClasses.antt of `vocabulary`); the marks of all stand at their steps (Grammar.antt)
+-- tokens that mark them (TokenClasses.antt of `vocabulary`); their marks stand at their steps (Grammar.antt), that of 20 at the end of this file
 abbrev pub objectSyntax : ℕ
 objectSyntax = 5
 
@@ -44,7 +44,14 @@ declarationSyntax = 19
 abbrev pub programSyntax : ℕ
 programSyntax = 20
 
--- "The syntax tree": nothing; a part with its kind, its mark and at most two parts of its own; or one after the other
+-- Document 02, U2: "Syntax kinds 21 array and 22 index are marked by their group."
+abbrev pub arraySyntax : ℕ
+arraySyntax = 21
+
+abbrev pub indexSyntax : ℕ
+indexSyntax = 22
+
+-- "The syntax tree": nothing; a part with its kind, its mark and what is in it, in at most two pieces; or one after the other
 pub data Syntax : Type 0 where
   nil : Syntax
   node : ℕ → ℕ → Syntax → Syntax → Syntax

@@ -6,7 +6,7 @@ use lib.Dec.{eqb}
 use Rattle.elements.specs.Elements.{nameKind, wordKind, numberKind, stringKind, patternKind, signKind, delimiterKind, delimiter}
 use Rattle.elements.specs.declared.Element.{Element}
 use Rattle.vocabulary.specs.Vocabulary.{words, signs, tokenClass, rowAt}
-pub use Rattle.vocabulary.specs.TokenClasses.{name, number, string, pattern, divide, plus, assign, colon, semicolon, dot, openParen, closeParen, openBrace, closeBrace, returnWord, functionWord, ifWord, wordName}
+pub use Rattle.vocabulary.specs.TokenClasses.{name, number, string, pattern, divide, plus, assign, colon, semicolon, dot, openParen, closeParen, openBrace, closeBrace, returnWord, functionWord, ifWord, wordName, openBracket, closeBracket, comma}
 use Rattle.grammar.specs.Cuts.{isCloser}
 
 -- where a token stands: whether a line end lies before it, the number of tree records before it, which is the index of its own if it has one, and its first byte

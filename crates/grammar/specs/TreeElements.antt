@@ -3,16 +3,16 @@ use Prim.Native.Nat.{ℕ, _+_, _-_}
 use mathlib.Core.Bool.{Bool, false, cond}
 use mathlib.Core.List.{List, [], _∷_, _++_}
 use lib.Dec.{eqb}
-use Rattle.elements.specs.Elements.{delimiterKind, parenOpener, parenCloser, braceOpener, braceCloser}
+use Rattle.elements.specs.Elements.{delimiterKind, parenOpener, parenCloser, braceOpener, braceCloser, bracketOpener, bracketCloser}
 use Rattle.elements.specs.declared.Element.{Element}
-use Rattle.rule.specs.Trees.{Trees, none, leaf, group, parenKind}
+use Rattle.rule.specs.Trees.{Trees, none, leaf, group, parenKind, bracketKind}
 
 -- the opener and the closer of a group; a closer has no newline flag
 abbrev pub openerOf : ℕ → ℕ → Bool → Element
 openerOf kind first newline =
     record {
       kind = delimiterKind;
-      which = cond (eqb kind parenKind) parenOpener braceOpener;
+      which = cond (eqb kind parenKind) parenOpener (cond (eqb kind bracketKind) bracketOpener braceOpener);
       first = first;
       end = first + 1;
       newline = newline;
@@ -22,7 +22,7 @@ abbrev pub closerOf : ℕ → ℕ → Element
 closerOf kind end =
     record {
       kind = delimiterKind;
-      which = cond (eqb kind parenKind) parenCloser braceCloser;
+      which = cond (eqb kind parenKind) parenCloser (cond (eqb kind bracketKind) bracketCloser braceCloser);
       first = end - 1;
       end = end;
       newline = false;

@@ -1,15 +1,15 @@
 -- The run of a level, step by step, by the actions of the machine's table and not by the forms of the grammar.
 use mathlib.Core.Path.{_≡_, refl, sym, _∙_, ap}
-use mathlib.Core.Bool.{Bool, true, false, not, _&&_, _||_}
+use mathlib.Core.Bool.{Bool, true, false, not, _&&_}
 use mathlib.Core.List.{List, [], _∷_, _++_}
 use Prim.Native.Nat.{ℕ, _+_, _*_, _≤_, _<_}
 use native.Mathlib.Omega.{arith}
-use borrow.Author.Tests.{lt-ltb, eqb-true, ne-eqb}
-use lib.Dec.{T, eqb, ltb}
+use borrow.Author.Tests.{lt-ltb, ne-eqb}
+use lib.Dec.{T, ltb}
 use lib.ListN.{length}
-use Rattle.grammar.specs.Tokens.{Token, token, Spot, openParen, openBrace}
+use Rattle.grammar.specs.Tokens.{Token, token, Spot}
 use Rattle.grammar.specs.Syntax.{Syntax, nil}
-use Rattle.grammar.specs.Grammar.{body, block}
+use Rattle.grammar.specs.Grammar.{Items, callArguments, arrayElements, objectProperties, body, block}
 use Rattle.grammar.specs.Machinery.Machine.{
   endOfText,
   Frame,
@@ -23,6 +23,8 @@ use Rattle.grammar.specs.Machinery.Machine.{
   close,
   Control,
   ifFirst,
+  operandDone,
+  itemDue,
   Action,
   fail,
   goto,
@@ -34,7 +36,8 @@ use Rattle.grammar.specs.Machinery.Machine.{
   byStatement,
   byReturn,
   byParen,
-  byBrace,
+  byBracket,
+  byItem,
   look,
   row,
   Open,
@@ -47,8 +50,9 @@ use Rattle.grammar.specs.Machinery.Machine.{
 }
 use Rattle.grammar.proofs.Ran.{stays-dead}
 use Rattle.controls.specs.Machinery.Numbers.{controlOf}
-use Rattle.controls.specs.Machinery.Steps.{isOpener, isEnd, isSingle, Settled, Ends, ends-statements, ends-text, ends-expression, ends-object, ends-parameter}
+use Rattle.controls.specs.Machinery.Steps.{isOpener, isEnd, isSingle, Settled, Ends, ends-statements, ends-text, ends-expression, ends-item, ends-items, ends-no-parameter, ends-parameter}
 use Rattle.controls.specs.declared.Control as code
+use Rattle.controls.proofs.EndLaws.{at-openers}
 use Rattle.waiting.specs.Machinery.Written.{putSyntax}
 use Rattle.waiting.specs.Machinery.Waiting.{width, bare}
 use Rattle.waiting.specs.declared.Level.{Level}
@@ -58,7 +62,7 @@ use Rattle.frames.proofs.ParameterLaws.{parameter-value}
 use Rattle.frames.specs.declared.Standing.{Standing}
 use Rattle.segments.specs.Machinery.Segments.{Segment, inside, countOf, classAt, sizeAt, placeAt, lineAt, tokensAt, spotAt, closerSpot, Fine}
 use Rattle.segments.proofs.SegmentLaws.{element-then, group-then, end-then}
-use Rattle.levels.specs.Machinery.Runs.{closerToken, closedState, Through, Dies, MayRun, Begins, begins-statements, begins-expression, begins-object, begins-parameter}
+use Rattle.levels.specs.Machinery.Runs.{closerToken, closedState, Through, Dies, MayRun, Begins, begins-statements, begins-expression, begins-index, begins-items, begins-parameter}
 
 -- where the run of a level is, before a record: what stands around it is behind the nests that are open on it
 pub record Underway (p : Segment) (from : Control) (count top : ℕ) (table before : List ℕ) (c : Control) (l : Level) (at : ℕ) (cells stack : List ℕ) : Type 0 where
@@ -82,7 +86,8 @@ record Fresh (c : Control) : Type 0 where
 fresh : {c : Control} → Begins c → Fresh c
 fresh begins-statements = record { shaped = (refl, refl, refl, refl); written-none = refl; held-none = λ word. tt; owes-none = refl }
 fresh begins-expression = record { shaped = (refl, (refl, refl, refl)); written-none = refl; held-none = λ word. tt; owes-none = refl }
-fresh begins-object = record { shaped = (refl, refl, refl, refl, refl); written-none = refl; held-none = λ word. tt; owes-none = refl }
+fresh begins-index = record { shaped = (refl, (refl, refl, refl)); written-none = refl; held-none = λ word. tt; owes-none = refl }
+fresh begins-items = record { shaped = (refl, refl, refl, refl); written-none = refl; held-none = λ word. tt; owes-none = refl }
 fresh begins-parameter = record { shaped = (refl, refl, refl, refl, refl); written-none = refl; held-none = λ word. tt; owes-none = refl }
 
 pub starts-underway : {p : Segment} {c : Control} {closer count top : ℕ} {table stack : List ℕ} {l : Level} → MayRun p closer count top stack → Begins c
@@ -140,12 +145,8 @@ single-known class t = go (ltb 0 class) (isOpener class) (isEnd class) t
     go false b e t = absurd t
 
 opener-known : (class : ℕ) → T (isOpener class) → class + 1 ≡ endOfText → ⊥
-opener-known class t = go (eqb class openParen) (eqb class openBrace) refl refl t
-  where
-    go : (a b : Bool) → eqb class openParen ≡ a → eqb class openBrace ≡ b → T (a || b) → class + 1 ≡ endOfText → ⊥
-    go true b x y t e = absurd (omega (arith, eqb-true class openParen x))
-    go false true x y t e = absurd (omega (arith, eqb-true class openBrace y))
-    go false false x y t e = absurd t
+opener-known class t =
+    at-openers (λ (k : ℕ). k + 1 ≡ endOfText → ⊥) (λ e. omega arith) (λ e. omega arith) (λ e. omega arith) class t
 
 -- at a record of a class
 module _ {p : Segment} (fine : Fine p) {from : Control} {count top : ℕ} {table before : List ℕ} {c : Control} {l : Level} {at : ℕ} {cells stack : List ℕ}
@@ -325,6 +326,20 @@ no-finish e = absurd (let z : _≡_ {A = ℕ} 0 1 = cc in omega arith)
 no-fail : {A : Type 0} {value : Value} → fail ≡ pop value → A
 no-fail e = absurd (let z : _≡_ {A = ℕ} 0 1 = cc in omega arith)
 
+-- no list takes the text's end
+item-text : (items : Items) (target : Bool) → look endOfText (row (operandDone (byItem items) target) false) ≡ fail
+item-text callArguments true = refl
+item-text callArguments false = refl
+item-text arrayElements true = refl
+item-text arrayElements false = refl
+item-text objectProperties true = refl
+item-text objectProperties false = refl
+
+items-text : (items : Items) → look endOfText (row (itemDue items) false) ≡ fail
+items-text callArguments = refl
+items-text arrayElements = refl
+items-text objectProperties = refl
+
 -- a level that pops does not stand at the text's end
 never-text : {c : Control} {class : ℕ} {value : Value} → Ends class c true (pop value) → look class (row c false) ≡ pop value → class ≡ endOfText → ⊥
 never-text (ends-statements {scope = body}) e q = no-finish (rw q at e)
@@ -333,9 +348,12 @@ never-text (ends-expression {ending = byStatement setting} t) e q = absurd t
 never-text (ends-expression {ending = byReturn setting} t) e q = absurd t
 never-text (ends-expression {ending = byParen} {target = true} t) e q = no-fail (rw q at e)
 never-text (ends-expression {ending = byParen} {target = false} t) e q = no-fail (rw q at e)
-never-text (ends-expression {ending = byBrace} {target = true} t) e q = no-fail (rw q at e)
-never-text (ends-expression {ending = byBrace} {target = false} t) e q = no-fail (rw q at e)
-never-text ends-object e q = no-fail (rw q at e)
+never-text (ends-expression {ending = byBracket} {target = true} t) e q = no-fail (rw q at e)
+never-text (ends-expression {ending = byBracket} {target = false} t) e q = no-fail (rw q at e)
+never-text (ends-expression {ending = byItem items} t) e q = absurd t
+never-text (ends-item {items = items} {target = target}) e q = no-fail (sym (item-text items target) ∙ rw q at e)
+never-text (ends-items {items = items}) e q = no-fail (sym (items-text items) ∙ rw q at e)
+never-text ends-no-parameter e q = no-fail (rw q at e)
 never-text ends-parameter e q = no-fail (rw q at e)
 
 -- with its value the state behind it is reached

@@ -1,6 +1,6 @@
 -- What each way through the loop of a level comes to, by what the code's step means.
 use mathlib.Core.Path.{_≡_, refl, sym, _∙_, ap, subst}
-use mathlib.Core.Bool.{Bool, true, false, cond, not, _||_}
+use mathlib.Core.Bool.{Bool, true, false, cond, not}
 use mathlib.Core.List.{List}
 use Prim.Native.Nat.{ℕ, zero, suc, _+_, _-_, _*_, _≤_, _<_}
 use native.Mathlib.Omega.{arith}
@@ -8,12 +8,13 @@ use borrow.Author.Tests.{eqb-true, eqb-false}
 use lib.Dec.{T, eqb}
 use lib.ListN.{length}
 use Rattle.tables.specs.Records.{mostTrees}
-use Rattle.grammar.specs.Tokens.{openParen, openBrace}
+use Rattle.grammar.specs.Tokens.{openBracket}
 use Rattle.grammar.specs.Grammar.{body}
 use Rattle.grammar.specs.Machinery.Machine.{among, behindStatement, toStatement, Control, statementDue, ifFirst, Action, fail, goto, push, enter, look, row}
 use Rattle.controls.specs.Machinery.Numbers.{settingBy, controlBy, controlOf, effectBy, closingBy, insideBy}
 use Rattle.controls.specs.Machinery.Steps.{isOpener, isEnd, isSingle, Leads, Spans, Settled, Means, means-end, means-fail, means-goto, means-push, means-enter, Ends, goes-on}
 use Rattle.controls.specs.declared.Control as code
+use Rattle.controls.proofs.EndLaws.{at-openers}
 use Rattle.controls.specs.declared.Step.{Step}
 use Rattle.controls.specs.declared.Step.the-variants.{Fail, Goto, Push, Enter}
 use Rattle.waiting.specs.Machinery.Waiting.{width, Backed}
@@ -23,7 +24,7 @@ use Rattle.frames.specs.declared.Standing.{Standing}
 use Rattle.frames.proofs.ParameterLaws.{leads-kind, spans-kind, parameter-inside}
 use Rattle.segments.specs.Machinery.Segments.{Segment, segment, inside, countOf, classAt, sizeAt, placeAt, closerAt, lineAt, contentOf, Fine}
 use Rattle.segments.proofs.SegmentLaws.{inside-fine, inside-count, never-ends}
-use Rattle.levels.specs.Machinery.Runs.{Begins, begins-statements, begins-expression, begins-object, begins-parameter, Through, Ran, ran-through, ran-dead, MayRun, MayOpen}
+use Rattle.levels.specs.Machinery.Runs.{Begins, begins-statements, begins-expression, begins-index, begins-items, begins-parameter, Through, Ran, ran-through, ran-dead, MayRun, MayOpen}
 use Rattle.levels.specs.declared.Parsed.{Parsed}
 use Rattle.levels.specs.declared.Parsed.the-variants.{Done, Bad}
 use Rattle.levels.proofs.RunLaws as runs
@@ -69,13 +70,8 @@ enter-entry : {c : Control} {class number : ℕ} {to : code.Control} {action : A
 enter-entry (means-enter t n e i) = record { must = _; entry = refl; single = t; small = n; there = e; inside = i }
 
 -- the class behind an opener's is a closer's
-opener-is : (class : ℕ) → T (isOpener class) → (class ≤ openBrace) × T (isEnd (class + 1))
-opener-is class t = go (eqb class openParen) (eqb class openBrace) refl refl t
-  where
-    go : (a b : Bool) → eqb class openParen ≡ a → eqb class openBrace ≡ b → T (a || b) → (class ≤ openBrace) × T (isEnd (class + 1))
-    go true b x y t = let e = eqb-true class openParen x in (omega arith, rw e tt)
-    go false true x y t = let e = eqb-true class openBrace y in (omega arith, rw e tt)
-    go false false x y t = absurd t
+opener-is : (class : ℕ) → T (isOpener class) → (class ≤ openBracket) × T (isEnd (class + 1))
+opener-is = at-openers (λ (k : ℕ). (k ≤ openBracket) × T (isEnd (k + 1))) (omega arith, tt) (omega arith, tt) (omega arith, tt)
 
 ran : {q : Segment} {c : Control} {class count top n : ℕ} {a b cells stack : List ℕ} → Ran class q c count top a b (Done n) cells stack
     → Through class q c count top a b n cells stack
@@ -182,7 +178,7 @@ module _ {p : Segment} {from : Control} {count top : ℕ} {table before : List �
     pushes : PushEntry c class (controlOf to) closing (look class (row c newline))
     pushes = push-entry (means-as e)
 
-    pub class-small : class ≤ openBrace
+    pub class-small : class ≤ openBracket
     class-small = opener-is class (pushes .opens) .0
 
     pub may-open : {n m : ℕ} → n ≡ l .count → m ≡ l .top → MayOpen p at (class + 1) n m stack
@@ -308,12 +304,15 @@ pub begins-inside : {c : Control} (closing : ℕ) → c ≡ insideBy closing →
 unfolding insideBy
 begins-inside closing e =
     as-begins e
-    (either (eqb closing 2) begins-object
+    (either (eqb closing 1) begins-items
+    (either (eqb closing 2) begins-items
     (either (eqb closing 4) begins-parameter
     (either (eqb closing 5) begins-statements
     (either (eqb closing 6) begins-statements
     (either (eqb closing 7) begins-statements
-    begins-expression)))))
+    (either (eqb closing 8) begins-items
+    (either (eqb closing 9) begins-index
+    begins-expression))))))))
 
 pub statements-start : {c : Control} (scope : ℕ) → c ≡ controlBy 0 0 scope false → c ≡ statementDue false (settingBy scope)
 unfolding controlBy

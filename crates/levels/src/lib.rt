@@ -82,7 +82,7 @@ fn level(
         }
     }
     let s = frames::ready(control, closer, l, waiting, syntax);
-    if controls::ends(s.control, closer) {
+    if controls::ends::ends(s.control, closer) {
         return Parsed::Done(frames::ended(s.level, waiting, syntax));
     }
     Parsed::Bad(close)
@@ -182,7 +182,7 @@ pub fn statements(
     )
 }
 
-// An expression, or what else stands inside parentheses or an object.
+// An expression, or what else stands inside parentheses, brackets or an object.
 fn expression(
     text: &[u8],
     trees: &[u32],

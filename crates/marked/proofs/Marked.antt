@@ -1,4 +1,4 @@
--- The readings that document 01 marks (M), and those of document 02, U1, hold of the definitions.
+-- The readings that document 01 marks (M), those of document 02, U1, and six with lists hold of the definitions.
 use lib.Dec.{T}
 use Rattle.text.specs.Bytes.{blank, lineEnd, illegal, letter, digit, nameByte}
 use Rattle.text.specs.Runs

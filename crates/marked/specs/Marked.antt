@@ -1,4 +1,4 @@
--- Document 01, Readings: those marked (M), as one table, with the two of document 02, U1. Each has its text, and what reading, parsing and
+-- Document 01, Readings: those marked (M), as one table, with the two of document 02, U1, and six with lists (U2). Each has its text, and what reading, parsing and
 -- respacing give.
 use Prim.Native.Nat.{ℕ}
 use Prim.Native.String.{String}
@@ -119,4 +119,22 @@ readings =
     marked "a.if(b)/c/;" (hasTrees (tree 1 0 1 1 0 ∷ tree 6 1 2 1 0 ∷ tree 1 2 4 1 0 ∷ tree 7 4 7 2 0 ∷ tree 1 5 6 1 0 ∷ tree 6 7 8 1 0 ∷ tree 1 8 9 1 0 ∷ tree 6 9 10 1 0 ∷ tree 6 10 11 1 0 ∷ []))
     (gets 13 10)
     (writes "a . if ( b ) / c / ;\n") ∷
+    marked "[a,,b,];" (hasTrees (tree 10 0 7 6 0 ∷ tree 1 1 2 1 0 ∷ tree 6 2 3 1 0 ∷ tree 6 3 4 1 0 ∷ tree 1 4 5 1 0 ∷ tree 6 5 6 1 0 ∷ tree 6 7 8 1 0 ∷ []))
+    (hasParts (part 1 1 1 ∷ part 1 4 1 ∷ part 21 0 3 ∷ part 13 6 4 ∷ part 20 7 5 ∷ []))
+    (writes "[ a , , b , ] ;\n") ∷
+    marked "f(a,b[c]);" (hasTrees (tree 1 0 1 1 0 ∷ tree 7 1 9 6 0 ∷ tree 1 2 3 1 0 ∷ tree 6 3 4 1 0 ∷ tree 1 4 5 1 0 ∷ tree 10 5 8 2 0 ∷ tree 1 6 7 1 0 ∷ tree 6 9 10 1 0 ∷ []))
+    (hasParts (part 1 0 1 ∷ part 1 2 1 ∷ part 1 4 1 ∷ part 1 6 1 ∷ part 22 5 3 ∷ part 9 1 6 ∷ part 13 7 7 ∷ part 20 8 8 ∷ []))
+    (writes "f ( a , b [ c ] ) ;\n") ∷
+    marked "x={a:b,if:c};" (hasTrees (tree 1 0 1 1 0 ∷ tree 6 1 2 1 0 ∷ tree 8 2 12 8 0 ∷ tree 1 3 4 1 0 ∷ tree 6 4 5 1 0 ∷ tree 1 5 6 1 0 ∷ tree 6 6 7 1 0 ∷ tree 1 7 9 1 0 ∷ tree 6 9 10 1 0 ∷ tree 1 10 11 1 0 ∷ tree 6 12 13 1 0 ∷ []))
+    (hasParts (part 1 0 1 ∷ part 1 5 1 ∷ part 1 9 1 ∷ part 5 2 3 ∷ part 12 1 5 ∷ part 13 10 6 ∷ part 20 11 7 ∷ []))
+    (writes "x = { a : b , if : c } ;\n") ∷
+    marked "a=function(){}/b/c;" (hasTrees (tree 1 0 1 1 0 ∷ tree 6 1 2 1 0 ∷ tree 2 2 10 1 0 ∷ tree 7 10 12 1 0 ∷ tree 9 12 14 1 0 ∷ tree 6 14 15 1 0 ∷ tree 1 15 16 1 0 ∷ tree 6 16 17 1 0 ∷ tree 1 17 18 1 0 ∷ tree 6 18 19 1 0 ∷ []))
+    (hasParts (part 1 0 1 ∷ part 7 2 1 ∷ part 1 6 1 ∷ part 10 5 3 ∷ part 1 8 1 ∷ part 10 7 5 ∷ part 12 1 7 ∷ part 13 9 8 ∷ part 20 10 9 ∷ []))
+    (writes "a = function ( ) { } / b / c ;\n") ∷
+    marked "function(){}/a/;" (hasTrees (tree 2 0 8 1 0 ∷ tree 7 8 10 1 0 ∷ tree 9 10 12 1 0 ∷ tree 5 12 15 1 0 ∷ tree 6 15 16 1 0 ∷ []))
+    (gets 13 8)
+    (writes "function ( ) { } /a/ ;\n") ∷
+    marked "(a,{}/b/c);" (hasTrees (tree 7 0 10 8 0 ∷ tree 1 1 2 1 0 ∷ tree 6 2 3 1 0 ∷ tree 8 3 5 1 0 ∷ tree 6 5 6 1 0 ∷ tree 1 6 7 1 0 ∷ tree 6 7 8 1 0 ∷ tree 1 8 9 1 0 ∷ tree 6 10 11 1 0 ∷ []))
+    (gets 13 2)
+    (writes "( a , { } / b / c ) ;\n") ∷
     []

@@ -16,8 +16,8 @@ use Rattle.grammar.specs.Shown.{Shown}
 use Rattle.parsing.specs.Limits.{WithinLimits, LongEnough}
 use Rattle.parsing.specs.Parse.{noProgram, syntaxFull, Parsing, program, denied, answerOf, treesAfter, syntaxAfter}
 
--- why the elements of a text are no program: one of them begins none with those before it; or all of them begin one, that goes on
--- behind the text's end
+-- where the elements of a text that is no program are refused: at the first with which those so far begin none; or at the text's end, where all of
+-- them begin one
 pub data Refuses (text : List ℕ) (es : List Element) : ℕ → Type 0 where
   at-element : (firsts : List Element) (e : Element) (rest : List Element) → es ≡ firsts ++ (e ∷ rest)
       → BeginsProgram text firsts → (BeginsProgram text (firsts ++ (e ∷ [])) → ⊥) → Refuses text es (e .first)

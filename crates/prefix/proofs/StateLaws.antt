@@ -14,11 +14,11 @@ use Rattle.rule.specs.Rule.{elementClass, groupClass, backwards}
 use Rattle.rule.specs.Levels.{Levels, wholeText, inside, depth, countSoFar, onTop, statedBy, braceOpens}
 use Rattle.prefix.specs.Reading.{Limits, addLeaf, openGroup, closes, closeGroup, deep, wrongCloser, treesFull}
 use Rattle.rule.specs.Machinery.Summary.{nothing, summary, code, summaries, levelCode}
-use Rattle.rule.specs.Machinery.LevelCodes.{statedByLevel, braceByLevel, levelAfter}
+use Rattle.rule.specs.Machinery.LevelCodes.{levelIn, statedByLevel, braceByLevel, levelAfter}
 use Rattle.prefix.specs.Machinery.Represents.{Stack, Represents, closed, Follows, leaf-added, group-opened, group-closed, stopped}
 use Rattle.prefix.specs.declared.State.{State}
 use Rattle.prefix.specs.declared.Advanced.{Advanced}
-use Rattle.rule.proofs.LevelCodeLaws.{stated-right, brace-opens-right, leaf-added-level, group-added-level, kind-of-level}
+use Rattle.rule.proofs.LevelCodeLaws.{level-in, stated-right, brace-opens-right, leaf-added-level, group-added-level, kind-of-level}
 
 -- a tree more on the innermost level
 module _ (add : Trees → Trees) where
@@ -43,7 +43,7 @@ stack-set tag stack i v (inside around kind first newline trees) h s = (
   stack-set tag stack i v around (omega arith) (s .2),
 )
 
-pub represented-start : (tag : Levels → ℕ → ℕ) (stack : List ℕ) → Represents tag stack (record { level = code nothing; depth = 0; records = 0 }) (wholeText none)
+pub represented-start : (tag : Levels → ℕ → ℕ) (stack : List ℕ) → Represents tag stack (record { level = code false nothing; depth = 0; records = 0 }) (wholeText none)
 unfolding levelCode summary backwards count
 represented-start tag stack = record { level-is = refl; depth-is = refl; records-is = refl; stacked = tt; fits = omega arith }
 
@@ -79,19 +79,19 @@ module _ (tag : Levels → ℕ → ℕ) (stack : List ℕ) (state : State) (leve
       open-full after shallow full =
           rw (lt-leb (limits .groups) (depth levels) (omega (arith, h .depth-is)), le-leb (limits .room) (countSoFar levels) (omega (arith, h .records-is))) stopped
 
-      pub open-done : (m : ℕ) → m ≡ tag levels (e .first) → state .depth < limits .groups → state .records < limits .room → limits .groups ≡ length stack / 2
+      pub open-done : (m level : ℕ) → m ≡ tag levels (e .first) → level ≡ levelIn kind → state .depth < limits .groups → state .records < limits .room → limits .groups ≡ length stack / 2
           → Follows (limits .room) tag (set (set stack (2 * state .depth) (state .level)) (2 * state .depth + 1) m) e levels
-          (Advanced.Opened kind (record { level = summaries * kind + code nothing; depth = state .depth + 1; records = state .records + 1 }))
+          (Advanced.Opened kind (record { level = level; depth = state .depth + 1; records = state .records + 1 }))
           (openGroup limits levels kind e)
       unfolding levelCode summary backwards count
-      open-done m marked shallow some groups =
+      open-done m level marked in-kind shallow some groups =
           let i = 2 * state .depth in
           let lower : List ℕ = set stack i (state .level) in
           let same : 2 * depth levels ≡ i = omega (arith, h .depth-is) in
           rw (lt-leb (limits .groups) (depth levels) (omega (arith, h .depth-is)), lt-leb (limits .room) (countSoFar levels) (omega (arith, h .records-is)))
-          (group-opened {kind = kind} {state = record { level = summaries * kind + code nothing; depth = state .depth + 1; records = state .records + 1 }} (omega (arith, h .records-is))
+          (group-opened {kind = kind} {state = record { level = level; depth = state .depth + 1; records = state .records + 1 }} (omega (arith, h .records-is))
           (record {
-            level-is = refl;
+            level-is = in-kind ∙ level-in kind;
             depth-is = omega (arith, h .depth-is);
             records-is = omega (arith, h .records-is);
             stacked = (

@@ -5,17 +5,17 @@ use Prim.Native.Nat.{ℕ, _≤_, _<_}
 use native.Mathlib.Omega.{arith}
 use borrow.Author.Tests.{eqb-false, leb-true, leb-false}
 use lib.Dec.{eqb, leb}
-use Rattle.elements.specs.Elements.{delimiterKind, parenOpener, braceOpener}
+use Rattle.elements.specs.Elements.{delimiterKind, parenOpener, braceOpener, bracketOpener}
 use Rattle.elements.specs.declared.Element.{Element}
 use Rattle.elements.proofs.Choices.{cond-both, cond-known}
-use Rattle.rule.specs.Trees.{Trees, none, leaf, group, parenKind, objectKind, blockKind}
+use Rattle.rule.specs.Trees.{Trees, none, leaf, group, parenKind, objectKind, blockKind, bracketKind}
 use Rattle.rule.specs.Levels.{Levels, wholeText, inside, braceOpens, depth, countSoFar, onTop}
 use Rattle.prefix.specs.Reading.{Limits, Step, stop, more, addLeaf, openGroup, closes, closeGroup, delimit, step, deep, wrongCloser, treesFull}
 
 -- one element more, one group more, or one group ended; the first two within the limits
 pub data Taken (limits : Limits) (e : Element) : Levels → Levels → Type 0 where
   leaf-taken : {levels : Levels} → (e .kind ≡ 0 → ⊥) → countSoFar levels < limits .room → Taken limits e levels (onTop (λ before. leaf before e) levels)
-  open-taken : {levels : Levels} {kind : ℕ} → 7 ≤ kind → kind ≤ 9 → depth levels < limits .groups → countSoFar levels < limits .room
+  open-taken : {levels : Levels} {kind : ℕ} → 7 ≤ kind → kind ≤ 10 → depth levels < limits .groups → countSoFar levels < limits .room
       → Taken limits e levels (inside levels kind (e .first) (e .newline) none)
   close-taken : {around : Levels} {kind first : ℕ} {newline : Bool} {trees : Trees}
       → Taken limits e (inside around kind first newline trees) (onTop (λ before. group before kind first (e .end) newline trees) around)
@@ -42,7 +42,7 @@ module _ (limits : Limits) (e : Element) where
   leaf-says : (levels : Levels) → (e .kind ≡ 0 → ⊥) → Says limits e levels (addLeaf limits levels e)
   leaf-says levels k = cond-known (Says limits e levels) (leb (limits .room) (countSoFar levels)) (full-says levels) (λ some. leaf-taken k (leb-false (limits .room) (countSoFar levels) some))
 
-  open-says : (levels : Levels) (kind : ℕ) → 7 ≤ kind → kind ≤ 9 → Says limits e levels (openGroup limits levels kind e)
+  open-says : (levels : Levels) (kind : ℕ) → 7 ≤ kind → kind ≤ 10 → Says limits e levels (openGroup limits levels kind e)
   open-says levels kind l h =
       cond-known (Says limits e levels) (leb (limits .groups) (depth levels)) (λ reached. (refl, at-depth (leb-true (limits .groups) (depth levels) reached))) λ shallow.
       cond-known (Says limits e levels) (leb (limits .room) (countSoFar levels)) (full-says levels) λ some.
@@ -63,7 +63,8 @@ module _ (limits : Limits) (e : Element) where
       go : (d : Bool) → eqb (e .kind) delimiterKind ≡ d → Says limits e levels (cond d (delimit limits levels e) (addLeaf limits levels e))
       go true q =
           cond-both (Says limits e levels) (eqb (e .which) parenOpener) (open-says levels parenKind (omega arith) (omega arith))
-          (cond-both (Says limits e levels) (eqb (e .which) braceOpener) (brace-says levels (braceOpens levels (e .newline))) (close-says levels))
+          (cond-both (Says limits e levels) (eqb (e .which) braceOpener) (brace-says levels (braceOpens levels (e .newline)))
+          (cond-both (Says limits e levels) (eqb (e .which) bracketOpener) (open-says levels bracketKind (omega arith) (omega arith)) (close-says levels)))
       go false q = leaf-says levels (eqb-false (e .kind) 0 q)
 
   pub step-taken : (levels after : Levels) → step limits levels e ≡ more after → Taken limits e levels after

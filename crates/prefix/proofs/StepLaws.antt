@@ -5,7 +5,7 @@ use borrow.Author.Tests.{eq-eqb, ne-eqb}
 use Rattle.text.specs.Runs.{same}
 use Rattle.signs.specs.Signs.{longestSign, longestOf}
 use Rattle.elements.specs.declared.Element.{Element}
-use Rattle.rule.specs.Trees.{parenKind, objectKind, blockKind}
+use Rattle.rule.specs.Trees.{parenKind, objectKind, blockKind, bracketKind}
 use Rattle.rule.specs.Levels.{Levels, braceOpens}
 use Rattle.prefix.specs.Reading.{Limits, addLeaf, openGroup, closeGroup, step}
 
@@ -28,6 +28,11 @@ module _ (limits : Limits) (levels : Levels) (e : Element) where
       unfolding step longestSign longestOf same
       step-block w b = rw (eq-eqb (e .kind) 0 k, ne-eqb (e .which) 3 n, eq-eqb (e .which) 1 w, b)
 
-      pub step-close : (e .which ≡ 1 → ⊥) → step limits levels e ≡ closeGroup levels e
-      unfolding step longestSign longestOf same
-      step-close m = rw (eq-eqb (e .kind) 0 k, ne-eqb (e .which) 3 n, ne-eqb (e .which) 1 m)
+      module _ (m : e .which ≡ 1 → ⊥) where
+        pub step-brackets : e .which ≡ 5 → step limits levels e ≡ openGroup limits levels bracketKind e
+        unfolding step longestSign longestOf same
+        step-brackets w = rw (eq-eqb (e .kind) 0 k, ne-eqb (e .which) 3 n, ne-eqb (e .which) 1 m, eq-eqb (e .which) 5 w)
+
+        pub step-close : (e .which ≡ 5 → ⊥) → step limits levels e ≡ closeGroup levels e
+        unfolding step longestSign longestOf same
+        step-close o = rw (eq-eqb (e .kind) 0 k, ne-eqb (e .which) 3 n, ne-eqb (e .which) 1 m, ne-eqb (e .which) 5 o)

@@ -7,12 +7,12 @@ use native.Mathlib.Omega.{arith}
 use borrow.Author.Tests.{leb-true, lt-leb}
 use lib.Dec.{eqb, leb}
 use lib.ListN.{length}
-use Rattle.elements.specs.Elements.{elementAt, delimiterKind, parenOpener, braceOpener}
+use Rattle.elements.specs.Elements.{elementAt, delimiterKind, parenOpener, braceOpener, bracketOpener}
 use Rattle.elements.specs.declared.Element.{Element}
 use Rattle.elements.specs.declared.Next.{Next}
 use Rattle.elements.proofs.Choices.{cond-known}
 use Rattle.elements.proofs.Bounds.{found-placed, fault-number}
-use Rattle.rule.specs.Trees.{Trees, none, leaf, count, deepest, parenKind, objectKind, blockKind}
+use Rattle.rule.specs.Trees.{Trees, none, leaf, count, deepest, parenKind, objectKind, blockKind, bracketKind}
 use Rattle.rule.specs.Levels.{Levels, wholeText, inside, statedBy, braceOpens, depth, countSoFar, onTop}
 use Rattle.prefix.specs.Reading.{
   Limits,
@@ -68,16 +68,21 @@ module _ (limits free : Limits) (levels : Levels) (e : Element) (some : countSoF
 
   step-under : StepUnder limits (step limits levels e) (step free levels e)
   unfolding step
-  step-under = go (eqb (e .kind) delimiterKind) (eqb (e .which) parenOpener) (eqb (e .which) braceOpener) (braceOpens levels (e .newline))
+  step-under = go (eqb (e .kind) delimiterKind) (eqb (e .which) parenOpener) (eqb (e .which) braceOpener) (braceOpens levels (e .newline)) (eqb (e .which) bracketOpener)
     where
-      go : (d p b o : Bool)
+      go : (d p b o k : Bool)
           → StepUnder limits
-          (cond d (cond p (openGroup limits levels parenKind e) (cond b (openGroup limits levels (cond o objectKind blockKind) e) (closeGroup levels e))) (addLeaf limits levels e))
-          (cond d (cond p (openGroup free levels parenKind e) (cond b (openGroup free levels (cond o objectKind blockKind) e) (closeGroup levels e))) (addLeaf free levels e))
-      go true true b o = open-under parenKind
-      go true false true o = open-under (cond o objectKind blockKind)
-      go true false false o = same-step
-      go false p b o = leaf-under
+          (cond d
+          (cond p (openGroup limits levels parenKind e) (cond b (openGroup limits levels (cond o objectKind blockKind) e) (cond k (openGroup limits levels bracketKind e) (closeGroup levels e))))
+          (addLeaf limits levels e))
+          (cond d
+          (cond p (openGroup free levels parenKind e) (cond b (openGroup free levels (cond o objectKind blockKind) e) (cond k (openGroup free levels bracketKind e) (closeGroup levels e))))
+          (addLeaf free levels e))
+      go true true b o k = open-under parenKind
+      go true false true o k = open-under (cond o objectKind blockKind)
+      go true false false o true = open-under bracketKind
+      go true false false o false = same-step
+      go false p b o k = leaf-under
 
 -- A reading under limits, beside the unlimited one: the same, or refused for a limit that the trees pass, if there are any.
 pub data Under (limits : Limits) : Reading → Reading → Type 0 where

@@ -1,14 +1,15 @@
 -- Document 01, Refused texts: "Elements are then taken left to right, .. and the first fault met answers; an element's own
 -- faults and 9 precede 12." A text to trees, element by element.
 use Prim.Native.Nat.{ℕ, zero, suc}
+use mathlib.Core.Path.{_≡_}
 use mathlib.Core.Bool.{Bool, cond, _||_}
 use mathlib.Core.List.{List}
 use lib.Dec.{eqb, leb}
 use lib.ListN.{length}
-use Rattle.elements.specs.Elements.{elementAt, delimiterKind, parenOpener, parenCloser, braceOpener}
+use Rattle.elements.specs.Elements.{elementAt, delimiterKind, parenOpener, parenCloser, braceOpener, bracketOpener, bracketCloser}
 use Rattle.elements.specs.declared.Element.{Element}
 use Rattle.elements.specs.declared.Next.{Next}
-use Rattle.rule.specs.Trees.{Trees, none, leaf, group, parenKind, objectKind, blockKind}
+use Rattle.rule.specs.Trees.{Trees, none, leaf, group, parenKind, objectKind, blockKind, bracketKind}
 use Rattle.rule.specs.Levels.{Levels, wholeText, inside, statedBy, braceOpens, depth, countSoFar, onTop}
 
 -- Document 01, Refused texts, row 9, deep: "opener inside 100 open groups"; place: the opener
@@ -51,11 +52,12 @@ openGroup limits levels kind e =
     (cond (leb (limits .room) (countSoFar levels)) (stop treesFull (e .first))
     (more (inside levels kind (e .first) (e .newline) none)))
 
--- `)` closes `( )`; `}`, the other closer, an object or a block
+-- `)` closes `( )`; `]` closes `[ ]`; `}`, the other closer, an object or a block
 abbrev pub closes : ℕ → ℕ → Bool
 closes which kind =
     cond (eqb which parenCloser) (eqb kind parenKind)
-    (eqb kind objectKind || eqb kind blockKind)
+    (cond (eqb which bracketCloser) (eqb kind bracketKind)
+    (eqb kind objectKind || eqb kind blockKind))
 
 -- a closer; 10 for "nothing open, or the other shape"
 abbrev pub closeGroup : Levels → Element → Step
@@ -69,7 +71,8 @@ abbrev pub delimit : Limits → Levels → Element → Step
 delimit limits levels e =
     cond (eqb (e .which) parenOpener) (openGroup limits levels parenKind e)
     (cond (eqb (e .which) braceOpener) (openGroup limits levels (cond (braceOpens levels (e .newline)) objectKind blockKind) e)
-    (closeGroup levels e))
+    (cond (eqb (e .which) bracketOpener) (openGroup limits levels bracketKind e)
+    (closeGroup levels e)))
 
 -- an element
 unfoldable pub step : Limits → Levels → Element → Step
@@ -104,7 +107,7 @@ met limits levels (Next.Found e) = stepped (e .end) (step limits levels e)
 unfoldable pub proceed : List ℕ → Limits → Levels → ℕ → Progress
 proceed bytes limits levels place = met limits levels (elementAt bytes place (statedBy levels))
 
--- the rest of a reading; there are fewer elements than `fuel`, so that it is not used up (`enough-fuel` of `prefix/proofs/Fuel.antt`)
+-- the rest of a reading; there are fewer elements than `fuel`, so that it is not used up (`reading-comes` of `prefix/proofs/Fuel.antt`)
 unfoldable pub readOn : List ℕ → Limits → ℕ → Levels → ℕ → Reading
 readOn bytes limits zero levels place = ending levels
 readOn bytes limits (suc fuel) levels place =
@@ -113,6 +116,12 @@ readOn bytes limits (suc fuel) levels place =
 -- the reading of a text under limits
 unfoldable pub reading : List ℕ → Limits → Reading
 reading bytes limits = readOn bytes limits (suc (length bytes)) (wholeText none) 0
+
+-- the same without fuel: the reading that steps lead to from levels at a place
+pub data Comes (bytes : List ℕ) (limits : Limits) (read : Reading) : Levels → ℕ → Type 0 where
+  comes-over : {levels : Levels} {place : ℕ} → proceed bytes limits levels place ≡ over read → Comes bytes limits read levels place
+  comes-on : {levels after : Levels} {place next : ℕ} → proceed bytes limits levels place ≡ on after next → Comes bytes limits read after next
+      → Comes bytes limits read levels place
 
 -- Reading without limits, which demand 3 is about. Each element has a byte of its own, so that no reading passes limits as large as its text is
 -- long: `unlimited-number` of `prefix/proofs/Unlimited.antt`.

@@ -10,12 +10,14 @@ ghost use Rattle.prefix.specs.Machinery.Represents.{Represents, Follows,
 use elements::Element;
 use elements::Stated;
 
-// The kinds of groups, as document 01 numbers those of its tree records.
+// The kinds of groups, as document 01 and request U2 number those of tree records.
 pub const PARENS: u32 = rule::PARENS;
 
 pub const OBJECT: u32 = rule::OBJECT;
 
 pub const BLOCK: u32 = rule::BLOCK;
+
+pub const BRACKETS: u32 = rule::BRACKETS;
 
 // The numbers that document 01's table gives the faults of levels.
 pub const DEEP: u32 = 9;
@@ -83,7 +85,7 @@ fn open_group(
     kind: u32,
     e: Element,
 ) -> Advanced
-    requires { ⌜ kind ≤ 9 ⌝ }
+    requires { ⌜ kind ≤ 10 ⌝ }
     ensures { λ r. ⌜ ((tags : Levels → ℕ → ℕ) (levels : Levels) → Represents tags (now (stack .entry)) state levels → tag ≡ tags levels (e .first) → Follows room tags (now (stack .exit)) e levels r (openGroup (record { groups = length (now (stack .entry)) / 2; room = room }) levels kind e)) ⌝ }
 {
     let depth = state.depth;
@@ -99,7 +101,7 @@ fn open_group(
     Advanced::Opened(
         kind,
         State {
-            level: rule::SUMMARIES * kind + rule::NOTHING,
+            level: rule::level_in(kind),
             depth: depth + 1,
             records: number + 1,
         },
@@ -112,6 +114,9 @@ fn is_closed_by(kind: u32, which: u32) -> bool
 {
     if which == signs::CLOSE_PAREN {
         return kind == PARENS;
+    }
+    if which == signs::CLOSE_BRACKET {
+        return kind == BRACKETS;
     }
     if kind == OBJECT {
         return true;
@@ -161,6 +166,9 @@ pub fn advance(stack: &mut [u32], state: State, room: usize, tag: u32, e: Elemen
             return open_group(stack, state, room, tag, OBJECT, e);
         }
         return open_group(stack, state, room, tag, BLOCK, e);
+    }
+    if e.which == signs::OPEN_BRACKET {
+        return open_group(stack, state, room, tag, BRACKETS, e);
     }
     close_group(stack, state, e)
 }

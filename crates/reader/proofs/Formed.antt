@@ -23,11 +23,11 @@ use Rattle.storing.proofs.CellLaws.{records-length}
 abbrev pub Formed : Trees → Type 0
 Formed none = Unit {0}
 Formed (leaf before e) = Formed before × (1 ≤ e .kind) × (e .kind ≤ 6)
-Formed (group before kind first end newline within) = Formed before × (7 ≤ kind) × (kind ≤ 9) × Formed within
+Formed (group before kind first end newline within) = Formed before × (7 ≤ kind) × (kind ≤ 10) × Formed within
 
 abbrev FormedLevels : Levels → Type 0
 FormedLevels (wholeText trees) = Formed trees
-FormedLevels (inside around kind first newline trees) = FormedLevels around × (7 ≤ kind) × (kind ≤ 9) × Formed trees
+FormedLevels (inside around kind first newline trees) = FormedLevels around × (7 ≤ kind) × (kind ≤ 10) × Formed trees
 
 formed-on-top : (add : Trees → Trees) → ((trees : Trees) → Formed trees → Formed (add trees)) → (levels : Levels) → FormedLevels levels → FormedLevels (onTop add levels)
 formed-on-top add keeps (wholeText trees) p = keeps trees p

@@ -15,7 +15,7 @@ pub data Nested : List ℕ → Type 0 where
   -- an element, of a kind from 1 to 6, is one record
   element : {kind first end number newline : ℕ} {rest : List ℕ} → 1 ≤ kind → kind ≤ 6 → number ≡ 1 → Nested rest
       → Nested (kind ∷ first ∷ end ∷ number ∷ newline ∷ rest)
-  -- a group, of a kind from 7 to 9, is its record and those of its content
-  group : {kind first end number newline : ℕ} {rest : List ℕ} → 7 ≤ kind → kind ≤ 9 → 1 ≤ number → contentCells number ≤ length rest
+  -- a group, of a kind from 7 to 10, is its record and those of its content
+  group : {kind first end number newline : ℕ} {rest : List ℕ} → 7 ≤ kind → kind ≤ 10 → 1 ≤ number → contentCells number ≤ length rest
       → Nested (take (contentCells number) rest) → Nested (drop (contentCells number) rest)
       → Nested (kind ∷ first ∷ end ∷ number ∷ newline ∷ rest)

@@ -2,19 +2,22 @@
 use mathlib.Core.Path.{_≡_, refl, sym, ap, subst, _∙_}
 use mathlib.Core.List.{List, [], _++_, append-assoc, append-nil}
 use Prim.Native.Nat.{ℕ, _+_, _*_, _≤_}
-use lib.ListN.{length, drop}
+use lib.ListN.{length, take, drop}
+use native.Mathlib.Omega.{arith}
 use lib.Seq.{take-at}
 use Rattle.rule.specs.Trees.{Trees, count}
-use Rattle.prefix.specs.Reading.{accepted}
+use Rattle.prefix.specs.Reading.{Reading, accepted, refused}
 use Rattle.prefix.proofs.LimitLaws.{accepted-unlimited}
 use Rattle.tables.specs.Records.{treeWidth, treeRecord}
 use Rattle.storing.specs.Records.{records}
-use Rattle.reader.specs.Read.{mostBytes, readLimits, readingFor}
+use Rattle.reader.specs.Read.{mostBytes, readLimits, readingFor, answerOf, tableAfter, Reads}
 use Rattle.storing.proofs.CellLaws.{records-length}
 use Rattle.reader.proofs.LengthFirst.{first-accepted}
 use Rattle.spacing.specs.Respaced.{respaced}
-use Rattle.respacer.specs.Respace.{respaceLimits, wholeReading, written, respacingFor}
-use Rattle.respacer.specs.Alike.{Alike, alike-none, alike-leaf, alike-group, withoutPlaces, recordCells, RoundTrip}
+use Rattle.answers.specs.declared.Answer.{Answer}
+use Rattle.respacer.specs.Respace.{respaceLimits, wholeReading, Respacing, written, denied, respacingFor, outputAfter, Respaces}
+use Rattle.respacer.specs.Respace
+use Rattle.respacer.specs.Alike.{Alike, alike-none, alike-leaf, alike-group, withoutPlaces, recordCells, RoundTrip, SameLeft}
 use Rattle.respacer.proofs.AlikeLevels.{alike-count}
 use Rattle.respacer.proofs.CallsAgain.{kept-by-read, wrote}
 
@@ -68,3 +71,34 @@ read-written text room bytes e short table trees reads =
           same-cells = rw (k .reads, reads, accepted-cells (k .kept) table, accepted-cells trees table)
               (sym (rw (append-nil (records trees), append-nil (records (k .kept))) at same));
         }
+
+-- the same of what the calls leave
+module _ (text before after table left other : List ℕ) (n number : ℕ) (answer : Answer) (short : n ≤ mostBytes)
+    (again : Reads (take n after) table other answer) where
+  read-as : (bytes : List ℕ) → respacingFor text (length before) ≡ written bytes → take n after ≡ bytes → length bytes ≤ mostBytes
+      → (r : Reading) → readingFor text (length table) ≡ r → Answer.Accepted number ≡ answerOf r → left ≡ tableAfter r table
+      → SameLeft number left answer other
+  read-as bytes e is small (accepted trees) r a l =
+      let t = read-written text (length before) bytes e small table trees r in
+      let counted : number ≡ count trees = cc in
+      let same : count trees ≡ count (t .kept) = alike-count (t .alike) in
+      let kept : other ≡ tableAfter (accepted (t .kept)) table =
+      again .1 ∙ ap (λ output. tableAfter (readingFor output (length table)) table) is ∙ ap (λ q. tableAfter q table) (t .reads) in
+      record {
+        same-answer = again .0 ∙ rw (is, t .reads, counted, same);
+        same-cells =
+            rw (counted, kept, l)
+            (ap (λ k. withoutPlaces (take (treeWidth * k) (tableAfter (accepted (t .kept)) table))) same
+            ∙ sym (ap (λ q. withoutPlaces (recordCells q table)) (t .reads)) ∙ t .same-cells ∙ ap (λ q. withoutPlaces (recordCells q table)) r);
+      }
+  read-as bytes e is small (refused number place) r a l = absurd (let z : _≡_ {A = ℕ} 0 1 = cc in omega arith)
+
+  pub left-again : Respaces text before after (Answer.Accepted n) → Reads text table left (Answer.Accepted number) → SameLeft number left answer other
+  left-again spaced read = wrote-as (respacingFor text (length before)) refl (spaced .0) (spaced .1)
+    where
+      wrote-as : (q : Respacing) → respacingFor text (length before) ≡ q → Answer.Accepted n ≡ Respace.answerOf q → after ≡ outputAfter q before → SameLeft number left answer other
+      wrote-as (written bytes) e a t =
+          let long : n ≡ length bytes = cc in
+          read-as bytes e (rw (long, t) (take-at bytes (drop (length bytes) before) (length bytes) refl)) (rw long at short)
+          (readingFor text (length table)) refl (read .0) (read .1)
+      wrote-as (denied k place) e a t = absurd (let z : _≡_ {A = ℕ} 0 1 = cc in omega arith)

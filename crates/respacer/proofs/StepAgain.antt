@@ -7,9 +7,9 @@ use Prim.Native.Nat.{ℕ, _+_, _-_}
 use native.Mathlib.Omega.{arith}
 use borrow.Author.Tests.{eqb-true}
 use lib.Dec.{eqb, leb}
-use Rattle.elements.specs.Elements.{delimiterKind, parenOpener, braceOpener}
+use Rattle.elements.specs.Elements.{delimiterKind, parenOpener, braceOpener, bracketOpener}
 use Rattle.elements.specs.declared.Element.{Element}
-use Rattle.rule.specs.Trees.{none, leaf, group, parenKind, objectKind, blockKind}
+use Rattle.rule.specs.Trees.{none, leaf, group, parenKind, objectKind, blockKind, bracketKind}
 use Rattle.rule.specs.Levels.{Levels, inside, braceOpens, depth, countSoFar, onTop}
 use Rattle.prefix.specs.Reading.{Limits, Step, stop, more, addLeaf, openGroup, closes, closeGroup, step, deep, treesFull, wrongCloser}
 use Rattle.prefix.proofs.StepCases.{not-more}
@@ -98,7 +98,7 @@ module _ (s t : List ℕ) (limits : Limits) (e : Element) (start : ℕ) (after :
       → step limits levels e ≡ more after → Reaches s t after (step limits others (moved e start (lineWritten e)))
   unfolding step
   step-again {levels} {others} alike single =
-      go (eqb (e .kind) delimiterKind) (λ d. single (eqb-true (e .kind) delimiterKind d)) (eqb (e .which) parenOpener) (eqb (e .which) braceOpener)
+      go (eqb (e .kind) delimiterKind) (λ d. single (eqb-true (e .kind) delimiterKind d)) (eqb (e .which) parenOpener) (eqb (e .which) braceOpener) (eqb (e .which) bracketOpener)
     where
       brace-again : openGroup limits levels (cond (braceOpens levels (e .newline)) objectKind blockKind) e ≡ more after → e .end ≡ e .first + 1
           → Reaches s t after (openGroup limits others (cond (braceOpens others (e .newline)) objectKind blockKind) (moved e start (e .newline)))
@@ -106,9 +106,10 @@ module _ (s t : List ℕ) (limits : Limits) (e : Element) (start : ℕ) (after :
           open-again one alike (cond (braceOpens others (e .newline)) objectKind blockKind)
           (subst (λ opens. openGroup limits levels (cond opens objectKind blockKind) e ≡ more after) (alike-brace alike (e .newline)) m)
 
-      go : (delimits : Bool) → (delimits ≡ true → e .end ≡ e .first + 1) → (parens brace : Bool) → stepBy delimits parens brace limits levels e ≡ more after
-          → Reaches s t after (stepBy delimits parens brace limits others (moved e start (lineBut delimits parens brace (e .newline))))
-      go true one true brace m = open-again (one refl) alike parenKind m
-      go true one false true m = brace-again m (one refl)
-      go true one false false m = close-again (one refl) alike false m
-      go false one parens brace m = leaf-again alike m
+      go : (delimits : Bool) → (delimits ≡ true → e .end ≡ e .first + 1) → (parens brace bracket : Bool) → stepBy delimits parens brace bracket limits levels e ≡ more after
+          → Reaches s t after (stepBy delimits parens brace bracket limits others (moved e start (lineBut delimits parens brace bracket (e .newline))))
+      go true one true brace bracket m = open-again (one refl) alike parenKind m
+      go true one false true bracket m = brace-again m (one refl)
+      go true one false false true m = open-again (one refl) alike bracketKind m
+      go true one false false false m = close-again (one refl) alike false m
+      go false one parens brace bracket m = leaf-again alike m

@@ -7,9 +7,9 @@ use native.Mathlib.Omega.{arith}
 use borrow.Author.Tests.{eqb-true}
 use lib.Dec.{eqb, leb}
 use lib.ListN.{length}
-use Rattle.elements.specs.Elements.{delimiterKind, parenOpener, braceOpener}
+use Rattle.elements.specs.Elements.{delimiterKind, parenOpener, braceOpener, bracketOpener}
 use Rattle.elements.specs.declared.Element.{Element}
-use Rattle.rule.specs.Trees.{none, leaf, group, parenKind, objectKind, blockKind}
+use Rattle.rule.specs.Trees.{none, leaf, group, parenKind, objectKind, blockKind, bracketKind}
 use Rattle.rule.specs.Levels.{Levels, wholeText, inside, braceOpens, depth, countSoFar, onTop}
 use Rattle.prefix.specs.Reading.{Limits, Step, stop, more, addLeaf, openGroup, closes, closeGroup, step, deep, treesFull, wrongCloser}
 use Rattle.prefix.proofs.StepCases.{not-more}
@@ -17,21 +17,22 @@ use Rattle.spacing.specs.Respaced.{addElement, addCloser, addTrees}
 use Rattle.respacer.specs.Machinery.Written.{writtenOf}
 use Rattle.respacer.proofs.WriteLaws.{written-leaf, written-group}
 
--- a step by the tests on its element: a delimiter, `(`, `{`
-abbrev pub stepBy : Bool → Bool → Bool → Limits → Levels → Element → Step
-stepBy delimits parens brace limits levels e =
+-- a step by the tests on its element: a delimiter, `(`, `{`, `[`
+abbrev pub stepBy : Bool → Bool → Bool → Bool → Limits → Levels → Element → Step
+stepBy delimits parens brace bracket limits levels e =
     cond delimits
     (cond parens (openGroup limits levels parenKind e)
     (cond brace (openGroup limits levels (cond (braceOpens levels (e .newline)) objectKind blockKind) e)
-    (closeGroup levels e)))
+    (cond bracket (openGroup limits levels bracketKind e)
+    (closeGroup levels e))))
     (addLeaf limits levels e)
 
 -- the newline flag that is written: "before every closer, one blank"
-abbrev pub lineBut : Bool → Bool → Bool → Bool → Bool
-lineBut delimits parens brace newline = cond (delimits && not (parens || brace)) false newline
+abbrev pub lineBut : Bool → Bool → Bool → Bool → Bool → Bool
+lineBut delimits parens brace bracket newline = cond (delimits && not (parens || (brace || bracket))) false newline
 
 abbrev pub lineWritten : Element → Bool
-lineWritten e = lineBut (eqb (e .kind) delimiterKind) (eqb (e .which) parenOpener) (eqb (e .which) braceOpener) (e .newline)
+lineWritten e = lineBut (eqb (e .kind) delimiterKind) (eqb (e .which) parenOpener) (eqb (e .which) braceOpener) (eqb (e .which) bracketOpener) (e .newline)
 
 -- behind what is not empty, an element without a line end before it is written like a closer
 closer-element : (s written : List ℕ) (first end : ℕ) → 0 < length written → addCloser s written first end ≡ addElement s written first end false
@@ -82,12 +83,13 @@ module _ (s : List ℕ) (limits : Limits) (e : Element) (after : Levels) where
       → step limits levels e ≡ more after → writtenOf s after ≡ addElement s (writtenOf s levels) (e .first) (e .end) (lineWritten e)
   unfolding step
   step-written levels single begun =
-      go (eqb (e .kind) delimiterKind) (λ d. single (eqb-true (e .kind) delimiterKind d)) (eqb (e .which) parenOpener) (eqb (e .which) braceOpener)
+      go (eqb (e .kind) delimiterKind) (λ d. single (eqb-true (e .kind) delimiterKind d)) (eqb (e .which) parenOpener) (eqb (e .which) braceOpener) (eqb (e .which) bracketOpener)
     where
-      go : (delimits : Bool) → (delimits ≡ true → e .end ≡ e .first + 1) → (parens brace : Bool)
-          → stepBy delimits parens brace limits levels e ≡ more after
-          → writtenOf s after ≡ addElement s (writtenOf s levels) (e .first) (e .end) (lineBut delimits parens brace (e .newline))
-      go true one true brace = open-written (one refl) levels parenKind
-      go true one false true = open-written (one refl) levels (cond (braceOpens levels (e .newline)) objectKind blockKind)
-      go true one false false = close-written (one refl) levels begun
-      go false one parens brace = leaf-written levels
+      go : (delimits : Bool) → (delimits ≡ true → e .end ≡ e .first + 1) → (parens brace bracket : Bool)
+          → stepBy delimits parens brace bracket limits levels e ≡ more after
+          → writtenOf s after ≡ addElement s (writtenOf s levels) (e .first) (e .end) (lineBut delimits parens brace bracket (e .newline))
+      go true one true brace bracket = open-written (one refl) levels parenKind
+      go true one false true bracket = open-written (one refl) levels (cond (braceOpens levels (e .newline)) objectKind blockKind)
+      go true one false false true = open-written (one refl) levels bracketKind
+      go true one false false false = close-written (one refl) levels begun
+      go false one parens brace bracket = leaf-written levels

@@ -4,6 +4,7 @@ use mathlib.Core.Path.{_≡_}
 use mathlib.Core.Bool.{Bool}
 use mathlib.Core.List.{List, [], _∷_}
 use lib.ListN.{length, take}
+use Rattle.answers.specs.declared.Answer.{Answer}
 use Rattle.elements.specs.declared.Element.{Element}
 use Rattle.rule.specs.Trees.{Trees, none, leaf, group, count}
 use Rattle.prefix.specs.Reading.{Reading, accepted, refused}
@@ -53,3 +54,9 @@ pub record RoundTrip (text bytes table : List ℕ) (trees : Trees) : Type 0 wher
   pub alike : Alike text bytes trees kept
   pub same-answer : answerOf (readingFor bytes (length table)) ≡ answerOf (readingFor text (length table))
   pub same-cells : withoutPlaces (recordCells (readingFor bytes (length table)) table) ≡ withoutPlaces (recordCells (readingFor text (length table)) table)
+
+-- what `read` answers and leaves of the bytes that `respace` wrote, where of the text itself it answered `count` and left `left`: the same answer,
+-- and the same cells of records but for positions
+pub record SameLeft (count : ℕ) (left : List ℕ) (answer : Answer) (other : List ℕ) : Type 0 where
+  pub same-answer : answer ≡ Answer.Accepted count
+  pub same-cells : withoutPlaces (take (treeWidth * count) other) ≡ withoutPlaces (take (treeWidth * count) left)

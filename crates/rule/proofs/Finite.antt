@@ -4,7 +4,7 @@ use mathlib.Core.List.{List, [], _∷_}
 use lib.Dec.{T}
 use Rattle.text.proofs.Range.{and-left, and-right}
 use Rattle.text.proofs.Members.{Has, here, there, allIn, at}
-use Rattle.rule.specs.Rule.{Class, name, literal, operator, colon, dot, other, returnWord, functionWord, ifWord, parens, object, block}
+use Rattle.rule.specs.Rule.{Class, name, literal, operator, colon, dot, comma, other, returnWord, functionWord, ifWord, parens, brackets, object, block}
 use Rattle.rule.specs.Machinery.Summary.{
   Summary,
   nothing,
@@ -12,6 +12,7 @@ use Rattle.rule.specs.Machinery.Summary.{
   afterOperator,
   afterColon,
   afterDot,
+  afterComma,
   afterOther,
   afterReturn,
   afterIf,
@@ -36,7 +37,7 @@ pub at-bool : (P : Bool → Bool) → T (bothBools P) → (b : Bool) → T (P b)
 at-bool P t b = at P (a-bool b) t
 
 abbrev classes : List Class
-classes = name ∷ literal ∷ operator ∷ colon ∷ dot ∷ other ∷ returnWord ∷ functionWord ∷ ifWord ∷ parens ∷ object ∷ block ∷ []
+classes = name ∷ literal ∷ operator ∷ colon ∷ dot ∷ comma ∷ other ∷ returnWord ∷ functionWord ∷ ifWord ∷ parens ∷ brackets ∷ object ∷ block ∷ []
 
 a-class : (c : Class) → Has c classes
 a-class name = here
@@ -44,13 +45,15 @@ a-class literal = there here
 a-class operator = there (there here)
 a-class colon = there (there (there here))
 a-class dot = there (there (there (there here)))
-a-class other = there (there (there (there (there here))))
-a-class returnWord = there (there (there (there (there (there here)))))
-a-class functionWord = there (there (there (there (there (there (there here))))))
-a-class ifWord = there (there (there (there (there (there (there (there here)))))))
-a-class parens = there (there (there (there (there (there (there (there (there here))))))))
-a-class object = there (there (there (there (there (there (there (there (there (there here)))))))))
-a-class block = there (there (there (there (there (there (there (there (there (there (there here))))))))))
+a-class comma = there (there (there (there (there here))))
+a-class other = there (there (there (there (there (there here)))))
+a-class returnWord = there (there (there (there (there (there (there here))))))
+a-class functionWord = there (there (there (there (there (there (there (there here)))))))
+a-class ifWord = there (there (there (there (there (there (there (there (there here))))))))
+a-class parens = there (there (there (there (there (there (there (there (there (there here)))))))))
+a-class brackets = there (there (there (there (there (there (there (there (there (there (there here))))))))))
+a-class object = there (there (there (there (there (there (there (there (there (there (there (there here)))))))))))
+a-class block = there (there (there (there (there (there (there (there (there (there (there (there (there here))))))))))))
 
 abbrev pub allClasses : (Class → Bool) → Bool
 allClasses P = allIn P classes
@@ -60,7 +63,7 @@ at-class P t c = at P (a-class c) t
 
 -- the last three hold a Boolean
 abbrev plain : List Summary
-plain = nothing ∷ operand ∷ afterOperator ∷ afterColon ∷ afterDot ∷ afterOther ∷ afterReturn ∷ afterIf ∷ afterIfParens ∷ afterBlock ∷ []
+plain = nothing ∷ operand ∷ afterOperator ∷ afterColon ∷ afterDot ∷ afterComma ∷ afterOther ∷ afterReturn ∷ afterIf ∷ afterIfParens ∷ afterBlock ∷ []
 
 abbrev ofFunctions : List (Bool → Summary)
 ofFunctions = afterFunction ∷ afterFunctionName ∷ afterFunctionParens ∷ []
@@ -88,11 +91,12 @@ module _ (P : Summary → Bool) (t : T (allSummaries P)) where
   at-summary afterOperator = at-plain (there (there here))
   at-summary afterColon = at-plain (there (there (there here)))
   at-summary afterDot = at-plain (there (there (there (there here))))
-  at-summary afterOther = at-plain (there (there (there (there (there here)))))
-  at-summary afterReturn = at-plain (there (there (there (there (there (there here))))))
-  at-summary afterIf = at-plain (there (there (there (there (there (there (there here)))))))
-  at-summary afterIfParens = at-plain (there (there (there (there (there (there (there (there here))))))))
-  at-summary afterBlock = at-plain (there (there (there (there (there (there (there (there (there here)))))))))
+  at-summary afterComma = at-plain (there (there (there (there (there here)))))
+  at-summary afterOther = at-plain (there (there (there (there (there (there here))))))
+  at-summary afterReturn = at-plain (there (there (there (there (there (there (there here)))))))
+  at-summary afterIf = at-plain (there (there (there (there (there (there (there (there here))))))))
+  at-summary afterIfParens = at-plain (there (there (there (there (there (there (there (there (there here)))))))))
+  at-summary afterBlock = at-plain (there (there (there (there (there (there (there (there (there (there here))))))))))
   at-summary (afterFunction inObject) = at-function here inObject
   at-summary (afterFunctionName inObject) = at-function (there here) inObject
   at-summary (afterFunctionParens inObject) = at-function (there (there here)) inObject

@@ -1,10 +1,11 @@
 -- The summary answers what the rule answers.
-use mathlib.Core.Path.{_≡_, refl, ap, _∙_}
-use mathlib.Core.Bool.{Bool, true, false, not, cond}
+use mathlib.Core.Path.{_≡_, refl, ap, sym, _∙_}
+use mathlib.Core.Bool.{Bool, true, false, not, cond, _||_}
 use mathlib.Core.List.{List, [], _∷_}
 use lib.Dec.{T}
 use Rattle.text.proofs.Range.{alike, alike→eq}
-use Rattle.rule.specs.Rule.{Class, name, literal, operator, colon, dot, other, returnWord, functionWord, ifWord, parens, object, block, Before, tree, is, endsWith, objectAfter, opensObject, plainly, opensPattern, namesWord}
+use Rattle.rule.specs.Rule.{Class, name, literal, operator, colon, dot, comma, other, returnWord, functionWord, ifWord, parens, brackets, object, block, Before, tree, is, endsWith, objectAfter, opensObject, plainly, opensPattern, namesWord}
+use Rattle.vocabulary.proofs.ClassLaws.{is-class}
 use Rattle.rule.specs.Machinery.Summary.{Summary, braceBy, slashBy, nameBy, addName, addParens, addBlock, add, summary}
 use Rattle.rule.proofs.Finite.{bothBools, at-bool, allClasses, at-class, allSummaries, at-summary}
 
@@ -40,7 +41,7 @@ not-excepted : (e l : Bool) (c : Class) → is block c ≡ false → (ts : List 
 unfolding opensPattern
 not-excepted e l c q [] = refl
 not-excepted e l c q (three ∷ []) = refl
-not-excepted e l c q (three ∷ two ∷ []) = refl
+not-excepted e l c q (tree three i ∷ tree two j ∷ []) = rw q
 not-excepted e l c q (tree three i ∷ tree two j ∷ tree one k ∷ ts) = rw q
 
 -- and behind a block: the trees before it are looked at one by one, as long as they could be those of a function
@@ -57,13 +58,14 @@ module _ (e l : Bool) where
   unfolding summary opensPattern
   after-block-parens lp [] = refl
   after-block-parens lp (tree c ln ∷ ts) =
-      always (λ e s c f. slashBy (addBlock (addParens (add e s c f)))) (λ e s c f. cond (is name c) (slashBy (addBlock (addParens (addName s)))) true) tt e (summary e ts) c ln
-      ∙ ap (λ (b : Bool). cond (is name c) b true) (after-name lp ln ts) ∙ go (is name c) refl ts
+      always (λ e s c f. slashBy (addBlock (addParens (add e s c f))))
+      (λ e s c f. cond (is name c) (slashBy (addBlock (addParens (addName s)))) (cond (is functionWord c) (not (braceBy e s f)) true)) tt e (summary e ts) c ln
+      ∙ rw (after-name lp ln ts, brace-right e ts ln) (go (is name c) refl ts)
     where
       go : (b : Bool) → is name c ≡ b → (ts : List Before)
-          → cond b (opensPattern e (tree block l ∷ tree parens lp ∷ tree name ln ∷ ts)) true ≡ opensPattern e (tree block l ∷ tree parens lp ∷ tree c ln ∷ ts)
-      go true q [] = refl
-      go true q (tree one k ∷ ts) = rw q
+          → cond b (opensPattern e (tree block l ∷ tree parens lp ∷ tree name ln ∷ ts)) (cond (is functionWord c) (not (opensObject e ts ln)) true)
+          ≡ opensPattern e (tree block l ∷ tree parens lp ∷ tree c ln ∷ ts)
+      go true q ts = ap (λ (c : Class). opensPattern e (tree block l ∷ tree parens lp ∷ tree c ln ∷ ts)) (sym (is-class name c (rw q tt)))
       go false q [] = refl
       go false q (tree one k ∷ ts) = rw q
 
@@ -77,10 +79,10 @@ module _ (e l : Bool) where
       go : (b : Bool) → is parens c ≡ b → (ts : List Before)
           → cond b (opensPattern e (tree block l ∷ tree parens lp ∷ ts)) true ≡ opensPattern e (tree block l ∷ tree c lp ∷ ts)
       go true q [] = refl
-      go true q (two ∷ []) = refl
+      go true q (tree two j ∷ []) = rw q
       go true q (tree two j ∷ tree one k ∷ ts) = rw q
       go false q [] = refl
-      go false q (two ∷ []) = refl
+      go false q (tree two j ∷ []) = rw q
       go false q (tree two j ∷ tree one k ∷ ts) = rw q
 
 -- what a slash does
@@ -93,16 +95,20 @@ slash-right e (tree literal l ∷ ts) = not-excepted e l literal refl ts
 slash-right e (tree operator l ∷ ts) = not-excepted e l operator refl ts
 slash-right e (tree colon l ∷ ts) = not-excepted e l colon refl ts
 slash-right e (tree dot l ∷ ts) = not-excepted e l dot refl ts
+slash-right e (tree comma l ∷ ts) = not-excepted e l comma refl ts
 slash-right e (tree other l ∷ ts) = not-excepted e l other refl ts
 slash-right e (tree returnWord l ∷ ts) = not-excepted e l returnWord refl ts
 slash-right e (tree functionWord l ∷ ts) = not-excepted e l functionWord refl ts
 slash-right e (tree ifWord l ∷ ts) = not-excepted e l ifWord refl ts
 slash-right e (tree parens l ∷ ts) = after-parens e ts ∙ not-excepted e l parens refl ts
+slash-right e (tree brackets l ∷ ts) = not-excepted e l brackets refl ts
 slash-right e (tree object l ∷ ts) = not-excepted e l object refl ts
 slash-right e (tree block l ∷ ts) = after-block e l ts
 
 -- whether a reserved word is a name
-pub name-right : (e : Bool) (ts : List Before) → nameBy (summary e ts) ≡ namesWord ts
+pub name-right : (e inObject : Bool) (ts : List Before) → nameBy inObject (summary e ts) ≡ namesWord inObject ts
 unfolding summary namesWord
-name-right e [] = refl
-name-right e (tree c l ∷ ts) = always (λ e s c l. nameBy (add e s c l)) (λ e s c l. is dot c) tt e (summary e ts) c l
+name-right e true [] = refl
+name-right e false [] = refl
+name-right e true (tree c l ∷ ts) = always (λ e s c l. nameBy true (add e s c l)) (λ e s c l. is dot c || is comma c) tt e (summary e ts) c l
+name-right e false (tree c l ∷ ts) = always (λ e s c l. nameBy false (add e s c l)) (λ e s c l. is dot c || false) tt e (summary e ts) c l

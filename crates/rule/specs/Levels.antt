@@ -1,11 +1,11 @@
 -- Document 01, Prefix rule: "The whole text is a statement level. The inside of `( )` is an expression level. The inside
--- of a brace is an expression level if it is an object, else a statement level."
+-- of a brace is an expression level if it is an object, else a statement level." Document 02, U2: "bracket groups (.. expression level)".
 use Prim.Native.Nat.{ℕ, _+_}
 use mathlib.Core.Bool.{Bool, _||_}
 use lib.Dec.{eqb}
 use Rattle.elements.specs.Elements.{stating}
 use Rattle.elements.specs.declared.Stated.{Stated}
-use Rattle.rule.specs.Trees.{Trees, count, parenKind, objectKind}
+use Rattle.rule.specs.Trees.{Trees, count, parenKind, objectKind, bracketKind}
 use Rattle.rule.specs.Rule.{backwards, opensObject, opensPattern, namesWord}
 
 -- the levels that are open at a place: the text's own, or the inside of a group that is open, with the levels around it,
@@ -16,7 +16,7 @@ pub data Levels : Type 0 where
 
 -- whether the inside of a group of that kind is an expression level; the whole text has the kind 0
 abbrev pub isExpression : ℕ → Bool
-isExpression kind = eqb kind parenKind || eqb kind objectKind
+isExpression kind = eqb kind parenKind || eqb kind objectKind || eqb kind bracketKind
 
 -- the kind of the innermost group that is open
 abbrev pub kindOf : Levels → ℕ
@@ -38,7 +38,7 @@ braceOpens levels newline = opensObject (isExpression (kindOf levels)) (backward
 
 -- whether a reserved word is a name there
 abbrev pub wordIsName : Levels → Bool
-wordIsName levels = namesWord (backwards (treesOf levels))
+wordIsName levels = namesWord (eqb (kindOf levels) objectKind) (backwards (treesOf levels))
 
 -- what the prefix rule states of the next element
 abbrev pub statedBy : Levels → Stated

@@ -1,13 +1,13 @@
--- Document 01, Prefix rule, and document 02, U1: over the trees before on the same level. "Last" is the tree before, on the same level.
+-- Document 01, Prefix rule, and document 02, U1 and U2: over the trees before on the same level. "Last" is the tree before, on the same level.
 use Prim.Native.Nat.{ℕ}
-use mathlib.Core.Bool.{Bool, true, false, not, cond, _&&_}
+use mathlib.Core.Bool.{Bool, true, false, not, cond, _&&_, _||_}
 use mathlib.Core.List.{List, [], _∷_}
 use lib.Dec.{eqb}
 use Rattle.elements.specs.Elements.{nameKind, wordKind, signKind}
 use Rattle.elements.specs.declared.Element.{Element}
 use Rattle.vocabulary.specs.Vocabulary.{words, signs, ruleClass, rowAt}
-pub use Rattle.vocabulary.specs.RuleClasses.{Class, name, literal, operator, colon, dot, other, returnWord, functionWord, ifWord, parens, object, block, rank}
-use Rattle.rule.specs.Trees.{Trees, none, leaf, group, parenKind, objectKind}
+pub use Rattle.vocabulary.specs.RuleClasses.{Class, name, literal, operator, colon, dot, comma, other, returnWord, functionWord, ifWord, parens, brackets, object, block, rank}
+use Rattle.rule.specs.Trees.{Trees, none, leaf, group, parenKind, objectKind, bracketKind}
 
 -- the class of the reserved word, and of the sign, of a number
 abbrev pub wordClass : ℕ → Class
@@ -25,9 +25,9 @@ elementClass e =
     (cond (eqb (e .kind) signKind) (signClass (e .which))
     literal))
 
--- the class of a group: kinds 7 and 8, and else a block, kind 9
+-- the class of a group: kinds 7, 8 and 10, and else a block, kind 9
 unfoldable pub groupClass : ℕ → Class
-groupClass kind = cond (eqb kind parenKind) parens (cond (eqb kind objectKind) object block)
+groupClass kind = cond (eqb kind parenKind) parens (cond (eqb kind objectKind) object (cond (eqb kind bracketKind) brackets block))
 
 -- a tree before, and whether a line end lies before it
 pub data Before : Type 0 where
@@ -40,18 +40,20 @@ backwards (leaf before e) = tree (elementClass e) (e .newline) ∷ backwards bef
 backwards (group before kind first end newline within) = tree (groupClass kind) newline ∷ backwards before
 
 -- "`{` opens an object when: .. last is `/`, `+` or `=`; last is `:` on an expression level; last is `return` and no line
--- end lies between. Otherwise it opens a block." `newline` says whether a line end lies between last and the brace.
+-- end lies between. Otherwise it opens a block." Document 02, U2: "A `{` after `,` opens an object". `newline` says whether a line end lies between last and the brace.
 abbrev pub objectAfter : Bool → Class → Bool → Bool
 objectAfter expression name newline = false
 objectAfter expression literal newline = false
 objectAfter expression operator newline = true
 objectAfter expression colon newline = expression
 objectAfter expression dot newline = false
+objectAfter expression comma newline = true
 objectAfter expression other newline = false
 objectAfter expression returnWord newline = not newline
 objectAfter expression functionWord newline = false
 objectAfter expression ifWord newline = false
 objectAfter expression parens newline = false
+objectAfter expression brackets newline = false
 objectAfter expression object newline = false
 objectAfter expression block newline = false
 
@@ -70,18 +72,21 @@ endsWith class [] = false
 endsWith class (tree last l ∷ before) = is class last
 
 -- "`/` opens a regular expression when: .. last is a sign or a reserved word; last is `( )` preceded by `if`; last is a
--- block. It divides after a name, number, string, regular expression, object or other `( )`."
+-- block. It divides after a name, number, string, regular expression, object or other `( )`." Document 02, U2: "a `/` after a bracket group
+-- divides"; `,` is a sign
 abbrev pub patternAfter : Class → List Before → Bool
 patternAfter name before = false
 patternAfter literal before = false
 patternAfter operator before = true
 patternAfter colon before = true
 patternAfter dot before = true
+patternAfter comma before = true
 patternAfter other before = true
 patternAfter returnWord before = true
 patternAfter functionWord before = true
 patternAfter ifWord before = true
 patternAfter parens before = endsWith ifWord before
+patternAfter brackets before = false
 patternAfter object before = false
 patternAfter block before = true
 
@@ -100,9 +105,22 @@ excepted expression (three ∷ two ∷ one ∷ []) plain = plain
 excepted expression (tree four k ∷ tree three l ∷ tree two m ∷ tree one newline ∷ before) plain =
     cond (is block four && (is parens three && (is name two && is functionWord one))) (not (opensObject expression before newline)) plain
 
-unfoldable pub opensPattern : Bool → List Before → Bool
-opensPattern expression ts = excepted expression ts (plainly ts)
+-- Document 02, U2: "the function exception covers the unnamed form": the level ends with `function`, `( )`, `{ }`
+abbrev pub unnamedExcepted : Bool → List Before → Bool → Bool
+unnamedExcepted expression [] plain = plain
+unnamedExcepted expression (one ∷ []) plain = plain
+unnamedExcepted expression (two ∷ one ∷ []) plain = plain
+unnamedExcepted expression (tree three k ∷ tree two l ∷ tree one newline ∷ before) plain =
+    cond (is block three && (is parens two && is functionWord one)) (not (opensObject expression before newline)) plain
 
--- Document 02, U1: "A reserved word whose last tree is the sign `.` becomes a name"
-unfoldable pub namesWord : List Before → Bool
-namesWord ts = endsWith dot ts
+unfoldable pub opensPattern : Bool → List Before → Bool
+opensPattern expression ts = excepted expression ts (unnamedExcepted expression ts (plainly ts))
+
+-- Document 02, U2: "In an object brace a reserved word standing first or after `,` is a name, without 7."
+abbrev pub standsAsProperty : List Before → Bool
+standsAsProperty [] = true
+standsAsProperty (tree last l ∷ before) = is comma last
+
+-- Document 02, U1: "A reserved word whose last tree is the sign `.` becomes a name". `inObject` says whether the level is that of an object brace
+unfoldable pub namesWord : Bool → List Before → Bool
+namesWord inObject ts = endsWith dot ts || (inObject && standsAsProperty ts)

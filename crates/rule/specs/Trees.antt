@@ -13,6 +13,10 @@ objectKind = 8
 abbrev pub blockKind : ℕ
 blockKind = 9
 
+-- document 02, U2: "bracket groups (tree kind 10 ..)"
+abbrev pub bracketKind : ℕ
+bracketKind = 10
+
 pub data Trees : Type 0 where
   none : Trees
   -- the trees before, and an element

@@ -2,21 +2,23 @@
 // and 64 times the kind of its group, which is below 32 (0 for the whole text). From 2,048 up there is room for a count, which is
 // 0 so far.
 ghost use mathlib.Core.Path.{_≡_};
-ghost use Prim.Native.Nat.{_/_};
+ghost use Prim.Native.Nat.{_/_, _≤_};
 ghost use mathlib.Core.Bool.{Bool};
 ghost use Rattle.rule.specs.Levels.{isExpression};
-ghost use Rattle.rule.specs.Rule.{wordClass, signClass, elementClass, groupClass};
+ghost use Rattle.rule.specs.Rule.{comma, wordClass, signClass, elementClass, groupClass};
 ghost use Rattle.rule.specs.Machinery.Summary.{summaries};
-ghost use Rattle.rule.specs.Machinery.LevelCodes.{slashByLevel, nameByLevel, statedByLevel, braceByLevel, levelAfterName, levelAfterParens, levelAfterBlock, levelAfter};
+ghost use Rattle.rule.specs.Machinery.LevelCodes.{levelIn, slashByLevel, nameByLevel, statedByLevel, braceByLevel, levelAfterName, levelAfterParens, levelAfterBlock, levelAfter};
 use elements::Element;
 use elements::Stated;
 
-// The kinds of groups, as document 01 numbers those of its tree records.
+// The kinds of groups, as document 01 and request U2 number those of tree records.
 pub const PARENS: u32 = 7;
 
 pub const OBJECT: u32 = 8;
 
 pub const BLOCK: u32 = 9;
+
+pub const BRACKETS: u32 = 10;
 
 // Room for summaries in the code of a level.
 pub const SUMMARIES: u32 = 64;
@@ -55,6 +57,20 @@ const AFTER_BLOCK: u32 = 14;
 
 const AFTER_DOT: u32 = 15;
 
+// Where a property of an object is due: nothing or a comma is last.
+const PROPERTY_DUE: u32 = 16;
+
+// The level where nothing stands yet in a group of a kind.
+pub fn level_in(kind: u32) -> u32
+    requires { ⌜ kind ≤ 10 ⌝ }
+    ensures { λ r. ⌜ r ≡ levelIn kind ⌝ }
+{
+    if kind == OBJECT {
+        return SUMMARIES * OBJECT + PROPERTY_DUE;
+    }
+    SUMMARIES * kind + NOTHING
+}
+
 // Whether a slash opens a regular expression.
 fn slash_opens(level: u32) -> bool
     ensures { λ r. ⌜ r ≡ slashByLevel level ⌝ }
@@ -62,11 +78,11 @@ fn slash_opens(level: u32) -> bool
     OPERAND_FUNCTION_PARENS < level % SUMMARIES
 }
 
-// Whether a reserved word is a name.
+// Whether a reserved word is a name: after a dot, and where a property is due.
 fn names_word(level: u32) -> bool
     ensures { λ r. ⌜ r ≡ nameByLevel level ⌝ }
 {
-    level % SUMMARIES == AFTER_DOT
+    AFTER_DOT <= level % SUMMARIES
 }
 
 // What is stated of the next element of a level.
@@ -87,7 +103,10 @@ fn is_expression(level: u32) -> bool
     if kind == PARENS {
         return true;
     }
-    kind == OBJECT
+    if kind == OBJECT {
+        return true;
+    }
+    kind == BRACKETS
 }
 
 // Whether a brace opens an object, where a line end lies before it or not.
@@ -96,6 +115,9 @@ pub fn brace_opens(level: u32, newline: bool) -> bool
 {
     let summary = level % SUMMARIES;
     if summary == AFTER_OPERATOR {
+        return true;
+    }
+    if summary == PROPERTY_DUE {
         return true;
     }
     if summary == AFTER_RETURN {
@@ -145,6 +167,17 @@ fn after_word(level: u32, which: u32, newline: bool) -> u32
     base + AFTER_OTHER
 }
 
+// The level after a comma: outside an object it is like an operator.
+fn after_comma(level: u32) -> u32
+    ensures { λ r. ⌜ ((newline : Bool) → r ≡ levelAfter level comma newline) ⌝ }
+{
+    let kind = level / SUMMARIES;
+    if kind == OBJECT {
+        return SUMMARIES * OBJECT + PROPERTY_DUE;
+    }
+    SUMMARIES * kind + AFTER_OPERATOR
+}
+
 // The level after a sign.
 fn after_sign(level: u32, which: u32) -> u32
     ensures { λ r. ⌜ ((newline : Bool) → r ≡ levelAfter level (signClass which) newline) ⌝ }
@@ -164,6 +197,9 @@ fn after_sign(level: u32, which: u32) -> u32
     }
     if which == signs::DOT {
         return base + AFTER_DOT;
+    }
+    if which == signs::COMMA {
+        return after_comma(level);
     }
     base + AFTER_OTHER
 }
@@ -199,6 +235,12 @@ fn after_parens(level: u32) -> u32
     if summary == OPERAND_FUNCTION_NAME {
         return base + OPERAND_FUNCTION_PARENS;
     }
+    if summary == STATEMENT_FUNCTION {
+        return base + STATEMENT_FUNCTION_PARENS;
+    }
+    if summary == OPERAND_FUNCTION {
+        return base + OPERAND_FUNCTION_PARENS;
+    }
     base + OPERAND
 }
 
@@ -222,6 +264,9 @@ pub fn after_group(level: u32, kind: u32) -> u32
         return after_parens(level);
     }
     if kind == OBJECT {
+        return SUMMARIES * (level / SUMMARIES) + OPERAND;
+    }
+    if kind == BRACKETS {
         return SUMMARIES * (level / SUMMARIES) + OPERAND;
     }
     after_block(level)

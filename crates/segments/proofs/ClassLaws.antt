@@ -17,7 +17,7 @@ use Rattle.elements.specs.declared.Next.{Next}
 use Rattle.elements.specs.declared.Stated.{Stated}
 use Rattle.elements.proofs.FoundKinds.{found-kind}
 use Rattle.elements.proofs.Spellings.{word-passes, sign-passes}
-use Rattle.rule.specs.Trees.{parenKind, objectKind, blockKind}
+use Rattle.rule.specs.Trees.{parenKind, objectKind, blockKind, bracketKind}
 use Rattle.grammar.specs.Cuts.{isCloser}
 use Rattle.grammar.specs.Tokens.{name, wordName, wordClass, signClass, classOf}
 use Rattle.grammar.proofs.ReadNames.{recordClass}
@@ -104,7 +104,7 @@ pub record GroupTold (kind : ℕ) : Type 0 where
   pub opener-opens : (first : ℕ) (newline : Bool) → isCloser (openerOf kind first newline) ≡ false
   pub closer-closes : (end : ℕ) → isCloser (closerOf kind end) ≡ true
 
-pub group-told : (kind : ℕ) → 7 ≤ kind → kind ≤ 9 → GroupTold kind
+pub group-told : (kind : ℕ) → 7 ≤ kind → kind ≤ 10 → GroupTold kind
 unfolding classOf classBy kindBy longestSign longestOf same
 group-told kind low high =
     or-more GroupTold parenKind
@@ -113,5 +113,7 @@ group-told kind low high =
     (record { opener = λ len b first newline. refl; closer = λ len b end. refl; opens = λ len b. tt; opener-opens = λ first newline. refl; closer-closes = λ end. refl })
     (or-more GroupTold blockKind
     (record { opener = λ len b first newline. refl; closer = λ len b end. refl; opens = λ len b. tt; opener-opens = λ first newline. refl; closer-closes = λ end. refl })
-    (λ h. absurd (omega arith))))
+    (or-more GroupTold bracketKind
+    (record { opener = λ len b first newline. refl; closer = λ len b end. refl; opens = λ len b. tt; opener-opens = λ first newline. refl; closer-closes = λ end. refl })
+    (λ h. absurd (omega arith)))))
     low

@@ -4,16 +4,17 @@ use mathlib.Core.Bool.{Bool, true, false, cond, not, _&&_, _||_}
 use mathlib.Core.List.{List, [], _∷_, _++_, append-assoc}
 use Prim.Native.Nat.{ℕ, zero, suc, _+_, _-_, _*_, _≤_, _<_}
 use native.Mathlib.Omega.{arith}
-use borrow.Author.Tests.{lt-ltb, le-ltb, ltb-true, ltb-false, eqb-true}
+use borrow.Author.Tests.{lt-ltb, le-ltb, ltb-true, ltb-false}
 use lib.Dec.{T, ltb, eqb, ltb→lt}
 use lib.ListN.{length, getD, drop, length-drop}
 use lib.Seq.{getD-take, getD-drop, length-take-le}
 use Rattle.text.proofs.Range.{and-left, and-right}
 use Rattle.elements.specs.Elements.{nameKind, wordKind, numberKind, stringKind, patternKind, signKind}
-use Rattle.rule.specs.Trees.{parenKind, objectKind, blockKind}
+use Rattle.rule.specs.Trees.{parenKind, objectKind, blockKind, bracketKind}
 use Rattle.tables.specs.Records.{treeWidth}
-use Rattle.grammar.specs.Tokens.{Token, token, name, number, string, pattern, divide, plus, assign, colon, semicolon, dot, openParen, openBrace, returnWord, functionWord, ifWord}
+use Rattle.grammar.specs.Tokens.{Token, token, name, number, string, pattern, divide, plus, assign, colon, semicolon, comma, dot, openParen, openBrace, openBracket, returnWord, functionWord, ifWord}
 use Rattle.controls.specs.Machinery.Steps.{isOpener, isEnd}
+use Rattle.controls.proofs.EndLaws.{at-openers}
 use Rattle.segments.specs.Machinery.Segments.{countOf, cellOr, kindAt, placeAt, endAt, sizeAt, looks, wordBy, signBy, spelledBy, kindBy, classBy, classAt, contentOf, Segment, inside, spotAt, closerSpot, tokensBy, tokensAt, FineAt, Fine}
 
 -- a number of a record inside a group is that of a record of the part
@@ -133,16 +134,11 @@ element-known class t =
     opened false t = refl
 
 pub opener-known : (class : ℕ) → T (isOpener class) → (1 ≤ class) × (isOpener class ≡ true)
-opener-known class t = (go (eqb class openParen) (eqb class openBrace) refl refl t, opened (isOpener class) t)
+opener-known class t = (at-openers (λ (k : ℕ). 1 ≤ k) (omega arith) (omega arith) (omega arith) class t, opened (isOpener class) t)
   where
     opened : (b : Bool) → T b → b ≡ true
     opened true t = refl
     opened false t = absurd t
-
-    go : (a b : Bool) → eqb class openParen ≡ a → eqb class openBrace ≡ b → T (a || b) → 1 ≤ class
-    go true b e f t = omega (arith, eqb-true class openParen e)
-    go false true e f t = omega (arith, eqb-true class openBrace f)
-    go false false e f t = absurd t
 
 -- past the last record there is no class
 pub no-class : (text cells : List ℕ) (i : ℕ) → countOf cells ≤ i → classAt text cells i ≡ 0
@@ -173,8 +169,9 @@ sign-unended len b =
     (unended (looks "=" len b) assign _ tt
     (unended (looks ":" len b) colon _ tt
     (unended (looks ";" len b) semicolon _ tt
-    (unended (looks "." len b) dot 0 tt
-    tt)))))
+    (unended (looks "." len b) dot _ tt
+    (unended (looks "," len b) comma 0 tt
+    tt))))))
 
 kind-unended : (kind : ℕ) → T (not (isEnd (kindBy kind)))
 unfolding kindBy
@@ -185,8 +182,9 @@ kind-unended kind =
     (unended (eqb kind patternKind) pattern _ tt
     (unended (eqb kind parenKind) openParen _ tt
     (unended (eqb kind objectKind) openBrace _ tt
-    (unended (eqb kind blockKind) openBrace 0 tt
-    tt))))))
+    (unended (eqb kind blockKind) openBrace _ tt
+    (unended (eqb kind bracketKind) openBracket 0 tt
+    tt)))))))
 
 class-unended : (kind len b : ℕ) → T (not (isEnd (classBy kind len b)))
 unfolding classBy spelledBy

@@ -50,6 +50,9 @@ fn single_class(b: u8) -> u32
     if b == b'/' {
         return classes::DIVIDE;
     }
+    if b == b',' {
+        return classes::COMMA;
+    }
     0
 }
 
@@ -85,6 +88,7 @@ pub fn kind_class(kind: u32) -> u32
         prefix::PARENS => classes::OPEN_PAREN,
         prefix::OBJECT => classes::OPEN_BRACE,
         prefix::BLOCK => classes::OPEN_BRACE,
+        prefix::BRACKETS => classes::OPEN_BRACKET,
         _ => 0,
     }
 }

@@ -1,5 +1,5 @@
 -- Document 01, Elements: "the longest of the 48 signs of ES5.1 section 7.7 is taken. Legal here: `/ + : ; = .` and
--- `( ) { }`." The signs, which is document 01's word for the punctuators of ES5.1, are those of the vocabulary.
+-- `( ) { }`." and, by document 02, U2, `[ ]` and `,`. The signs, which is document 01's word for the punctuators of ES5.1, are those of the vocabulary.
 use Prim.Native.Nat.{ℕ, _+_}
 use mathlib.Core.List.{List, [], _∷_}
 use mathlib.Core.Bool.{Bool, cond, _&&_}

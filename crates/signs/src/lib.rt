@@ -17,9 +17,15 @@ pub const OPEN_PAREN: u32 = 3;
 
 pub const CLOSE_PAREN: u32 = 4;
 
+pub const OPEN_BRACKET: u32 = 5;
+
+pub const CLOSE_BRACKET: u32 = 6;
+
 pub const DOT: u32 = 7;
 
 pub const SEMICOLON: u32 = 8;
+
+pub const COMMA: u32 = 9;
 
 pub const PLUS: u32 = 18;
 
@@ -47,11 +53,11 @@ const SIGNS: [Row; 48] = [
     Row { a: b'}', b: 0, c: 0, d: 0, len: 1, legal: true },
     Row { a: b'(', b: 0, c: 0, d: 0, len: 1, legal: true },
     Row { a: b')', b: 0, c: 0, d: 0, len: 1, legal: true },
-    Row { a: b'[', b: 0, c: 0, d: 0, len: 1, legal: false },
-    Row { a: b']', b: 0, c: 0, d: 0, len: 1, legal: false },
+    Row { a: b'[', b: 0, c: 0, d: 0, len: 1, legal: true },
+    Row { a: b']', b: 0, c: 0, d: 0, len: 1, legal: true },
     Row { a: b'.', b: 0, c: 0, d: 0, len: 1, legal: true },
     Row { a: b';', b: 0, c: 0, d: 0, len: 1, legal: true },
-    Row { a: b',', b: 0, c: 0, d: 0, len: 1, legal: false },
+    Row { a: b',', b: 0, c: 0, d: 0, len: 1, legal: true },
     Row { a: b'<', b: 0, c: 0, d: 0, len: 1, legal: false },
     Row { a: b'>', b: 0, c: 0, d: 0, len: 1, legal: false },
     Row { a: b'<', b: b'=', c: 0, d: 0, len: 2, legal: false },
@@ -148,8 +154,8 @@ fn by_table(text: &[u8], at: usize) -> Longest
     longest_in(SIGNS, text, at)
 }
 
-// The number of the legal sign that the byte `b` is where `next` follows, if no longer sign can stand there: seven of
-// the ten bytes begin no other sign, and three begin one only before `=` or `+`. Else 0, and the table decides.
+// The number of the legal sign that the byte `b` is where `next` follows, if no longer sign can stand there: ten of
+// the thirteen bytes begin no other sign, and three begin one only before `=` or `+`. Else 0, and the table decides.
 fn alone(b: u8, next: u8) -> u32
     ensures { λ r. ⌜ ((r ≡ 0 → ⊥) → (t : List ℕ) → getD t 0 0 ≡ next → longestSign (b ∷ t) ≡ Sign r 1 true) ⌝ }
 {
@@ -161,6 +167,9 @@ fn alone(b: u8, next: u8) -> u32
         b';' => SEMICOLON,
         b'.' => DOT,
         b':' => COLON,
+        b',' => COMMA,
+        b'[' => OPEN_BRACKET,
+        b']' => CLOSE_BRACKET,
         b'/' => { if next == b'=' { 0 } else { SLASH } }
         b'=' => { if next == b'=' { 0 } else { ASSIGN } }
         b'+' => {

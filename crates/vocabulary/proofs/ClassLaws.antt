@@ -5,13 +5,13 @@ use mathlib.Core.List.{[], _∷_}
 use Prim.Native.Nat.{ℕ}
 use lib.Dec.{T, eqb, eqb→eq}
 use lib.ListN.{getD}
-use Rattle.vocabulary.specs.RuleClasses.{Class, name, literal, operator, colon, dot, other, returnWord, functionWord, ifWord, parens, object, block, rank}
+use Rattle.vocabulary.specs.RuleClasses.{Class, name, literal, operator, colon, dot, comma, other, returnWord, functionWord, ifWord, parens, brackets, object, block, rank}
 
 abbrev pub isClass : Class → Class → Bool
 isClass class x = eqb (rank x) (rank class)
 
 classAt : ℕ → Class
-classAt n = getD (name ∷ literal ∷ operator ∷ colon ∷ dot ∷ other ∷ returnWord ∷ functionWord ∷ ifWord ∷ parens ∷ object ∷ block ∷ []) n other
+classAt n = getD (name ∷ literal ∷ operator ∷ colon ∷ dot ∷ comma ∷ other ∷ returnWord ∷ functionWord ∷ ifWord ∷ parens ∷ brackets ∷ object ∷ block ∷ []) n other
 
 at-rank : (x : Class) → classAt (rank x) ≡ x
 unfolding classAt
@@ -20,11 +20,13 @@ at-rank literal = refl
 at-rank operator = refl
 at-rank colon = refl
 at-rank dot = refl
+at-rank comma = refl
 at-rank other = refl
 at-rank returnWord = refl
 at-rank functionWord = refl
 at-rank ifWord = refl
 at-rank parens = refl
+at-rank brackets = refl
 at-rank object = refl
 at-rank block = refl
 

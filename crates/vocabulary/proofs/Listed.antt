@@ -7,7 +7,7 @@ use lib.Dec.{eqb, leb}
 use Prim.Native.Nat.{ℕ}
 use lib.ListN.{length}
 use Rattle.vocabulary.specs.RuleClasses.{Class, rank}
-use Rattle.vocabulary.specs.TokenClasses.{divide, plus, assign, colon, semicolon, dot, openParen, closeParen, openBrace, closeBrace, returnWord, functionWord, ifWord}
+use Rattle.vocabulary.specs.TokenClasses.{divide, plus, assign, colon, semicolon, dot, openParen, closeParen, openBrace, closeBrace, returnWord, functionWord, ifWord, openBracket, closeBracket, comma}
 use Rattle.vocabulary.specs.Vocabulary.{Row, barred, taken, words, signs}
 
 abbrev takenIn : List Row → List String
@@ -26,8 +26,8 @@ signs-number = refl
 pub words-taken : takenIn words ≡ "return" ∷ "function" ∷ "if" ∷ []
 words-taken = refl
 
--- "Legal here: `/ + : ; = .` and `( ) { }`."
-pub signs-taken : takenIn signs ≡ "{" ∷ "}" ∷ "(" ∷ ")" ∷ "." ∷ ";" ∷ "+" ∷ ":" ∷ "=" ∷ "/" ∷ []
+-- "Legal here: `/ + : ; = .` and `( ) { }`."; document 02, U2: "Add `[`, `]` and `,`"
+pub signs-taken : takenIn signs ≡ "{" ∷ "}" ∷ "(" ∷ ")" ∷ "[" ∷ "]" ∷ "." ∷ ";" ∷ "," ∷ "+" ∷ ":" ∷ "=" ∷ "/" ∷ []
 signs-taken = refl
 
 -- the words and signs of a class, and those with a precedence
@@ -50,7 +50,7 @@ tokensIn (taken t rule token precedence ∷ rows) = token ∷ tokensIn rows
 pub words-token : tokensIn words ≡ returnWord ∷ functionWord ∷ ifWord ∷ []
 words-token = refl
 
-pub signs-token : tokensIn signs ≡ openBrace ∷ closeBrace ∷ openParen ∷ closeParen ∷ dot ∷ semicolon ∷ plus ∷ colon ∷ assign ∷ divide ∷ []
+pub signs-token : tokensIn signs ≡ openBrace ∷ closeBrace ∷ openParen ∷ closeParen ∷ openBracket ∷ closeBracket ∷ dot ∷ semicolon ∷ comma ∷ plus ∷ colon ∷ assign ∷ divide ∷ []
 signs-token = refl
 
 -- "last is `/`, `+` or `=`; last is `:` ..", and no word is one of these
@@ -72,6 +72,13 @@ signs-dot = refl
 
 pub words-dot : classedIn Class.dot words ≡ []
 words-dot = refl
+
+-- document 02, U2: "after `,`"
+pub signs-comma : classedIn Class.comma signs ≡ "," ∷ []
+signs-comma = refl
+
+pub words-comma : classedIn Class.comma words ≡ []
+words-comma = refl
 
 -- "last is `return` ..; last is `( )` preceded by `if`", and the `function` of the exception
 pub words-return : classedIn Class.returnWord words ≡ "return" ∷ []

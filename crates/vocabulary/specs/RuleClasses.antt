@@ -12,14 +12,17 @@ pub data Class : Type 0 where
   colon : Class
   -- `.`
   dot : Class
+  -- `,`
+  comma : Class
   -- any other sign or reserved word
   other : Class
   -- the words `return`, `function` and `if`
   returnWord : Class
   functionWord : Class
   ifWord : Class
-  -- `( )`, an object and a block
+  -- `( )`, `[ ]`, an object and a block
   parens : Class
+  brackets : Class
   object : Class
   block : Class
 
@@ -30,10 +33,12 @@ rank literal = 1
 rank operator = 2
 rank colon = 3
 rank dot = 4
-rank other = 5
-rank returnWord = 6
-rank functionWord = 7
-rank ifWord = 8
-rank parens = 9
-rank object = 10
-rank block = 11
+rank comma = 5
+rank other = 6
+rank returnWord = 7
+rank functionWord = 8
+rank ifWord = 9
+rank parens = 10
+rank brackets = 11
+rank object = 12
+rank block = 13

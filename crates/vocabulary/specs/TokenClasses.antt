@@ -1,7 +1,7 @@
 -- Tokens as far as the grammar tells them apart: their classes, by number.
 use Prim.Native.Nat.{ℕ}
 
--- a name, number, string, regular expression, `/`, `+` or `=` has the number of the part that it marks
+-- a number, string, regular expression, `/`, `+` or `=` has the number of the part that it marks, and so has a name that is an operand
 abbrev pub name : ℕ
 name = 1
 
@@ -23,8 +23,8 @@ plus = 11
 abbrev pub assign : ℕ
 assign = 12
 
--- what the others mark has a kind of its own: their numbers, from 128 up, meet no kind of a part. 128 is
--- the end of the text (Machine.antt of `grammar`), and a closer has the number behind its opener's
+-- the others have numbers from 128 up, which meet no kind of a part. 128 is the end of the text (Machine.antt of `grammar`), and a closer has the number
+-- behind its opener's
 abbrev pub colon : ℕ
 colon = 129
 
@@ -58,3 +58,12 @@ ifWord = 138
 -- a reserved word that is taken as a name
 abbrev pub wordName : ℕ
 wordName = 139
+
+abbrev pub openBracket : ℕ
+openBracket = 140
+
+abbrev pub closeBracket : ℕ
+closeBracket = 141
+
+abbrev pub comma : ℕ
+comma = 142

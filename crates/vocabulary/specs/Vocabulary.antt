@@ -7,7 +7,7 @@ use mathlib.Core.List.{List, [], _∷_}
 use lib.ListN.{getD}
 use Rattle.text.specs.Quoted.{bytes}
 use Rattle.vocabulary.specs.RuleClasses.{Class}
-use Rattle.vocabulary.specs.TokenClasses.{divide, plus, assign, colon, semicolon, dot, openParen, closeParen, openBrace, closeBrace, returnWord, functionWord, ifWord}
+use Rattle.vocabulary.specs.TokenClasses.{divide, plus, assign, colon, semicolon, dot, openParen, closeParen, openBrace, closeBrace, returnWord, functionWord, ifWord, openBracket, closeBracket, comma}
 
 -- a reserved word or a sign
 pub data Row : Type 0 where
@@ -33,13 +33,14 @@ words =
     barred "null" ∷ barred "true" ∷ barred "false" ∷
     []
 
--- "the 48 signs of ES5.1 section 7.7 .. Legal here: `/ + : ; = .` and `( ) { }`.", in the order of that section. "Binary: Chains
+-- "the 48 signs of ES5.1 section 7.7 .. Legal here: `/ + : ; = .` and `( ) { }`.", with document 02, U2: "Add `[`, `]` and `,`", in the order of that section. "Binary: Chains
 -- joined by `/` and `+`; `/` binds tighter". A delimiter is no tree by itself, and its class for the rule is never asked
 abbrev pub signs : List Row
 signs =
     taken "{" Class.other openBrace 0 ∷ taken "}" Class.other closeBrace 0 ∷
-    taken "(" Class.other openParen 0 ∷ taken ")" Class.other closeParen 0 ∷ barred "[" ∷ barred "]" ∷
-    taken "." Class.dot dot 0 ∷ taken ";" Class.other semicolon 0 ∷ barred "," ∷ barred "<" ∷ barred ">" ∷ barred "<=" ∷
+    taken "(" Class.other openParen 0 ∷ taken ")" Class.other closeParen 0 ∷
+    taken "[" Class.other openBracket 0 ∷ taken "]" Class.other closeBracket 0 ∷
+    taken "." Class.dot dot 0 ∷ taken ";" Class.other semicolon 0 ∷ taken "," Class.comma comma 0 ∷ barred "<" ∷ barred ">" ∷ barred "<=" ∷
     barred ">=" ∷ barred "==" ∷ barred "!=" ∷ barred "===" ∷ barred "!==" ∷
     taken "+" Class.operator plus 1 ∷ barred "-" ∷ barred "*" ∷ barred "%" ∷ barred "++" ∷ barred "--" ∷
     barred "<<" ∷ barred ">>" ∷ barred ">>>" ∷ barred "&" ∷ barred "|" ∷ barred "^" ∷

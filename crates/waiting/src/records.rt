@@ -5,7 +5,7 @@ ghost use Rattle.tables.specs.Records.{mostTrees, mostSyntax};
 ghost use Rattle.waiting.specs.Machinery.Written.{putRecord};
 use tables::SyntaxRecord;
 
-// Kinds of syntax records, as document 01 numbers them, that no class of tokens has the number of.
+// Kinds of syntax records, as documents 01 and 02 number them, that no class of tokens has the number of.
 pub const OBJECT: u32 = 5;
 
 pub const PARENTHESISED: u32 = 6;
@@ -31,6 +31,10 @@ pub const IF: u32 = 18;
 pub const DECLARATION: u32 = 19;
 
 pub const PROGRAM: u32 = 20;
+
+pub const ARRAY: u32 = 21;
+
+pub const INDEX: u32 = 22;
 
 // Writes the syntax record of a kind behind those so far, if it fits, and answers how many there are with it. Those from
 // `start` on are in it.

@@ -2,7 +2,7 @@
 use borrow.Author.Needs.{needs}
 use mathlib.Core.Path.{_∙_}
 use borrow.Author.Tests.{ne-eqb}
-use Rattle.controls.specs.Machinery.Numbers.{settingBy, endingBy, controlBy, insideBy}
+use Rattle.controls.specs.Machinery.Numbers.{settingBy, itemsBy, endingBy, controlBy, insideBy}
 use Rattle.controls.proofs.inside_of.Statement.{statement}
 use Rattle.controls.proofs.inside_of.Tie as tie
 
@@ -24,33 +24,54 @@ stand-requires-5 c κs = search needs
 stand-requires-6 : tie.Need-stand-requires-6
 stand-requires-6 c κs = search needs
 
+stand-requires-7 : tie.Need-stand-requires-7
+stand-requires-7 c κs = search needs
+
+stand-requires-8 : tie.Need-stand-requires-8
+stand-requires-8 c κs = search needs
+
+stand-requires-9 : tie.Need-stand-requires-9
+stand-requires-9 c κs = search needs
+
 returns : tie.Need-returns
-unfolding controlBy settingBy insideBy
+unfolding itemsBy endingBy settingBy controlBy insideBy
 returns c = rw (c .before .match .keys1) (c .stand .ensures)
 
 returns-2 : tie.Need-returns-2
-unfolding controlBy settingBy insideBy
+unfolding itemsBy endingBy settingBy controlBy insideBy
 returns-2 c = rw (c .before .match .keys2) (c .stand2 .ensures)
 
 returns-3 : tie.Need-returns-3
-unfolding controlBy settingBy insideBy
+unfolding itemsBy endingBy settingBy controlBy insideBy
 returns-3 c = rw (c .before .match .keys3) (c .stand3 .ensures)
 
 returns-4 : tie.Need-returns-4
-unfolding controlBy settingBy insideBy
+unfolding itemsBy endingBy settingBy controlBy insideBy
 returns-4 c = rw (c .before .match .keys4) (c .stand4 .ensures)
 
 returns-5 : tie.Need-returns-5
-unfolding controlBy settingBy insideBy
+unfolding itemsBy endingBy settingBy controlBy insideBy
 returns-5 c = rw (c .before .match .keys5) (c .stand5 .ensures)
 
 returns-6 : tie.Need-returns-6
-unfolding controlBy endingBy insideBy
-returns-6 c =
+unfolding itemsBy endingBy settingBy controlBy insideBy
+returns-6 c = rw (c .before .match .keys6) (c .stand6 .ensures)
+
+returns-7 : tie.Need-returns-7
+unfolding itemsBy endingBy settingBy controlBy insideBy
+returns-7 c = rw (c .before .match .keys7) (c .stand7 .ensures)
+
+returns-8 : tie.Need-returns-8
+unfolding itemsBy endingBy settingBy controlBy insideBy
+returns-8 c = rw (c .before .match .keys8) (c .stand8 .ensures)
+
+returns-9 : tie.Need-returns-9
+unfolding endingBy controlBy insideBy
+returns-9 c =
     let rest = c .before .match .rest in
     let closing = c .before .before .args .closing in
-    c .stand6 .ensures
-    ∙ simp (ne-eqb closing 2 (rest .0 .0 .0 .0 .1), ne-eqb closing 4 (rest .0 .0 .0 .1), ne-eqb closing 5 (rest .0 .0 .1), ne-eqb closing 6 (rest .0 .1), ne-eqb closing 7 (rest .1))
+    c .stand9 .ensures
+    ∙ simp (ne-eqb closing 1 (rest .0 .0 .0 .0 .0 .0 .0 .1), ne-eqb closing 2 (rest .0 .0 .0 .0 .0 .0 .1), ne-eqb closing 4 (rest .0 .0 .0 .0 .0 .1), ne-eqb closing 5 (rest .0 .0 .0 .0 .1), ne-eqb closing 6 (rest .0 .0 .0 .1), ne-eqb closing 7 (rest .0 .0 .1), ne-eqb closing 8 (rest .0 .1), ne-eqb closing 9 (rest .1))
 
 pub inside-of-spec : {M : Type 1} → statement M
 inside-of-spec =
@@ -62,9 +83,15 @@ inside-of-spec =
     stand-requires-4
     stand-requires-5
     stand-requires-6
+    stand-requires-7
+    stand-requires-8
+    stand-requires-9
     returns
     returns-2
     returns-3
     returns-4
     returns-5
-    returns-6)
+    returns-6
+    returns-7
+    returns-8
+    returns-9)

@@ -2,7 +2,7 @@
 use borrow.Author.Needs.{needs}
 use mathlib.Core.Path.{sym, _∙_}
 use Rattle.controls.specs.Machinery.Numbers.{endingBy, controlBy, effectBy, closingBy, insideBy}
-use Rattle.controls.specs.Machinery.Steps.{to-leaf, to-function, past-parens, past-object, means-fail}
+use Rattle.controls.specs.Machinery.Steps.{to-leaf, to-function, past-parens, past-object, past-array, means-fail}
 use Rattle.controls.proofs.StepLaws.{goes, opens-group}
 use Rattle.controls.proofs.RowLaws.{leaf-row, no-operand}
 use Rattle.controls.proofs.operand_row.Statement.{statement}
@@ -39,13 +39,20 @@ stand-requires-4 : tie.Need-stand-requires-4
 stand-requires-4 c κs = search needs
 
 returns-4 : tie.Need-returns-4
-unfolding controlBy effectBy
-returns-4 c = λ from due. rw (c .before .if4 .taken) (goes (c .stand4 .ensures) tt (to-function due))
+unfolding controlBy closingBy insideBy
+returns-4 c = λ from due. rw (c .before .if4 .taken) (opens-group (c .stand4 .ensures) tt (past-array due))
+
+stand-requires-5 : tie.Need-stand-requires-5
+stand-requires-5 c κs = search needs
 
 returns-5 : tie.Need-returns-5
-returns-5 c = λ from due.
-    let a = c .before .before .before .before .before .args in
-    rw (no-operand (a .class) (endingBy (a .ending) (a .setting)) (a .target) (sym (c .before .before .before .before .is-leaf .ensures) ∙ c .before .before .before .if1 .left) (c .before .before .if2 .left) (c .before .if3 .left) (c .if4 .left))
+unfolding controlBy effectBy
+returns-5 c = λ from due. rw (c .before .if5 .taken) (goes (c .stand5 .ensures) tt (to-function due))
+
+returns-6 : tie.Need-returns-6
+returns-6 c = λ from due.
+    let a = c .before .before .before .before .before .before .args in
+    rw (no-operand (a .class) (endingBy (a .ending) (a .setting)) (a .target) (sym (c .before .before .before .before .before .is-leaf .ensures) ∙ c .before .before .before .before .if1 .left) (c .before .before .before .if2 .left) (c .before .before .if3 .left) (c .before .if4 .left) (c .if5 .left))
     means-fail
 
 pub operand-row-spec : {M : Type 1} → statement M
@@ -61,4 +68,6 @@ operand-row-spec =
     returns-3
     stand-requires-4
     returns-4
-    returns-5)
+    stand-requires-5
+    returns-5
+    returns-6)

@@ -5,7 +5,7 @@ use native.Mathlib.Omega.{arith}
 use mathlib.Core.Path.{_≡_}
 use Rattle.grammar.specs.Grammar.{precedence}
 use Rattle.controls.specs.Machinery.Numbers.{endingBy, controlBy, effectBy, closingBy, insideBy}
-use Rattle.controls.specs.Machinery.Steps.{to-dot, to-assign, to-operator, past-call, means-fail}
+use Rattle.controls.specs.Machinery.Steps.{to-dot, to-assign, to-operator, past-call, past-index, means-fail}
 use Rattle.controls.proofs.StepLaws.{goes, opens-group}
 use Rattle.controls.proofs.EndLaws.{only-closers}
 use Rattle.controls.proofs.RowLaws.{operator-next, none-next}
@@ -56,11 +56,27 @@ semicolon-row-requires c κs = search needs
 returns-6 : tie.Need-returns-6
 returns-6 c = rw (c .before .if6 .taken) (c .semicolon-row .ensures (c .before .before .before .before .before .before .before .args .target))
 
+comma-row-requires : tie.Need-comma-row-requires
+comma-row-requires c κs = search needs
+
 returns-7 : tie.Need-returns-7
 returns-7 c =
-    let a = c .before .before .before .before .before .before .args in
-    let none : precedence (a .class) ≡ 0 = omega (arith, c .before .before .precedence .ensures, c .before .if5 .left) in
-    only-closers (none-next (a .class) (endingBy (a .ending) (a .setting)) (a .target) none (c .before .before .before .before .before .if1 .left) (c .before .before .before .before .if2 .left) (c .before .before .before .if3 .left) (c .if6 .left))
+    let a = c .before .before .before .before .before .before .before .before .args in
+    rw (c .before .if7 .taken) (c .comma-row .ensures (a .setting) (a .target))
+
+stand-requires-5 : tie.Need-stand-requires-5
+stand-requires-5 c κs = search needs
+
+returns-8 : tie.Need-returns-8
+unfolding controlBy closingBy insideBy
+returns-8 c = rw (c .before .if8 .taken) (opens-group (c .stand5 .ensures) tt past-index)
+
+returns-9 : tie.Need-returns-9
+returns-9 c =
+    let at = c .before .before .before .before in
+    let a = at .before .before .before .before .args in
+    let none : precedence (a .class) ≡ 0 = omega (arith, at .precedence .ensures, c .before .before .before .if5 .left) in
+    only-closers (none-next (a .class) (endingBy (a .ending) (a .setting)) (a .target) none (at .before .before .before .if1 .left) (at .before .before .if2 .left) (at .before .if3 .left) (c .before .before .if6 .left) (c .before .if7 .left) (c .if8 .left))
 
 pub operator-row-spec : {M : Type 1} → statement M
 operator-row-spec =
@@ -78,4 +94,8 @@ operator-row-spec =
     returns-5
     semicolon-row-requires
     returns-6
-    returns-7)
+    comma-row-requires
+    returns-7
+    stand-requires-5
+    returns-8
+    returns-9)

@@ -1,10 +1,10 @@
 -- `semicolon_row` is the entry of an ending, at `;`.
 use borrow.Author.Needs.{needs}
 use lib.Dec.{eqb}
-use Rattle.controls.specs.Machinery.Numbers.{endingBy, effectBy}
+use Rattle.controls.specs.Machinery.Numbers.{itemsBy, endingBy, effectBy}
 use Rattle.controls.specs.Machinery.Steps.{to-end, to-return-end, means-fail}
 use Rattle.controls.proofs.StepLaws.{goes}
-use Rattle.controls.proofs.RowLaws.{semicolon-group}
+use Rattle.controls.proofs.RowLaws.{semicolon-nowhere}
 use Rattle.controls.proofs.NumberLaws.{group-ending}
 use Rattle.controls.proofs.semicolon_row.Statement.{statement}
 use Rattle.controls.proofs.semicolon_row.Tie as tie
@@ -26,7 +26,7 @@ returns-2 c = λ target. rw (c .before .if2 .taken) (goes (c .behind-statement2 
 returns-3 : tie.Need-returns-3
 returns-3 c = λ target.
     let a = c .before .before .args in
-    rw (group-ending (a .ending) (a .setting) (c .before .if1 .left) (c .if2 .left), semicolon-group (eqb (a .ending) 2)) means-fail
+    rw (group-ending (a .ending) (a .setting) (c .before .if1 .left) (c .if2 .left), semicolon-nowhere (eqb (a .ending) 2) (eqb (a .ending) 3) (itemsBy (a .ending))) means-fail
 
 pub semicolon-row-spec : {M : Type 1} → statement M
 semicolon-row-spec =

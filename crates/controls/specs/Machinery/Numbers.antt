@@ -2,7 +2,7 @@
 use Prim.Native.Nat.{ℕ}
 use mathlib.Core.Bool.{Bool, true, false, cond}
 use lib.Dec.{eqb}
-use Rattle.grammar.specs.Grammar.{body, block}
+use Rattle.grammar.specs.Grammar.{Items, callArguments, arrayElements, objectProperties, body, block}
 use Rattle.grammar.specs.Machinery.Machine.{
   ifNest,
   Setting,
@@ -13,7 +13,7 @@ use Rattle.grammar.specs.Machinery.Machine.{
   takeName,
   takeMember,
   endExpression,
-  endReturn,
+  endValue,
   endBareReturn,
   takeLabel,
   holdWord,
@@ -24,6 +24,8 @@ use Rattle.grammar.specs.Machinery.Machine.{
   toParens,
   toCall,
   toObject,
+  toArray,
+  toIndex,
   toBlock,
   toCondition,
   toParameter,
@@ -33,7 +35,8 @@ use Rattle.grammar.specs.Machinery.Machine.{
   byStatement,
   byReturn,
   byParen,
-  byBrace,
+  byBracket,
+  byItem,
   declared,
   operandIn,
   Control,
@@ -48,7 +51,7 @@ use Rattle.grammar.specs.Machinery.Machine.{
   functionFirst,
   functionNamed,
   parameterPast,
-  objectOpened,
+  itemDue,
   propertyNamed,
   parameterDue,
   parameterNamed,
@@ -56,16 +59,20 @@ use Rattle.grammar.specs.Machinery.Machine.{
 }
 use Rattle.controls.specs.declared.Control as code
 
--- settings of statements, and what ends an expression
+-- settings of statements, lists by what ends their items, and what ends an expression
 unfoldable pub settingBy : ℕ → Setting
 settingBy number = cond (eqb number 0) (among body) (cond (eqb number 1) (among block) (inNest ifNest))
+
+unfoldable pub itemsBy : ℕ → Items
+itemsBy ending = cond (eqb ending 4) callArguments (cond (eqb ending 5) arrayElements objectProperties)
 
 unfoldable pub endingBy : ℕ → ℕ → Ending
 endingBy number setting =
     cond (eqb number 0) (byStatement (settingBy setting))
     (cond (eqb number 1) (byReturn (settingBy setting))
     (cond (eqb number 2) byParen
-    byBrace))
+    (cond (eqb number 3) byBracket
+    (byItem (itemsBy number)))))
 
 -- controls by place, what ends the expression, the setting, and the flag
 unfoldable pub controlBy : ℕ → ℕ → ℕ → Bool → Control
@@ -78,9 +85,9 @@ controlBy place ending setting flag =
     (cond (eqb place 5) (nameFirst (settingBy setting))
     (cond (eqb place 6) ifFirst
     (cond (eqb place 7) (dotLast (endingBy ending setting) flag)
-    (cond (eqb place 8) objectOpened
+    (cond (eqb place 8) (itemDue (itemsBy ending))
     (cond (eqb place 9) propertyNamed
-    (cond (eqb place 10) parameterDue
+    (cond (eqb place 10) (parameterDue flag)
     (cond (eqb place 11) parameterNamed
     (cond (eqb place 12) (functionFirst (operandIn (endingBy ending setting) flag))
     (cond (eqb place 13) (functionNamed (operandIn (endingBy ending setting) flag))
@@ -104,7 +111,7 @@ effectBy number class =
     (cond (eqb number 6) takeName
     (cond (eqb number 7) startReturn
     (cond (eqb number 8) endExpression
-    (cond (eqb number 9) endReturn
+    (cond (eqb number 9) endValue
     (cond (eqb number 10) endBareReturn
     keep)))))))))
 
@@ -118,13 +125,18 @@ closingBy number =
     (cond (eqb number 4) toParameter
     (cond (eqb number 5) toBlock
     (cond (eqb number 6) toDeclaration
-    toFunction))))))
+    (cond (eqb number 7) toFunction
+    (cond (eqb number 8) toArray
+    toIndex))))))))
 
 unfoldable pub insideBy : ℕ → Control
 insideBy number =
-    cond (eqb number 2) objectOpened
-    (cond (eqb number 4) parameterDue
+    cond (eqb number 1) (itemDue callArguments)
+    (cond (eqb number 2) (itemDue objectProperties)
+    (cond (eqb number 4) (parameterDue false)
     (cond (eqb number 5) (statementDue false (among block))
     (cond (eqb number 6) (statementDue false (among body))
     (cond (eqb number 7) (statementDue false (among body))
-    (operandDue byParen true)))))
+    (cond (eqb number 8) (itemDue arrayElements)
+    (cond (eqb number 9) (operandDue byBracket true)
+    (operandDue byParen true))))))))

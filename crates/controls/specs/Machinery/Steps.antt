@@ -3,9 +3,9 @@ use Prim.Native.Nat.{ℕ, _≤_}
 use mathlib.Core.Path.{_≡_}
 use mathlib.Core.Bool.{Bool, true, false, cond, not, _&&_, _||_}
 use lib.Dec.{T, eqb, ltb, leb}
-use Rattle.grammar.specs.Tokens.{pattern, assign, colon, openParen, closeParen, openBrace, closeBrace}
-use Rattle.grammar.specs.Grammar.{Scope, body, precedence}
-use Rattle.grammar.specs.Machinery.Machine.{endOfText, ifNest, Setting, among, inNest, behindStatement, Effect, keep, takeName, takeMember, endExpression, endReturn, endBareReturn, takeLabel, holdWord, startReturn, takeLeaf, takeOperator, Closing, toParens, toCall, toObject, toBlock, toCondition, toParameter, toDeclaration, toFunction, toStatement, noValue, expressionValue, statementsValue, Ending, byStatement, byReturn, byParen, byBrace, Role, declared, operandIn, Control, statementDue, nameFirst, returnFirst, ifFirst, operandDue, operandDone, dotLast, functionFirst, functionNamed, parameterPast, objectOpened, propertyNamed, parameterDue, parameterNamed, Action, fail, goto, push, enter, pop, finish}
+use Rattle.grammar.specs.Tokens.{pattern, assign, colon, openParen, closeParen, openBrace, closeBrace, openBracket, closeBracket}
+use Rattle.grammar.specs.Grammar.{Items, arrayElements, objectProperties, Scope, body, precedence}
+use Rattle.grammar.specs.Machinery.Machine.{endOfText, ifNest, Setting, among, inNest, behindStatement, Effect, keep, takeName, takeMember, endExpression, endValue, endBareReturn, takeLabel, holdWord, startReturn, takeLeaf, takeOperator, Closing, toParens, toCall, toObject, toArray, toIndex, toBlock, toCondition, toParameter, toDeclaration, toFunction, toStatement, noValue, expressionValue, doneValue, listValue, Ending, byStatement, byReturn, byParen, byBracket, byItem, behindComma, Role, declared, operandIn, Control, statementDue, nameFirst, returnFirst, ifFirst, operandDue, operandDone, dotLast, functionFirst, functionNamed, parameterPast, itemDue, propertyNamed, parameterDue, parameterNamed, Action, fail, goto, push, enter, pop, finish}
 use Rattle.controls.specs.Machinery.Numbers.{settingBy, controlOf, effectBy, closingBy, insideBy}
 use Rattle.controls.specs.declared.Control as code
 use Rattle.controls.specs.declared.Step.{Step}
@@ -17,18 +17,20 @@ isLeaf class = cond (eqb class 0) false (leb class pattern)
 
 -- a class that opens a group (the class of its closer is the next number), that ends a level, and that is one record's alone
 abbrev pub isOpener : ℕ → Bool
-isOpener class = eqb class openParen || eqb class openBrace
+isOpener class = eqb class openParen || (eqb class openBrace || eqb class openBracket)
 
 abbrev pub isEnd : ℕ → Bool
-isEnd class = eqb class closeParen || (eqb class closeBrace || eqb class endOfText)
+isEnd class = eqb class closeParen || (eqb class closeBrace || (eqb class closeBracket || eqb class endOfText))
 
 abbrev pub isSingle : ℕ → Bool
 isSingle class = ltb 0 class && (not (isOpener class) && not (isEnd class))
 
--- where an operand may start, what ends its expression, and whether it may be assigned to
+-- where an operand may start, what ends its expression, and whether it may be assigned to; a property's does not start with the item, and
+-- no row takes it there
 pub data Due : Control → Ending → Bool → Type 0 where
   due-operand : {ending : Ending} {target : Bool} → Due (operandDue ending target) ending target
   due-value : {setting : Setting} → Due (returnFirst setting) (byReturn setting) true
+  due-item : {items : Items} → Due (itemDue items) (byItem items) true
   due-statement : {must : Bool} {setting : Setting} → Due (statementDue must setting) (byStatement setting) true
 
 -- the controls between which an effect leads
@@ -48,19 +50,25 @@ pub data Leads : Effect → Control → Control → Type 0 where
   to-operator : {class : ℕ} {ending : Ending} {target : Bool} → 1 ≤ precedence class
       → Leads (takeOperator class) (operandDone ending target) (operandDue ending false)
   to-end : {setting : Setting} {target : Bool} → Leads endExpression (operandDone (byStatement setting) target) (behindStatement setting)
-  to-return-end : {setting : Setting} {target : Bool} → Leads endReturn (operandDone (byReturn setting) target) (behindStatement setting)
+  to-return-end : {setting : Setting} {target : Bool} → Leads endValue (operandDone (byReturn setting) target) (behindStatement setting)
+  to-item-end : {items : Items} {target : Bool} → Leads endValue (operandDone (byItem items) target) (behindComma items)
+  to-hole : Leads keep (itemDue arrayElements) (itemDue arrayElements)
   to-function-name : {role : Role} → Leads keep (functionFirst role) (functionNamed role)
-  to-property : Leads keep objectOpened propertyNamed
-  to-value : Leads keep propertyNamed (operandDue byBrace true)
-  to-parameter : Leads keep parameterDue parameterNamed
+  to-property : Leads keep (itemDue objectProperties) propertyNamed
+  to-value : Leads keep propertyNamed (operandDue (byItem objectProperties) true)
+  to-parameter : {must : Bool} → Leads keep (parameterDue must) parameterNamed
+  to-next-parameter : Leads keep parameterNamed (parameterDue true)
 
 -- and those between which a group stands
 pub data Spans : Closing → Control → Control → Type 0 where
   past-parens : {from : Control} {ending : Ending} {target : Bool} → Due from ending target → Spans toParens from (operandDone ending target)
   past-object : {from : Control} {ending : Ending} {target : Bool} → Due from ending target → Spans toObject from (operandDone ending target)
+  past-array : {from : Control} {ending : Ending} {target : Bool} → Due from ending target → Spans toArray from (operandDone ending target)
+  past-index : {ending : Ending} {target : Bool} → Spans toIndex (operandDone ending target) (operandDone ending target)
   past-call : {ending : Ending} {target : Bool} → Spans toCall (operandDone ending target) (operandDone ending target)
   past-condition : Spans toCondition ifFirst (statementDue true (inNest ifNest))
   past-parameter : {role : Role} → Spans toParameter (functionNamed role) (parameterPast role)
+  past-unnamed : {ending : Ending} {target : Bool} → Spans toParameter (functionFirst (operandIn ending target)) (parameterPast (operandIn ending target))
   past-block : {must : Bool} {setting : Setting} → Spans toBlock (statementDue must setting) (behindStatement setting)
   past-declaration : Spans toDeclaration (parameterPast declared) (statementDue false (among body))
   past-function : {ending : Ending} {target : Bool} → Spans toFunction (parameterPast (operandIn ending target)) (operandDone ending target)
@@ -86,13 +94,16 @@ abbrev pub inGroup : Ending → Bool
 inGroup (byStatement setting) = false
 inGroup (byReturn setting) = false
 inGroup byParen = true
-inGroup byBrace = true
+inGroup byBracket = true
+inGroup (byItem items) = false
 
 -- whether a level ends at a closer, or at the text's end, and with what
 pub data Ends (class : ℕ) : Control → Bool → Action → Type 0 where
-  ends-statements : {scope : Scope} → Ends class (statementDue false (among scope)) true (pop statementsValue)
+  ends-statements : {scope : Scope} → Ends class (statementDue false (among scope)) true (pop doneValue)
   ends-text : class ≡ endOfText → Ends class (statementDue false (among body)) true finish
   ends-expression : {ending : Ending} {target : Bool} → T (inGroup ending) → Ends class (operandDone ending target) true (pop expressionValue)
-  ends-object : Ends class objectOpened true (pop noValue)
+  ends-item : {items : Items} {target : Bool} → Ends class (operandDone (byItem items) target) true (pop listValue)
+  ends-items : {items : Items} → Ends class (itemDue items) true (pop doneValue)
+  ends-no-parameter : Ends class (parameterDue false) true (pop noValue)
   ends-parameter : Ends class parameterNamed true (pop noValue)
   goes-on : {from : Control} → Ends class from false fail

@@ -11,7 +11,7 @@ use Rattle.frames.proofs.AffectLaws.{
   word-affects,
   name-affects,
   return-affects,
-  return-end-affects,
+  value-affects,
   keep-affects,
   may-end,
   may-end-bare,
@@ -106,7 +106,7 @@ same-length-10 : tie.Need-same-length-10
 same-length-10 c = c .before .syntax5 .given
 
 returns-9 : tie.Need-returns-9
-returns-9 c = rw (c .before .before .before .before .before .match .keys9) (return-end-affects (c .before .before .before .before .before .before .before .before .args .class) (c .before .before .before .before .before .before .before .before .args .mark) (c .before .before .completed .ensures))
+returns-9 c = rw (c .before .before .before .before .before .match .keys9) (value-affects (c .before .before .before .before .before .before .before .before .args .class) (c .before .before .before .before .before .before .before .before .args .mark) (c .before .before .completed .ensures))
 
 same-length-11 : tie.Need-same-length-11
 same-length-11 c = refl

@@ -3,7 +3,7 @@ use mathlib.Core.Path.{refl, _∙_}
 use borrow.Author.Needs.{needs}
 use Rattle.grammar.specs.Syntax.{blockSyntax, declarationSyntax}
 use Rattle.frames.proofs.GroupLaws.{
-  closing-function,
+  closing-index,
   parens-close,
   call-closes,
   object-closes,
@@ -12,6 +12,8 @@ use Rattle.frames.proofs.GroupLaws.{
   block-closes,
   declaration-closes,
   function-closes,
+  array-closes,
+  index-closes,
   group-held,
 }
 use Rattle.frames.proofs.close.Statement.{statement}
@@ -43,6 +45,12 @@ completed-requires-2 c κs = group-held declarationSyntax (c .before .before .be
 
 made-requires-6 : tie.Need-made-requires-6
 made-requires-6 c κs = search needs
+
+made-requires-7 : tie.Need-made-requires-7
+made-requires-7 c κs = search needs
+
+made-requires-8 : tie.Need-made-requires-8
+made-requires-8 c κs = search needs
 
 same-length : tie.Need-same-length
 same-length c = c .before .syntax .given
@@ -93,7 +101,22 @@ same-length-9 : tie.Need-same-length-9
 same-length-9 c = c .before .syntax8 .given
 
 returns-8 : tie.Need-returns-8
-returns-8 c = function-closes (c .before .before .before .before .before .before .before .args .mark) (c .before .before .before .before .before .before .before .args .count) (c .before .before .before .before .before .before .before .args .closing) (closing-function (c .before .before .before .before .before .before .before .args .closing) (c .before .before .before .before .match .rest .0 .0 .0 .0 .0 .0 .1) (c .before .before .before .before .match .rest .0 .0 .0 .0 .0 .1) (c .before .before .before .before .match .rest .0 .0 .0 .0 .1) (c .before .before .before .before .match .rest .0 .0 .0 .1) (c .before .before .before .before .match .rest .0 .0 .1) (c .before .before .before .before .match .rest .0 .1) (c .before .before .before .before .match .rest .1)) (c .before .before .made6 .ensures)
+returns-8 c = rw (c .before .before .before .before .match .keys8) (function-closes (c .before .before .before .before .before .before .before .args .mark) (c .before .before .before .before .before .before .before .args .count) (c .before .before .made6 .ensures))
+
+same-length-10 : tie.Need-same-length-10
+same-length-10 c = c .before .syntax9 .given
+
+returns-9 : tie.Need-returns-9
+returns-9 c = rw (c .before .before .before .before .match .keys9) (array-closes (c .before .before .before .before .before .before .before .args .mark) (c .before .before .before .before .before .before .before .args .count) (c .before .before .made7 .ensures))
+
+same-length-11 : tie.Need-same-length-11
+same-length-11 c = c .before .syntax10 .given
+
+returns-10 : tie.Need-returns-10
+returns-10 c =
+    let a = c .before .before .before .before .before .before .before .args in
+    let rest = c .before .before .before .before .match .rest in
+    index-closes (a .mark) (a .count) (a .closing) (closing-index (a .closing) (rest .0 .0 .0 .0 .0 .0 .0 .0 .1) (rest .0 .0 .0 .0 .0 .0 .0 .1) (rest .0 .0 .0 .0 .0 .0 .1) (rest .0 .0 .0 .0 .0 .1) (rest .0 .0 .0 .0 .1) (rest .0 .0 .0 .1) (rest .0 .0 .1) (rest .0 .1) (rest .1)) (c .before .before .made8 .ensures)
 
 pub close-spec : {M : Type 1} → statement M
 close-spec =
@@ -108,6 +131,8 @@ close-spec =
     made-requires-5
     completed-requires-2
     made-requires-6
+    made-requires-7
+    made-requires-8
     same-length
     returns
     same-length-2
@@ -124,4 +149,8 @@ close-spec =
     same-length-8
     returns-7
     same-length-9
-    returns-8)
+    returns-8
+    same-length-10
+    returns-9
+    same-length-11
+    returns-10)

@@ -28,7 +28,7 @@ use Rattle.grammar.specs.Machinery.Machine.{
   functionFirst,
   functionNamed,
   parameterPast,
-  objectOpened,
+  itemDue,
   propertyNamed,
   parameterDue,
   parameterNamed,
@@ -127,9 +127,9 @@ ofParameter (dotLast ending target) = false
 ofParameter (functionFirst role) = false
 ofParameter (functionNamed role) = false
 ofParameter (parameterPast role) = false
-ofParameter objectOpened = false
+ofParameter (itemDue items) = false
 ofParameter propertyNamed = false
-ofParameter parameterDue = true
+ofParameter (parameterDue must) = true
 ofParameter parameterNamed = true
 ofParameter finished = false
 

@@ -24,7 +24,8 @@ use Rattle.grammar.specs.Machinery.Machine.{
   byStatement,
   byReturn,
   byParen,
-  byBrace,
+  byBracket,
+  byItem,
   Control,
   statementDue,
   statementDone,
@@ -37,7 +38,7 @@ use Rattle.grammar.specs.Machinery.Machine.{
   functionFirst,
   functionNamed,
   parameterPast,
-  objectOpened,
+  itemDue,
   propertyNamed,
   parameterDue,
   parameterNamed,
@@ -76,12 +77,13 @@ pub data Below : Syntax → List machine.Open → Syntax → List Pending → Ty
       → Below done (nested (behindStatement (settingBy setting)) toStatement mark (frame around starts [] nil) ∷ nests) base
       (pending nestKind setting done ∷ (starts ++ tail))
 
--- an expression that is the whole inside of a group has nothing else on its level
+-- an expression that is the whole inside of a group has nothing else on its level; before an item of a list stand items alone
 abbrev pub Within : Ending → Syntax → List Pending → List machine.Open → Type 0
 Within (byStatement setting) done starts nests = InSetting setting done nests
 Within (byReturn setting) done starts nests = InSetting setting done nests
 Within byParen done starts nests = (done ≡ nil) × (starts ≡ []) × (nests ≡ [])
-Within byBrace done starts nests = (done ≡ nil) × (starts ≡ []) × (nests ≡ [])
+Within byBracket done starts nests = (done ≡ nil) × (starts ≡ []) × (nests ≡ [])
+Within (byItem items) done starts nests = (starts ≡ []) × (nests ≡ [])
 
 abbrev pub WithinRole : machine.Role → Syntax → List Pending → List Pending → List machine.Open → Type 0
 WithinRole machine.declared done starts waiting nests = (starts ≡ []) × (waiting ≡ []) × (nests ≡ [])
@@ -89,6 +91,10 @@ WithinRole (machine.operandIn ending target) done starts waiting nests = Within 
 
 abbrev pub Nothing : Syntax → List Pending → List Pending → Syntax → List machine.Open → Type 0
 Nothing done starts waiting operand nests = (done ≡ nil) × (starts ≡ []) × (waiting ≡ []) × (operand ≡ nil) × (nests ≡ [])
+
+-- items of a list, and nothing behind them yet
+abbrev pub ItemsAlone : List Pending → List Pending → Syntax → List machine.Open → Type 0
+ItemsAlone starts waiting operand nests = (starts ≡ []) × (waiting ≡ []) × (operand ≡ nil) × (nests ≡ [])
 
 -- the statement that is done in a nest
 pub record OneDone (done : Syntax) : Type 0 where
@@ -115,9 +121,9 @@ Shaped (dotLast ending target) done starts waiting operand nests = Within ending
 Shaped (functionFirst role) done starts waiting operand nests = WithinRole role done starts waiting nests
 Shaped (functionNamed role) done starts waiting operand nests = WithinRole role done starts waiting nests
 Shaped (parameterPast role) done starts waiting operand nests = WithinRole role done starts waiting nests
-Shaped objectOpened done starts waiting operand nests = Nothing done starts waiting operand nests
-Shaped propertyNamed done starts waiting operand nests = Nothing done starts waiting operand nests
-Shaped parameterDue done starts waiting operand nests = Nothing done starts waiting operand nests
+Shaped (itemDue items) done starts waiting operand nests = ItemsAlone starts waiting operand nests
+Shaped propertyNamed done starts waiting operand nests = ItemsAlone starts waiting operand nests
+Shaped (parameterDue must) done starts waiting operand nests = Nothing done starts waiting operand nests
 Shaped parameterNamed done starts waiting operand nests = Nothing done starts waiting operand nests
 Shaped finished done starts waiting operand nests = ⊥
 
@@ -134,9 +140,9 @@ written (dotLast ending target) operand = operand
 written (functionFirst role) operand = nil
 written (functionNamed role) operand = nil
 written (parameterPast role) operand = nil
-written objectOpened operand = operand
+written (itemDue items) operand = operand
 written propertyNamed operand = operand
-written parameterDue operand = operand
+written (parameterDue must) operand = operand
 written parameterNamed operand = operand
 written finished operand = operand
 
@@ -152,9 +158,9 @@ HeldAt (dotLast ending target) operand word = Unit {0}
 HeldAt (functionFirst role) operand word = markOf operand ≡ word
 HeldAt (functionNamed role) operand word = markOf operand ≡ word
 HeldAt (parameterPast role) operand word = markOf operand ≡ word
-HeldAt objectOpened operand word = Unit {0}
+HeldAt (itemDue items) operand word = Unit {0}
 HeldAt propertyNamed operand word = Unit {0}
-HeldAt parameterDue operand word = Unit {0}
+HeldAt (parameterDue must) operand word = Unit {0}
 HeldAt parameterNamed operand word = Unit {0}
 HeldAt finished operand word = Unit {0}
 
@@ -171,9 +177,9 @@ owed (dotLast ending target) = 0
 owed (functionFirst role) = 0
 owed (functionNamed role) = 0
 owed (parameterPast role) = 0
-owed objectOpened = 0
+owed (itemDue items) = 0
 owed propertyNamed = 0
-owed parameterDue = 0
+owed (parameterDue must) = 0
 owed parameterNamed = 0
 owed finished = 0
 

@@ -4,9 +4,9 @@ use Prim.Native.Nat.{ℕ}
 use mathlib.Core.Bool.{Bool, true, false, cond}
 use mathlib.Core.List.{List, [], _∷_}
 use lib.Dec.{eqb, leb}
-use Rattle.grammar.specs.Tokens.{Token, token, Spot, name, number, string, pattern, assign, colon, semicolon, dot, openParen, closeParen, openBrace, closeBrace, returnWord, functionWord, ifWord, wordName}
-use Rattle.grammar.specs.Syntax.{Syntax, nil, node, snoc, objectSyntax, parenthesisedSyntax, functionSyntax, memberSyntax, callSyntax, expressionSyntax, bareReturnSyntax, fullReturnSyntax, blockSyntax, labelSyntax, ifSyntax, declarationSyntax}
-use Rattle.grammar.specs.Grammar.{Scope, body, block, Operator, operator, operators, precedence}
+use Rattle.grammar.specs.Tokens.{Token, token, Spot, name, number, string, pattern, assign, colon, semicolon, dot, openParen, closeParen, openBrace, closeBrace, returnWord, functionWord, ifWord, wordName, openBracket, closeBracket, comma}
+use Rattle.grammar.specs.Syntax.{Syntax, nil, node, snoc, objectSyntax, parenthesisedSyntax, functionSyntax, memberSyntax, callSyntax, expressionSyntax, bareReturnSyntax, fullReturnSyntax, blockSyntax, labelSyntax, ifSyntax, declarationSyntax, arraySyntax, indexSyntax}
+use Rattle.grammar.specs.Grammar.{Items, callArguments, arrayElements, objectProperties, Scope, body, block, Operator, operator, operators, precedence}
 
 -- behind the last token of a text stands its end
 abbrev pub endOfText : ℕ
@@ -16,7 +16,7 @@ endOfText = 128
 pub data Pending : Type 0 where
   pending : ℕ → ℕ → Syntax → Pending
 
--- what a level, or a nest on it, has so far: statements done, beginnings of statements, operators, and the operand
+-- what a level, or a nest on it, has so far: statements done, or items of a list, beginnings of statements, operators, and the operand
 pub data Frame : Type 0 where
   frame : Syntax → List Pending → List Pending → Syntax → Frame
 
@@ -53,9 +53,9 @@ markOf (snoc before last) = 0
 abbrev pub heldWord : ℕ → Syntax
 heldWord mark = node 0 mark nil nil
 
--- what a token does to the frame; a name that a statement starts with is a label or an operand
+-- what a token does to the frame; a name that a statement starts with is a label or an operand; a value that ends is a return's or an item of a list
 pub data Effect : Type 0 where
-  keep takeName takeMember endExpression endReturn endBareReturn takeLabel holdWord startReturn : Effect
+  keep takeName takeMember endExpression endValue endBareReturn takeLabel holdWord startReturn : Effect
   takeLeaf takeOperator : ℕ → Effect
 
 abbrev pub await : ℕ → ℕ → Frame → Frame
@@ -64,8 +64,8 @@ await class mark (frame done starts waiting operand) = frame done starts (pendin
 abbrev pub completeExpression : ℕ → Frame → Frame
 completeExpression mark (frame done starts waiting operand) = completeStatement done starts (node expressionSyntax mark operand nil)
 
-abbrev pub completeReturn : Frame → Frame
-completeReturn (frame done starts waiting operand) = completeStatement done starts operand
+abbrev pub completeValue : Frame → Frame
+completeValue (frame done starts waiting operand) = completeStatement done starts operand
 
 abbrev pub completeBareReturn : Syntax → List Pending → Frame
 completeBareReturn done [] = completeStatement done [] nil
@@ -81,7 +81,7 @@ affect keep mark f = f
 affect takeName mark (frame done starts waiting operand) = frame done starts waiting (node name mark nil nil)
 affect takeMember mark (frame done starts waiting operand) = frame done starts waiting (node memberSyntax mark operand nil)
 affect endExpression mark (frame done starts waiting operand) = completeExpression mark (reduce 0 done starts waiting operand)
-affect endReturn mark (frame done starts waiting operand) = completeReturn (reduce 0 done starts waiting operand)
+affect endValue mark (frame done starts waiting operand) = completeValue (reduce 0 done starts waiting operand)
 affect endBareReturn mark (frame done starts waiting operand) = completeBareReturn done starts
 affect takeLabel mark (frame done starts waiting operand) = frame done (pending labelSyntax (markOf operand) nil ∷ starts) waiting nil
 affect holdWord mark (frame done starts waiting operand) = frame done starts waiting (heldWord mark)
@@ -91,12 +91,14 @@ affect (takeOperator class) mark (frame done starts waiting operand) = await cla
 
 -- what a group or nest that closes does to the frame around it, with its mark and its value
 pub data Closing : Type 0 where
-  toParens toCall toObject toBlock toCondition toParameter toDeclaration toFunction toStatement : Closing
+  toParens toCall toObject toArray toIndex toBlock toCondition toParameter toDeclaration toFunction toStatement : Closing
 
 abbrev pub close : Closing → ℕ → Syntax → Frame → Frame
 close toParens mark value (frame done starts waiting operand) = frame done starts waiting (node parenthesisedSyntax mark value nil)
 close toCall mark value (frame done starts waiting operand) = frame done starts waiting (node callSyntax mark operand value)
 close toObject mark value (frame done starts waiting operand) = frame done starts waiting (node objectSyntax mark value nil)
+close toArray mark value (frame done starts waiting operand) = frame done starts waiting (node arraySyntax mark value nil)
+close toIndex mark value (frame done starts waiting operand) = frame done starts waiting (node indexSyntax mark operand value)
 close toBlock mark value (frame done starts waiting operand) = completeStatement done starts (node blockSyntax mark value nil)
 close toCondition mark value (frame done starts waiting operand) = frame done (pending ifSyntax (markOf operand) value ∷ starts) waiting nil
 close toParameter mark value f = f
@@ -110,14 +112,15 @@ lastOf nil = nil
 lastOf (node kind mark left right) = nil
 lastOf (snoc before last) = last
 
--- the value of a group or nest that closes
+-- the value of a group or nest that closes: none; an expression; what is done, the last item of a list with it or not; a statement
 pub data Value : Type 0 where
-  noValue expressionValue statementsValue statementValue : Value
+  noValue expressionValue doneValue listValue statementValue : Value
 
 abbrev pub valueOf : Value → Frame → Syntax
 valueOf noValue f = nil
 valueOf expressionValue (frame done starts waiting operand) = operandOf (reduce 0 done starts waiting operand)
-valueOf statementsValue f = doneOf f
+valueOf doneValue f = doneOf f
+valueOf listValue (frame done starts waiting operand) = doneOf (completeValue (reduce 0 done starts waiting operand))
 valueOf statementValue f = lastOf (doneOf f)
 
 -- a stretch of a level, from `if` to the end of its statement; its frame holds that `if` alone
@@ -129,25 +132,28 @@ pub data Setting : Type 0 where
   among : Scope → Setting
   inNest : Nest → Setting
 
--- what ends an expression: the `;` of an expression statement or of a return, in a setting; `)`; the `}` of an object
+-- what ends an expression: the `;` of an expression statement or of a return, in a setting; `)`; `]`; or what ends an item of a list
 pub data Ending : Type 0 where
   byStatement byReturn : Setting → Ending
-  byParen byBrace : Ending
+  byParen byBracket : Ending
+  byItem : Items → Ending
 
 -- what a function is: a declaration, or an operand of an expression that may yet be assigned to or not
 pub data Role : Type 0 where
   declared : Role
   operandIn : Ending → Bool → Role
 
--- Where the machine stands. A Boolean of an expression says whether its chain may be assigned to; that of a statement whether
--- one must come.
+-- Where the machine stands. A Boolean of an expression says whether its chain may be assigned to; that of a statement or a parameter
+-- whether one must come.
 pub data Control : Type 0 where
   statementDue : Bool → Setting → Control
   statementDone : Nest → Control
   nameFirst returnFirst : Setting → Control
   operandDue operandDone dotLast : Ending → Bool → Control
   functionFirst functionNamed parameterPast : Role → Control
-  ifFirst objectOpened propertyNamed parameterDue parameterNamed finished : Control
+  itemDue : Items → Control
+  parameterDue : Bool → Control
+  ifFirst propertyNamed parameterNamed finished : Control
 
 -- behind a statement: another may come, or its nest is done
 abbrev pub behindStatement : Setting → Control
@@ -183,12 +189,13 @@ leaves ending target rest =
     ∷ on string (goto (operandDone ending target) (takeLeaf string))
     ∷ on pattern (goto (operandDone ending target) (takeLeaf pattern))
     ∷ on openParen (push (operandDue byParen true) (operandDone ending target) toParens)
+    ∷ on openBracket (push (itemDue arrayElements) (operandDone ending target) toArray)
     ∷ rest
 
 abbrev pub operand : Ending → Bool → List Entry
 operand ending target =
     on name (goto (operandDone ending target) (takeLeaf name))
-    ∷ on openBrace (push objectOpened (operandDone ending target) toObject)
+    ∷ on openBrace (push (itemDue objectProperties) (operandDone ending target) toObject)
     ∷ on functionWord (goto (functionFirst (operandIn ending target)) holdWord)
     ∷ leaves ending target []
 
@@ -196,8 +203,8 @@ operand ending target =
 abbrev pub noStatement : Bool → Setting → List Entry
 noStatement true setting = []
 noStatement false (among body) =
-    on functionWord (goto (functionFirst declared) holdWord) ∷ on closeBrace (pop statementsValue) ∷ on endOfText finish ∷ []
-noStatement false (among block) = on closeBrace (pop statementsValue) ∷ []
+    on functionWord (goto (functionFirst declared) holdWord) ∷ on closeBrace (pop doneValue) ∷ on endOfText finish ∷ []
+noStatement false (among block) = on closeBrace (pop doneValue) ∷ []
 noStatement false (inNest nest) = []
 
 abbrev pub operatorRow : Ending → List Operator → List Entry → List Entry
@@ -205,11 +212,23 @@ operatorRow ending [] rest = rest
 operatorRow ending (operator class precedence ∷ more) rest =
     on class (goto (operandDue ending false) (takeOperator class)) ∷ operatorRow ending more rest
 
-abbrev pub endingEntry : Ending → Entry
-endingEntry (byStatement setting) = on semicolon (goto (behindStatement setting) endExpression)
-endingEntry (byReturn setting) = on semicolon (goto (behindStatement setting) endReturn)
-endingEntry byParen = on closeParen (pop expressionValue)
-endingEntry byBrace = on closeBrace (pop expressionValue)
+-- the class of the closer of a list, and where the machine stands behind a `,` in it
+abbrev pub listCloser : Items → ℕ
+listCloser callArguments = closeParen
+listCloser arrayElements = closeBracket
+listCloser objectProperties = closeBrace
+
+abbrev pub behindComma : Items → Control
+behindComma callArguments = operandDue (byItem callArguments) true
+behindComma arrayElements = itemDue arrayElements
+behindComma objectProperties = itemDue objectProperties
+
+abbrev pub endingRow : Ending → List Entry
+endingRow (byStatement setting) = on semicolon (goto (behindStatement setting) endExpression) ∷ []
+endingRow (byReturn setting) = on semicolon (goto (behindStatement setting) endValue) ∷ []
+endingRow byParen = on closeParen (pop expressionValue) ∷ []
+endingRow byBracket = on closeBracket (pop expressionValue) ∷ []
+endingRow (byItem items) = on comma (goto (behindComma items) endValue) ∷ on (listCloser items) (pop listValue) ∷ []
 
 abbrev pub assignAction : Ending → Bool → Action
 assignAction ending true = goto (operandDue ending true) (takeOperator assign)
@@ -219,10 +238,10 @@ assignAction ending false = fail
 abbrev pub besidesOperators : Ending → Bool → List Entry
 besidesOperators ending target =
     on dot (goto (dotLast ending target) keep)
-    ∷ on openParen (push (operandDue byParen true) (operandDone ending target) toCall)
+    ∷ on openParen (push (itemDue callArguments) (operandDone ending target) toCall)
+    ∷ on openBracket (push (operandDue byBracket true) (operandDone ending target) toIndex)
     ∷ on assign (assignAction ending target)
-    ∷ endingEntry ending
-    ∷ []
+    ∷ endingRow ending
 
 abbrev pub afterOperand : Ending → Bool → List Entry
 afterOperand ending target = operatorRow ending operators (besidesOperators ending target)
@@ -230,6 +249,22 @@ afterOperand ending target = operatorRow ending operators (besidesOperators endi
 abbrev pub afterParameter : Role → Entry
 afterParameter declared = on openBrace (push (statementDue false (among body)) (statementDue false (among body)) toDeclaration)
 afterParameter (operandIn ending target) = on openBrace (push (statementDue false (among body)) (operandDone ending target) toFunction)
+
+-- a function in an expression needs no name
+abbrev pub unnamed : Role → List Entry
+unnamed declared = []
+unnamed (operandIn ending target) = on openParen (push (parameterDue false) (parameterPast (operandIn ending target)) toParameter) ∷ []
+
+-- the items of a list: each takes an item's beginning, or the closer
+abbrev pub itemRow : Items → List Entry
+itemRow callArguments = on closeParen (pop doneValue) ∷ operand (byItem callArguments) true
+itemRow arrayElements = on comma (goto (itemDue arrayElements) keep) ∷ on closeBracket (pop doneValue) ∷ operand (byItem arrayElements) true
+itemRow objectProperties = names (goto propertyNamed keep) (on closeBrace (pop doneValue) ∷ [])
+
+-- what a place that needs no parameter takes besides
+abbrev pub noParameter : Bool → List Entry
+noParameter true = []
+noParameter false = on closeParen (pop noValue) ∷ []
 
 abbrev pub unlessLine : Bool → List Entry → List Entry
 unlessLine true row = []
@@ -250,13 +285,13 @@ row ifFirst newline = on openParen (push (operandDue byParen true) (statementDue
 row (operandDue ending target) newline = operand ending target
 row (operandDone ending target) newline = afterOperand ending target
 row (dotLast ending target) newline = names (goto (operandDone ending target) takeMember) []
-row (functionFirst role) newline = on name (goto (functionNamed role) keep) ∷ []
-row (functionNamed role) newline = on openParen (push parameterDue (parameterPast role) toParameter) ∷ []
+row (functionFirst role) newline = on name (goto (functionNamed role) keep) ∷ unnamed role
+row (functionNamed role) newline = on openParen (push (parameterDue false) (parameterPast role) toParameter) ∷ []
 row (parameterPast role) newline = afterParameter role ∷ []
-row objectOpened newline = on name (goto propertyNamed keep) ∷ on closeBrace (pop noValue) ∷ []
-row propertyNamed newline = on colon (goto (operandDue byBrace true) keep) ∷ []
-row parameterDue newline = on name (goto parameterNamed keep) ∷ []
-row parameterNamed newline = on closeParen (pop noValue) ∷ []
+row (itemDue items) newline = itemRow items
+row propertyNamed newline = on colon (goto (operandDue (byItem objectProperties) true) keep) ∷ []
+row (parameterDue must) newline = on name (goto parameterNamed keep) ∷ noParameter must
+row parameterNamed newline = on comma (goto (parameterDue true) keep) ∷ on closeParen (pop noValue) ∷ []
 row finished newline = []
 
 -- a group or a nest that is open: the control behind it, what it does when it closes, its mark, and the frame around it

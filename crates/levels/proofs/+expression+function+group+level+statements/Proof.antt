@@ -26,7 +26,7 @@ use Rattle.levels.proofs.+expression+function+group+level+statements.Lt
 use Rattle.levels.proofs.statements.Reads as statements
 use Rattle.levels.proofs.statements.Kinds as statements-kinds
 use Rattle.levels.proofs.+expression+function+group+level+statements.Lts-statements as statements-lts
-use Rattle.controls.proofs.ends.Reads as ends-reads
+use Rattle.controls.proofs.ends.ends.Reads as ends-reads
 use Rattle.controls.proofs.inside_of.Reads as inside-of-reads
 use Rattle.controls.proofs.row.Reads as row-reads
 use Rattle.controls.proofs.stand.Reads as stand-reads

@@ -7,17 +7,18 @@ use lib.Dec.{T, eqb}
 use lib.ListN.{length}
 use Rattle.grammar.specs.Tokens.{Token, token}
 use Rattle.grammar.specs.Syntax.{Syntax, nil, size}
-use Rattle.grammar.specs.Grammar.{Scope, body}
+use Rattle.grammar.specs.Grammar.{Items, Scope, body}
 use Rattle.grammar.specs.Machinery.Machine.{
   endOfText,
   frame,
   empty,
   among,
   byParen,
+  byBracket,
   Control,
   statementDue,
   operandDue,
-  objectOpened,
+  itemDue,
   parameterDue,
   Open,
   State,
@@ -70,8 +71,9 @@ pub data Ran (class : ℕ) (p : Segment) (c : Control) (count top : ℕ) (table 
 pub data Begins : Control → Type 0 where
   begins-statements : {scope : Scope} → Begins (statementDue false (among scope))
   begins-expression : Begins (operandDue byParen true)
-  begins-object : Begins objectOpened
-  begins-parameter : Begins parameterDue
+  begins-index : Begins (operandDue byBracket true)
+  begins-items : {items : Items} → Begins (itemDue items)
+  begins-parameter : Begins (parameterDue false)
 
 -- a level may be run: its records are fine, no more records and waiting parts are before it than tree records, and the stack has
 -- room for one part for each tree record

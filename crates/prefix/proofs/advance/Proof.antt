@@ -5,7 +5,7 @@ use Prim.Native.Nat.{_/_}
 use lib.ListN.{length}
 use Rattle.prefix.specs.Reading.{Limits}
 use Rattle.prefix.proofs.StateLaws.{represented-brace}
-use Rattle.prefix.proofs.StepLaws.{step-leaf, step-parens, step-object, step-block, step-close}
+use Rattle.prefix.proofs.StepLaws.{step-leaf, step-parens, step-object, step-block, step-brackets, step-close}
 use borrow.Author.Needs.{needs}
 use Rattle.prefix.proofs.advance.Statement.{statement}
 use Rattle.prefix.proofs.advance.Tie as tie
@@ -62,17 +62,29 @@ returns-4 c =
     let brace = represented-brace tags _ (a .state) levels h _ _ (sym (c .before .before .before .before .before .brace-opens .ensures) ∙ c .before .before .before .before .if4 .left) in
     rw (step-block limits levels (a .e) (c .before .before .before .before .before .before .before .before .before .before .if1 .left) (c .before .before .before .before .before .before .before .before .if2 .left) (c .before .before .before .before .before .before .if3 .taken) brace) (c .before .before .open-group3 .ensures tags levels h m)
 
-close-group-requires : tie.Need-close-group-requires
-close-group-requires c κs = search needs
+open-group-requires-4 : tie.Need-open-group-requires-4
+open-group-requires-4 c κs = search needs
 
 same-length-4 : tie.Need-same-length-4
 same-length-4 c = search needs
 
 returns-5 : tie.Need-returns-5
 returns-5 c =
-    let a = c .before .before .before .before .before .before .before .before .before .args in
+    let a = c .before .before .before .before .before .before .before .before .before .before .before .before .before .args in
     let limits : Limits = record { groups = length (a .stack .now) / 2; room = a .room } in
-    λ tags levels h m. rw (step-close limits levels (a .e) (c .before .before .before .before .before .before .if1 .left) (c .before .before .before .before .if2 .left) (c .before .before .if3 .left)) (c .close-group .ensures (limits .room) tags levels h)
+    λ tags levels h m. rw (step-brackets limits levels (a .e) (c .before .before .before .before .before .before .before .before .before .before .if1 .left) (c .before .before .before .before .before .before .before .before .if2 .left) (c .before .before .before .before .before .before .if3 .left) (c .before .before .before .before .if5 .taken)) (c .before .before .open-group4 .ensures tags levels h m)
+
+close-group-requires : tie.Need-close-group-requires
+close-group-requires c κs = search needs
+
+same-length-5 : tie.Need-same-length-5
+same-length-5 c = search needs
+
+returns-6 : tie.Need-returns-6
+returns-6 c =
+    let a = c .before .before .before .before .before .before .before .before .before .before .before .args in
+    let limits : Limits = record { groups = length (a .stack .now) / 2; room = a .room } in
+    λ tags levels h m. rw (step-close limits levels (a .e) (c .before .before .before .before .before .before .before .before .if1 .left) (c .before .before .before .before .before .before .if2 .left) (c .before .before .before .before .if3 .left) (c .before .before .if5 .left)) (c .close-group .ensures (limits .room) tags levels h)
 
 pub advance-spec : {M : Type 1} → statement M
 advance-spec =
@@ -90,6 +102,9 @@ advance-spec =
     open-group-requires-3
     same-length-3
     returns-4
-    close-group-requires
+    open-group-requires-4
     same-length-4
-    returns-5)
+    returns-5
+    close-group-requires
+    same-length-5
+    returns-6)

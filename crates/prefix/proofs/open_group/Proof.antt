@@ -35,11 +35,8 @@ mul-stack-4 c = search needs
 slice-write-stack-2 : tie.Need-slice-write-stack-2
 slice-write-stack-2 c = simp length-set (omega arith)
 
-mul-t15 : tie.Need-mul-t15
-mul-t15 c = search needs
-
-add-t16 : tie.Need-add-t16
-add-t16 c = search needs
+level-in-requires : tie.Need-level-in-requires
+level-in-requires c κs = search needs
 
 add-t9 : tie.Need-add-t9
 add-t9 c = search needs
@@ -51,7 +48,7 @@ same-length : tie.Need-same-length
 same-length c = search needs
 
 returns-3 : tie.Need-returns-3
-returns-3 c = λ tags levels h m. open-done tags _ (c .before .before .args .state) levels h _ _ _ _ m (c .before .if1 .left) (c .if2 .left) refl
+returns-3 c = λ tags levels h m. open-done tags _ (c .before .before .before .before .args .state) levels h _ _ _ _ _ m (c .level-in .ensures) (c .before .before .if1 .left) (c .before .if2 .left) refl
 
 pub open-group-spec : {M : Type 1} → statement M
 open-group-spec =
@@ -66,8 +63,7 @@ open-group-spec =
     add-stack
     mul-stack-4
     slice-write-stack-2
-    mul-t15
-    add-t16
+    level-in-requires
     add-t9
     add-t13
     same-length

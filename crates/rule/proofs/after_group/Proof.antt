@@ -23,12 +23,23 @@ returns-2 : tie.Need-returns-2
 unfolding levelAfter groupClass
 returns-2 c = λ newline. rw (ne-eqb _ 7 (c .before .if1 .left), eq-eqb _ 8 (c .if2 .taken))
 
-after-block-requires : tie.Need-after-block-requires
-after-block-requires c κs = search needs
+mul-result-2 : tie.Need-mul-result-2
+mul-result-2 c = search needs
+
+add-result-2 : tie.Need-add-result-2
+add-result-2 c = search needs
 
 returns-3 : tie.Need-returns-3
 unfolding levelAfter groupClass
-returns-3 c = λ newline. rw (ne-eqb _ 7 (c .before .before .if1 .left), ne-eqb _ 8 (c .before .if2 .left)) (c .after-block .ensures)
+returns-3 c = λ newline. rw (ne-eqb _ 7 (c .before .before .if1 .left), ne-eqb _ 8 (c .before .if2 .left), eq-eqb _ 10 (c .if3 .taken))
+
+after-block-requires : tie.Need-after-block-requires
+after-block-requires c κs = search needs
+
+returns-4 : tie.Need-returns-4
+unfolding levelAfter groupClass
+returns-4 c =
+    λ newline. rw (ne-eqb _ 7 (c .before .before .before .if1 .left), ne-eqb _ 8 (c .before .before .if2 .left), ne-eqb _ 10 (c .before .if3 .left)) (c .after-block .ensures)
 
 pub after-group-spec : {M : Type 1} → statement M
 after-group-spec =
@@ -39,5 +50,8 @@ after-group-spec =
     mul-result
     add-result
     returns-2
+    mul-result-2
+    add-result-2
+    returns-3
     after-block-requires
-    returns-3)
+    returns-4)

@@ -7,7 +7,10 @@ returns : tie.Need-returns
 returns c = rw (eq-eqb _ 7 (c .if1 .taken))
 
 returns-2 : tie.Need-returns-2
-returns-2 c = rw (ne-eqb _ 7 (c .if1 .left))
+returns-2 c = rw (ne-eqb _ 7 (c .before .if1 .left), eq-eqb _ 8 (c .if2 .taken))
+
+returns-3 : tie.Need-returns-3
+returns-3 c = rw (ne-eqb _ 7 (c .before .if1 .left), ne-eqb _ 8 (c .if2 .left))
 
 pub is-expression-spec : {M : Type 1} → statement M
-is-expression-spec = tie.close (tie.spec returns returns-2)
+is-expression-spec = tie.close (tie.spec returns returns-2 returns-3)

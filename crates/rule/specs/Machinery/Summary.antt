@@ -3,13 +3,14 @@ use Prim.Native.Nat.{ℕ, _+_, _*_}
 use mathlib.Core.Bool.{Bool, true, false, not, cond}
 use mathlib.Core.List.{List, [], _∷_}
 use lib.Dec.{eqb}
-use Rattle.rule.specs.Rule.{Class, name, literal, operator, colon, dot, other, returnWord, functionWord, ifWord, parens, object, block, Before, tree, backwards}
+use Rattle.rule.specs.Rule.{Class, name, literal, operator, colon, dot, comma, other, returnWord, functionWord, ifWord, parens, brackets, object, block, Before, tree, backwards}
+use Rattle.rule.specs.Trees.{objectKind}
 use Rattle.rule.specs.Levels.{Levels, isExpression, kindOf, treesOf}
 
 -- what stands last. `if ( )` is told from other `( )`, and the trees of a function from other trees, with whether a brace in
 -- place of `function` would open an object
 pub data Summary : Type 0 where
-  nothing operand afterOperator afterColon afterDot afterOther afterReturn afterIf afterIfParens afterBlock : Summary
+  nothing operand afterOperator afterColon afterDot afterComma afterOther afterReturn afterIf afterIfParens afterBlock : Summary
   afterFunction afterFunctionName afterFunctionParens : Bool → Summary
 
 -- its answers: what a brace opens, and what a slash does
@@ -19,6 +20,7 @@ braceBy expression operand newline = false
 braceBy expression afterOperator newline = true
 braceBy expression afterColon newline = expression
 braceBy expression afterDot newline = false
+braceBy expression afterComma newline = true
 braceBy expression afterOther newline = false
 braceBy expression afterReturn newline = not newline
 braceBy expression afterIf newline = false
@@ -34,6 +36,7 @@ slashBy operand = false
 slashBy afterOperator = true
 slashBy afterColon = true
 slashBy afterDot = true
+slashBy afterComma = true
 slashBy afterOther = true
 slashBy afterReturn = true
 slashBy afterIf = true
@@ -50,6 +53,7 @@ addName operand = operand
 addName afterOperator = operand
 addName afterColon = operand
 addName afterDot = operand
+addName afterComma = operand
 addName afterOther = operand
 addName afterReturn = operand
 addName afterIf = operand
@@ -65,12 +69,13 @@ addParens operand = operand
 addParens afterOperator = operand
 addParens afterColon = operand
 addParens afterDot = operand
+addParens afterComma = operand
 addParens afterOther = operand
 addParens afterReturn = operand
 addParens afterIf = afterIfParens
 addParens afterIfParens = operand
 addParens afterBlock = operand
-addParens (afterFunction inObject) = operand
+addParens (afterFunction inObject) = afterFunctionParens inObject
 addParens (afterFunctionName inObject) = afterFunctionParens inObject
 addParens (afterFunctionParens inObject) = operand
 
@@ -85,6 +90,7 @@ addBlock operand = afterBlock
 addBlock afterOperator = afterBlock
 addBlock afterColon = afterBlock
 addBlock afterDot = afterBlock
+addBlock afterComma = afterBlock
 addBlock afterOther = afterBlock
 addBlock afterReturn = afterBlock
 addBlock afterIf = afterBlock
@@ -101,11 +107,13 @@ add expression s literal newline = operand
 add expression s operator newline = afterOperator
 add expression s colon newline = afterColon
 add expression s dot newline = afterDot
+add expression s comma newline = afterComma
 add expression s other newline = afterOther
 add expression s returnWord newline = afterReturn
 add expression s functionWord newline = afterFunction (braceBy expression s newline)
 add expression s ifWord newline = afterIf
 add expression s parens newline = addParens s
+add expression s brackets newline = operand
 add expression s object newline = operand
 add expression s block newline = addBlock s
 
@@ -113,25 +121,40 @@ unfoldable pub summary : Bool → List Before → Summary
 summary expression [] = nothing
 summary expression (tree class newline ∷ before) = add expression (summary expression before) class newline
 
--- the number of a summary in it
-abbrev pub code : Summary → ℕ
-code operand = 0
-code (afterFunctionName inObject) = cond inObject 2 1
-code (afterFunctionParens inObject) = cond inObject 4 3
-code (afterFunction inObject) = cond inObject 6 5
-code nothing = 7
-code afterOperator = 8
-code afterColon = 9
-code afterOther = 10
-code afterReturn = 11
-code afterIf = 12
-code afterIfParens = 13
-code afterBlock = 14
-code afterDot = 15
+-- whether a reserved word is a name, in an object brace or not
+abbrev pub nameBy : Bool → Summary → Bool
+nameBy inBrace nothing = inBrace
+nameBy inBrace operand = false
+nameBy inBrace afterOperator = false
+nameBy inBrace afterColon = false
+nameBy inBrace afterDot = true
+nameBy inBrace afterComma = inBrace
+nameBy inBrace afterOther = false
+nameBy inBrace afterReturn = false
+nameBy inBrace afterIf = false
+nameBy inBrace afterIfParens = false
+nameBy inBrace afterBlock = false
+nameBy inBrace (afterFunction inObject) = false
+nameBy inBrace (afterFunctionName inObject) = false
+nameBy inBrace (afterFunctionParens inObject) = false
 
--- whether a reserved word is a name
-abbrev pub nameBy : Summary → Bool
-nameBy s = eqb (code s) (code afterDot)
+-- The number of a summary, in an object brace or not. Where a property is due, first or behind `,`, one number says all; elsewhere `,` is like an
+-- operator. So one comparison tells whether a reserved word is a name.
+abbrev pub code : Bool → Summary → ℕ
+code inBrace operand = 0
+code inBrace (afterFunctionName inObject) = cond inObject 2 1
+code inBrace (afterFunctionParens inObject) = cond inObject 4 3
+code inBrace (afterFunction inObject) = cond inObject 6 5
+code inBrace nothing = cond inBrace 16 7
+code inBrace afterOperator = 8
+code inBrace afterComma = cond inBrace 16 8
+code inBrace afterColon = 9
+code inBrace afterOther = 10
+code inBrace afterReturn = 11
+code inBrace afterIf = 12
+code inBrace afterIfParens = 13
+code inBrace afterBlock = 14
+code inBrace afterDot = 15
 
 -- room for summaries in the code of a level
 abbrev pub summaries : ℕ
@@ -140,7 +163,7 @@ summaries = 64
 -- The code that is kept for a level: its summary below 64; the kind of its group, below 32, times 64; and from 2,048 up
 -- room for a count, which is 0 so far.
 abbrev pub levelFor : ℕ → Summary → ℕ
-levelFor kind s = summaries * kind + code s
+levelFor kind s = summaries * kind + code (eqb kind objectKind) s
 
 -- the code of the innermost level
 unfoldable pub levelCode : Levels → ℕ

@@ -8,9 +8,9 @@ use lib.Dec.{eqb, ltb}
 use lib.ListN.{length, getD, take, drop}
 use Rattle.text.specs.Quoted.{bytes}
 use Rattle.elements.specs.Elements.{nameKind, wordKind, numberKind, stringKind, patternKind, signKind}
-use Rattle.rule.specs.Trees.{parenKind, objectKind, blockKind}
+use Rattle.rule.specs.Trees.{parenKind, objectKind, blockKind, bracketKind}
 use Rattle.tables.specs.Records.{treeWidth, mostTrees}
-use Rattle.grammar.specs.Tokens.{Token, token, Spot, name, number, string, pattern, divide, plus, assign, colon, semicolon, dot, openParen, openBrace, returnWord, functionWord, ifWord}
+use Rattle.grammar.specs.Tokens.{Token, token, Spot, name, number, string, pattern, divide, plus, assign, colon, semicolon, comma, dot, openParen, openBrace, openBracket, returnWord, functionWord, ifWord}
 use Rattle.controls.specs.Machinery.Steps.{isOpener}
 
 -- the number of records among cells
@@ -63,7 +63,8 @@ signBy len b =
     (cond (looks ":" len b) colon
     (cond (looks ";" len b) semicolon
     (cond (looks "." len b) dot
-    0)))))
+    (cond (looks "," len b) comma
+    0))))))
 
 -- of a word or sign, by its kind
 unfoldable pub spelledBy : ℕ → ℕ → ℕ → ℕ
@@ -79,7 +80,8 @@ kindBy kind =
     (cond (eqb kind parenKind) openParen
     (cond (eqb kind objectKind) openBrace
     (cond (eqb kind blockKind) openBrace
-    0))))))
+    (cond (eqb kind bracketKind) openBracket
+    0)))))))
 
 -- the class of a record's token, by its kind, its length and its first byte
 unfoldable pub classBy : ℕ → ℕ → ℕ → ℕ

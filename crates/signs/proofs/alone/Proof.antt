@@ -40,28 +40,40 @@ unfolding longestSign longestOf same
 returns-8 c = λ h t e. rw (c .match .keys7) (longest-single (byte ":") t _ e tt)
 
 returns-9 : tie.Need-returns-9
-returns-9 c = λ h t e. absurd (h refl)
+unfolding longestSign longestOf same
+returns-9 c = λ h t e. rw (c .match .keys8) (longest-single (byte ",") t _ e tt)
 
 returns-10 : tie.Need-returns-10
 unfolding longestSign longestOf same
-returns-10 c = λ h t e. rw (c .before .match .keys8) (longest-single (byte "/") t _ e (c .if1 .left, tt))
+returns-10 c = λ h t e. rw (c .match .keys9) (longest-single (byte "[") t _ e tt)
 
 returns-11 : tie.Need-returns-11
-returns-11 c = λ h t e. absurd (h refl)
+unfolding longestSign longestOf same
+returns-11 c = λ h t e. rw (c .match .keys10) (longest-single (byte "]") t _ e tt)
 
 returns-12 : tie.Need-returns-12
-unfolding longestSign longestOf same
-returns-12 c = λ h t e. rw (c .before .match .keys9) (longest-single (byte "=") t _ e (c .if2 .left, (c .if2 .left, tt)))
+returns-12 c = λ h t e. absurd (h refl)
 
 returns-13 : tie.Need-returns-13
-returns-13 c = λ h t e. absurd (h refl)
+unfolding longestSign longestOf same
+returns-13 c = λ h t e. rw (c .before .match .keys11) (longest-single (byte "/") t _ e (c .if1 .left, tt))
 
 returns-14 : tie.Need-returns-14
-unfolding longestSign longestOf same
-returns-14 c = λ h t e. rw (c .before .before .match .keys10) (longest-single (byte "+") t _ e (c .if4 .left, (c .before .if3 .left, tt)))
+returns-14 c = λ h t e. absurd (h refl)
 
 returns-15 : tie.Need-returns-15
-returns-15 c = λ h t e. absurd (h refl)
+unfolding longestSign longestOf same
+returns-15 c = λ h t e. rw (c .before .match .keys12) (longest-single (byte "=") t _ e (c .if2 .left, (c .if2 .left, tt)))
+
+returns-16 : tie.Need-returns-16
+returns-16 c = λ h t e. absurd (h refl)
+
+returns-17 : tie.Need-returns-17
+unfolding longestSign longestOf same
+returns-17 c = λ h t e. rw (c .before .before .match .keys13) (longest-single (byte "+") t _ e (c .if4 .left, (c .before .if3 .left, tt)))
+
+returns-18 : tie.Need-returns-18
+returns-18 c = λ h t e. absurd (h refl)
 
 pub alone-spec : {M : Type 1} → statement M
 alone-spec =
@@ -81,4 +93,7 @@ alone-spec =
     returns-12
     returns-13
     returns-14
-    returns-15)
+    returns-15
+    returns-16
+    returns-17
+    returns-18)

@@ -31,8 +31,13 @@ returns-6 c = rw (c .if6 .taken)
 
 returns-7 : tie.Need-returns-7
 unfolding signBy
-returns-7 c = simp (ne-eqb _ (byte ";") (c .before .before .before .before .before .if1 .left), ne-eqb _ (byte ".") (c .before .before .before .before .if2 .left), ne-eqb _ (byte "=") (c .before .before .before .if3 .left), ne-eqb _ (byte ":") (c .before .before .if4 .left), ne-eqb _ (byte "+") (c .before .if5 .left), ne-eqb _ (byte "/") (c .if6 .left))
+returns-7 c = rw (c .if7 .taken)
+
+returns-8 : tie.Need-returns-8
+unfolding signBy
+returns-8 c = simp (ne-eqb _ (byte ";") (c .before .before .before .before .before .before .if1 .left), ne-eqb _ (byte ".") (c .before .before .before .before .before .if2 .left), ne-eqb _ (byte "=") (c .before .before .before .before .if3 .left), ne-eqb _ (byte ":") (c .before .before .before .if4 .left), ne-eqb _ (byte "+") (c .before .before .if5 .left), ne-eqb _ (byte "/") (c .before .if6 .left), ne-eqb _ (byte ",") (c .if7 .left))
 
 pub single-class-spec : {M : Type 1} → statement M
 single-class-spec =
-    tie.close (tie.spec returns returns-2 returns-3 returns-4 returns-5 returns-6 returns-7)
+    tie.close
+    (tie.spec returns returns-2 returns-3 returns-4 returns-5 returns-6 returns-7 returns-8)

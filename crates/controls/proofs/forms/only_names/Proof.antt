@@ -2,8 +2,8 @@
 use borrow.Author.Tests.{ne-eqb}
 use Rattle.grammar.specs.Tokens.{name, wordName}
 use Rattle.controls.specs.Machinery.Steps.{means-goto, means-fail}
-use Rattle.controls.proofs.only_names.Statement.{statement}
-use Rattle.controls.proofs.only_names.Tie as tie
+use Rattle.controls.proofs.forms.only_names.Statement.{statement}
+use Rattle.controls.proofs.forms.only_names.Tie as tie
 
 returns : tie.Need-returns
 returns c = λ from leads. rw (c .if1 .taken) (means-goto tt (rw (c .if1 .taken) at leads))

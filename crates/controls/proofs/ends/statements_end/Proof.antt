@@ -11,14 +11,14 @@ use Rattle.controls.specs.Machinery.Numbers.{settingBy}
 use Rattle.controls.specs.Machinery.Steps.{Ends, ends-statements, ends-text, goes-on}
 use Rattle.controls.proofs.EndLaws.{at-closers}
 use Rattle.controls.proofs.NumberLaws.{nest-setting}
-use Rattle.controls.proofs.LevelEnds.{no-closer-at}
-use Rattle.controls.proofs.statements_end.Statement.{statement}
-use Rattle.controls.proofs.statements_end.Tie as tie
+use Rattle.controls.proofs.LevelEnds.{EndsAt, no-closer-at}
+use Rattle.controls.proofs.ends.statements_end.Statement.{statement}
+use Rattle.controls.proofs.ends.statements_end.Tie as tie
 
 returns : tie.Need-returns
 returns c = λ end.
     let a = c .before .args in
-    rw (c .if1 .taken) (no-closer-at (a .closer) end (statementDue true (settingBy (a .setting))) refl refl refl)
+    rw (c .if1 .taken) (no-closer-at (a .closer) end (statementDue true (settingBy (a .setting))) refl refl refl refl)
 
 returns-2 : tie.Need-returns-2
 unfolding settingBy
@@ -32,6 +32,7 @@ returns-3 c = λ end.
     (λ (k : ℕ). (k ≡ closeBrace → ⊥) → Ends k (statementDue false (among body)) (eqb k endOfText) (look k (row (statementDue false (among body)) false)))
     (λ other. goes-on)
     (λ other. absurd (other refl))
+    (λ other. goes-on)
     (λ other. ends-text refl)
     (c .before .before .before .args .closer)
     end
@@ -41,20 +42,14 @@ returns-4 : tie.Need-returns-4
 unfolding settingBy
 returns-4 c = λ end.
     rw (c .before .before .if1 .left, c .if4 .taken)
-    (at-closers
-    (λ (k : ℕ). Ends k (statementDue false (among block)) (eqb k closeBrace) (look k (row (statementDue false (among block)) false)))
-    goes-on
-    ends-statements
-    goes-on
-    (c .before .before .before .args .closer)
-    end)
+    (at-closers (EndsAt (statementDue false (among block)) closeBrace) goes-on ends-statements goes-on goes-on (c .before .before .before .args .closer) end)
 
 returns-5 : tie.Need-returns-5
 returns-5 c = λ end.
     let a = c .before .before .before .args in
     let nest : 1 < a .setting = omega (arith, c .before .if2 .left, c .if4 .left) in
     rw (c .before .before .if1 .left, nest-setting (a .setting) nest)
-    (no-closer-at (a .closer) end (statementDue false (inNest ifNest)) refl refl refl)
+    (no-closer-at (a .closer) end (statementDue false (inNest ifNest)) refl refl refl refl)
 
 pub statements-end-spec : {M : Type 1} → statement M
 statements-end-spec = tie.close (tie.spec returns returns-2 returns-3 returns-4 returns-5)

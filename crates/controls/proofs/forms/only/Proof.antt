@@ -2,8 +2,8 @@
 use mathlib.Core.Path.{refl}
 use borrow.Author.Tests.{eq-eqb, ne-eqb}
 use Rattle.controls.specs.Machinery.Steps.{means-goto, means-fail}
-use Rattle.controls.proofs.only.Statement.{statement}
-use Rattle.controls.proofs.only.Tie as tie
+use Rattle.controls.proofs.forms.only.Statement.{statement}
+use Rattle.controls.proofs.forms.only.Tie as tie
 
 returns : tie.Need-returns
 returns c = λ from single leads. rw (c .if1 .taken, eq-eqb (c .before .args .one) (c .before .args .one) refl) (means-goto single leads)

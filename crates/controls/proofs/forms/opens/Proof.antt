@@ -2,8 +2,8 @@
 use mathlib.Core.Path.{refl}
 use borrow.Author.Tests.{eq-eqb, ne-eqb}
 use Rattle.controls.specs.Machinery.Steps.{means-push, means-fail}
-use Rattle.controls.proofs.opens.Statement.{statement}
-use Rattle.controls.proofs.opens.Tie as tie
+use Rattle.controls.proofs.forms.opens.Statement.{statement}
+use Rattle.controls.proofs.forms.opens.Tie as tie
 
 returns : tie.Need-returns
 returns c = λ from opener spans. rw (c .if1 .taken, eq-eqb (c .before .args .one) (c .before .args .one) refl) (means-push opener spans)

@@ -1,18 +1,13 @@
 -- `form_row` is the machine's rows inside forms, place by place.
 use borrow.Author.Needs.{needs}
-use Prim.Native.Nat.{ℕ}
-use mathlib.Core.Path.{_≡_, refl}
-use mathlib.Core.List.{[], _∷_}
-use Rattle.grammar.specs.Tokens.{name, colon, openParen}
-use Rattle.grammar.specs.Machinery.Machine.{goto, on, look, keep, fail, propertyNamed}
-use Rattle.controls.specs.Machinery.Numbers.{settingBy, endingBy, controlBy, effectBy, closingBy, insideBy}
-use Rattle.controls.specs.Machinery.Steps.{to-member, to-label, to-property, to-value, to-parameter, past-condition}
-use Rattle.controls.proofs.EndLaws.{at-closers, besides-closers, only-closers}
+use Rattle.grammar.specs.Tokens.{colon, openParen}
+use Rattle.controls.specs.Machinery.Numbers.{settingBy, itemsBy, endingBy, controlBy, effectBy, closingBy, insideBy}
+use Rattle.controls.specs.Machinery.Steps.{to-member, to-label, to-value, past-condition}
 use Rattle.controls.proofs.StepLaws.{at-place, names-to, only-to, opens-to}
 use Rattle.controls.proofs.RowLaws.{label-row}
 use Rattle.controls.proofs.NumberLaws.{beyond}
-use Rattle.controls.proofs.form_row.Statement.{statement}
-use Rattle.controls.proofs.form_row.Tie as tie
+use Rattle.controls.proofs.forms.form_row.Statement.{statement}
+use Rattle.controls.proofs.forms.form_row.Tie as tie
 
 stand-requires : tie.Need-stand-requires
 stand-requires c κs = search needs
@@ -32,23 +27,14 @@ stand-requires-3 c κs = search needs
 opens-requires : tie.Need-opens-requires
 opens-requires c κs = search needs
 
+item-row-requires : tie.Need-item-row-requires
+item-row-requires c κs = search needs
+
 stand-requires-4 : tie.Need-stand-requires-4
 stand-requires-4 c κs = search needs
 
 only-requires-2 : tie.Need-only-requires-2
 only-requires-2 c κs = search needs
-
-stand-requires-5 : tie.Need-stand-requires-5
-stand-requires-5 c κs = search needs
-
-only-requires-3 : tie.Need-only-requires-3
-only-requires-3 c κs = search needs
-
-stand-requires-6 : tie.Need-stand-requires-6
-stand-requires-6 c κs = search needs
-
-only-requires-4 : tie.Need-only-requires-4
-only-requires-4 c κs = search needs
 
 function-row-requires : tie.Need-function-row-requires
 function-row-requires c κs = search needs
@@ -73,37 +59,23 @@ returns-3 c = λ h settled newline.
     (opens-to (c .before .stand3 .result) openParen 3 (c .before .stand3 .ensures) (c .opens .ensures) tt past-condition)
 
 returns-4 : tie.Need-returns-4
-unfolding controlBy effectBy
-returns-4 c = λ h settled newline.
-    rw (at-place (c .before .before .before .args .at) 8 (c .before .before .match .keys4))
-    (besides-closers (only-to (c .before .stand4 .result) name 0 (c .before .stand4 .ensures) (c .only2 .ensures) tt to-property)
-    (at-closers (λ (k : ℕ). look k (on name (goto propertyNamed keep) ∷ []) ≡ fail) refl refl refl (c .before .before .before .args .class))
-    (λ none. rw (none .no-brace)))
+unfolding controlBy
+returns-4 c = λ h settled newline. rw (at-place (c .before .before .args .at) 8 (c .before .match .keys4)) (c .item-row .ensures)
 
 returns-5 : tie.Need-returns-5
-unfolding controlBy endingBy effectBy
+unfolding itemsBy endingBy controlBy effectBy
 returns-5 c = λ h settled newline.
     rw (at-place (c .before .before .before .args .at) 9 (c .before .before .match .keys5))
-    (only-to (c .before .stand5 .result) colon 0 (c .before .stand5 .ensures) (c .only3 .ensures) tt to-value)
+    (only-to (c .before .stand4 .result) colon 0 (c .before .stand4 .ensures) (c .only2 .ensures) tt to-value)
 
 returns-6 : tie.Need-returns-6
-unfolding controlBy effectBy
-returns-6 c = λ h settled newline.
-    rw (at-place (c .before .before .before .args .at) 10 (c .before .before .match .keys6))
-    (only-to (c .before .stand6 .result) name 0 (c .before .stand6 .ensures) (c .only4 .ensures) tt to-parameter)
+returns-6 c = λ h settled newline. absurd (settled .no-nest (c .match .keys6))
 
 returns-7 : tie.Need-returns-7
-unfolding controlBy
-returns-7 c = λ h settled newline. rw (at-place (c .before .args .at) 11 (c .match .keys7)) (only-closers (λ none. rw (none .no-paren)))
-
-returns-8 : tie.Need-returns-8
-returns-8 c = λ h settled newline. absurd (settled .no-nest (c .match .keys8))
-
-returns-9 : tie.Need-returns-9
-returns-9 c = λ h settled newline.
+returns-7 c = λ h settled newline.
     let rest = c .before .match .rest in
     let place = c .before .before .args .at .place in
-    c .function-row .ensures (beyond 11 place (beyond 10 place (beyond 9 place (beyond 8 place (beyond 7 place (beyond 6 place (beyond 5 place (beyond 4 place h (rest .1)) (rest .0 .0 .0 .0 .0 .0 .1)) (rest .0 .0 .0 .0 .0 .1)) (rest .0 .0 .0 .0 .0 .0 .0 .1)) (rest .0 .0 .0 .0 .1)) (rest .0 .0 .0 .1)) (rest .0 .0 .1)) (rest .0 .1)) newline
+    c .function-row .ensures (beyond 9 place (beyond 8 place (beyond 7 place (beyond 6 place (beyond 5 place (beyond 4 place h (rest .1)) (rest .0 .0 .0 .0 .1)) (rest .0 .0 .0 .1)) (rest .0 .0 .0 .0 .0 .1)) (rest .0 .0 .1)) (rest .0 .1)) newline
 
 pub form-row-spec : {M : Type 1} → statement M
 form-row-spec =
@@ -115,12 +87,9 @@ form-row-spec =
     only-requires
     stand-requires-3
     opens-requires
+    item-row-requires
     stand-requires-4
     only-requires-2
-    stand-requires-5
-    only-requires-3
-    stand-requires-6
-    only-requires-4
     function-row-requires
     returns
     returns-2
@@ -128,6 +97,4 @@ form-row-spec =
     returns-4
     returns-5
     returns-6
-    returns-7
-    returns-8
-    returns-9)
+    returns-7)

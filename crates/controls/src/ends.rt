@@ -1,0 +1,88 @@
+// Where a level may end: the rows of the machine's table at a closer, or at the text's end.
+ghost use mathlib.Core.Bool.{Bool, false};
+ghost use mathlib.Core.Path.{_≡_};
+ghost use lib.Dec.{T};
+ghost use Rattle.grammar.specs.Machinery.Machine.{statementDue, operandDone, parameterDue, look, listCloser, row};
+ghost use Rattle.controls.specs.Machinery.Numbers.{settingBy, itemsBy, endingBy, controlOf};
+ghost use Rattle.controls.specs.Machinery.Steps.{isEnd, Settled, Ends};
+use crate::BLOCK;
+use crate::BODY;
+use crate::BY_ARGUMENT;
+use crate::BY_BRACKET;
+use crate::BY_ELEMENT;
+use crate::BY_PAREN;
+use crate::Control;
+use crate::ITEM_DUE;
+use crate::OPERAND_DONE;
+use crate::PARAMETER_DUE;
+use crate::PARAMETER_NAMED;
+use crate::STATEMENT_DUE;
+use crate::classes;
+
+// Whether a level may end at a closer, or at the text's end, where the machine stands.
+pub fn ends(at: Control, closer: u32) -> bool
+    ensures { λ r. ⌜ (Settled at closer → T (isEnd closer) → Ends closer (controlOf at) r (look closer (row (controlOf at) false))) ⌝ }
+{
+    let place = at.place;
+    match place {
+        STATEMENT_DUE => statements_end(at.setting, at.flag, closer),
+        OPERAND_DONE => expression_ends(at.ending, at.setting, closer),
+        ITEM_DUE => closer == list_closer(at.ending),
+        PARAMETER_DUE => parameters_end(at.flag, closer),
+        PARAMETER_NAMED => closer == classes::CLOSE_PAREN,
+        _ => false,
+    }
+}
+
+fn statements_end(setting: u32, must: bool, closer: u32) -> bool
+    ensures { λ r. ⌜ (T (isEnd closer) → Ends closer (statementDue must (settingBy setting)) r (look closer (row (statementDue must (settingBy setting)) false))) ⌝ }
+{
+    if must {
+        return false;
+    }
+    if setting == BODY {
+        return closer == classes::CLOSE_BRACE || closer == classes::END_OF_TEXT;
+    }
+    if setting == BLOCK {
+        return closer == classes::CLOSE_BRACE;
+    }
+    false
+}
+
+// The closer of a list.
+fn list_closer(ending: u32) -> u32
+    ensures { λ r. ⌜ r ≡ listCloser (itemsBy ending) ⌝ }
+{
+    if ending == BY_ARGUMENT {
+        return classes::CLOSE_PAREN;
+    }
+    if ending == BY_ELEMENT {
+        return classes::CLOSE_BRACKET;
+    }
+    classes::CLOSE_BRACE
+}
+
+// No parameter needs to come.
+fn parameters_end(must: bool, closer: u32) -> bool
+    ensures { λ r. ⌜ (T (isEnd closer) → Ends closer (parameterDue must) r (look closer (row (parameterDue must) false))) ⌝ }
+{
+    if must {
+        return false;
+    }
+    closer == classes::CLOSE_PAREN
+}
+
+fn expression_ends(ending: u32, setting: u32, closer: u32) -> bool
+    ensures { λ r. ⌜ ((target : Bool) → T (isEnd closer) → Ends closer (operandDone (endingBy ending setting) target) r (look closer (row (operandDone (endingBy ending setting) target) false))) ⌝ }
+{
+    if ending == BY_PAREN {
+        return closer == classes::CLOSE_PAREN;
+    }
+    if ending == BY_BRACKET {
+        return closer == classes::CLOSE_BRACKET;
+    }
+    if BY_ARGUMENT <= ending {
+        return closer == list_closer(ending);
+    }
+    false
+}
