@@ -8,23 +8,17 @@ mod elements;
 #[path = "../tests/compare/texts.rs"]
 #[allow(dead_code)]
 mod texts;
+#[allow(dead_code)]
+mod library;
 
+use library::parse;
 use std::process::ExitCode;
 use std::thread;
-
-extern "C" {
-    fn buldrekso_parse(text: *const u8, text_len: usize, trees: *mut u32, trees_len: usize, syntax: *mut u32, syntax_len: usize) -> u64;
-}
 
 const MOST_STACK: usize = 192 * 1024;
 const NO_PROGRAM: u64 = 13;
 const PAINTED: usize = 16 * 1024 * 1024;
 const PAINT: u64 = 0x5ac3_96f0_1e2d_7b48;
-
-fn parse(text: &[u8], trees: &mut [u32], syntax: &mut [u32]) -> u64 {
-    // The call asks nothing of its caller; the slices say what it may touch.
-    unsafe { buldrekso_parse(text.as_ptr(), text.len(), trees.as_mut_ptr(), trees.len(), syntax.as_mut_ptr(), syntax.len()) }
-}
 
 /// Paints the unused stack, parses, and finds how much of the paint is gone.
 #[inline(never)]

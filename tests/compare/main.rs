@@ -1,10 +1,13 @@
-//! Compares the static library's calls with an implementation of document 01 of its own, cell by cell, over many texts.
+//! Compares the static library's calls, and the yardstick's reading, with an implementation of document 01 of its own, cell by cell, over many
+//! texts.
 
 mod elements;
 mod grammar;
 mod reading;
 mod syntax;
 mod texts;
+#[path = "../../docs/src/reader.rs"]
+mod yardstick;
 
 use elements::{element, gap, slash_met, Element, Fault};
 use grammar::{Grammar, Verdict};
@@ -104,14 +107,18 @@ impl Comparison {
         self.calls += 1;
         let expected = reading(text, lent / 5);
         let before = self.garbage(lent);
-        let mut cells = before.clone();
-        // The call asks nothing of its caller; the slices say what it may touch.
-        let got = unsafe { buldrekso_read(text.as_ptr(), text.len(), cells.as_mut_ptr(), lent) };
         let written = expected.as_ref().ok().map(|reading| reading.trees.concat());
         let answer = packed(expected.map(|reading| reading.trees.len()));
         let right = after(&before, lent, written.as_deref());
-        if got != answer || cells != right {
-            self.difference(text, &format!("read with {lent} cells: expected {}, got {}; {}", shown(answer), shown(got), first(&right, &cells)));
+        // The call asks nothing of its caller; the slices say what it may touch.
+        let library = |text: &[u8], cells: &mut [u32]| unsafe { buldrekso_read(text.as_ptr(), text.len(), cells.as_mut_ptr(), cells.len()) };
+        let readers: [(&str, fn(&[u8], &mut [u32]) -> u64); 2] = [("read", library), ("the yardstick", yardstick::read)];
+        for (name, read) in readers {
+            let mut cells = before.clone();
+            let got = read(text, &mut cells[..lent]);
+            if got != answer || cells != right {
+                self.difference(text, &format!("{name} with {lent} cells: expected {}, got {}; {}", shown(answer), shown(got), first(&right, &cells)));
+            }
         }
     }
 

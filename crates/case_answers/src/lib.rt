@@ -1,4 +1,2 @@
-// How the test programs print answers, and what tables and outputs hold besides.
-pub mod outputs;
+// How the test programs print answers.
 pub mod print;
-pub mod table;

@@ -5,10 +5,10 @@
 // holds besides is told as of a table. Of a parsed text: `syntax,` and the count, then the three numbers of each record; what the
 // tables hold besides is told of both together.
 ghost use Prim.Native.Nat.{_<_};
-use crate::outputs;
-use crate::table;
-use crate::table::SYNTAX_WIDTH;
-use crate::table::TREE_WIDTH;
+use case_tables::outputs;
+use case_tables::table;
+use case_tables::table::SYNTAX_WIDTH;
+use case_tables::table::TREE_WIDTH;
 use libc::STDOUT_FILENO;
 
 const SHOWN: usize = 24;

@@ -5,6 +5,7 @@ ghost use Prim.Native.Nat.{_+_, _<_};
 ghost use lib.Dec.{eqb};
 ghost use lib.ListN.{length, drop, getD};
 ghost use Rattle.text.specs.Bytes.{digit};
+ghost use Rattle.text.specs.Machinery.Codes.{byteCodes};
 ghost use Rattle.elements.specs.Elements.{literalElement, named, delimiter, signOrStray, elementFrom, Finds};
 ghost use Rattle.signs.specs.Signs.{longestSign};
 use answers::faults::BAD_NUMBER;
@@ -74,11 +75,11 @@ fn literal_element(kind: u32, first: usize, newline: bool, cut: Literal) -> Next
 }
 
 // The name or reserved word at `first`, where reserved words are names or not.
-fn name_element(text: &[u8], first: usize, newline: bool, as_name: bool) -> Next
-    requires { ⌜ first < length (now text) ⌝ }
+fn name_element(codes: &[u8], text: &[u8], first: usize, newline: bool, as_name: bool) -> Next
+    requires { ⌜ (now codes ≡ byteCodes) × (first < length (now text)) ⌝ }
     ensures { λ r. ⌜ r ≡ named «as_name» newline first (drop first (now (text .entry))) ⌝ }
 {
-    let end = text::name_end(text, first);
+    let end = runs::name_end(codes, text, first);
     let which = words::word_number(&text[first..end]);
     if which == 0 {
         return Next::Found(Element {
@@ -172,14 +173,14 @@ fn byte_after(text: &[u8], at: usize) -> u8
 }
 
 // Whether the byte `b` at a place is a dot directly before a digit.
-fn is_dot_before_digit(text: &[u8], b: u8, at: usize) -> bool
-    requires { ⌜ at < length (now text) ⌝ }
+fn is_dot_before_digit(codes: &[u8], text: &[u8], b: u8, at: usize) -> bool
+    requires { ⌜ (now codes ≡ byteCodes) × (at < length (now text)) ⌝ }
     ensures { λ r. ⌜ r ≡ (eqb b 46 && digit (getD (now (text .entry)) (at + 1) 0)) ⌝ }
 {
     if b != b'.' {
         return false;
     }
-    text::is_digit(byte_after(text, at))
+    text::code(codes, byte_after(text, at)) == text::DIGIT
 }
 
 // Whether the byte `b` is a slash that opens a regular expression.
@@ -193,25 +194,32 @@ fn is_pattern_slash(b: u8, pattern: bool) -> bool
 }
 
 // The element at `first`, where no blank, line end or comment starts.
-fn element_from(text: &[u8], first: usize, newline: bool, stated: Stated) -> Next
+fn element_from(codes: &[u8], text: &[u8], first: usize, newline: bool, stated: Stated) -> Next
+    requires { ⌜ now codes ≡ byteCodes ⌝ }
     ensures { λ r. ⌜ r ≡ elementFrom stated newline first (drop first (now (text .entry))) ⌝ }
 {
     if text.len() <= first {
         return Next::End;
     }
     let b = text[first];
-    if text::is_letter(b) {
-        return name_element(text, first, newline, stated.name);
+    let code = text::code(codes, b);
+    if code == text::LETTER {
+        return name_element(codes, text, first, newline, stated.name);
     }
-    if text::is_digit(b) {
-        return literal_element(NUMBER, first, newline, numbers::number_at(text, first));
+    if code == text::DIGIT {
+        return literal_element(
+            NUMBER,
+            first,
+            newline,
+            numbers::number_at(codes, text, first),
+        );
     }
     if strings::is_quote(b) {
         return literal_element(
             STRING,
             first,
             newline,
-            strings::string_rest(text, b, first, first + 1),
+            strings::string_rest(codes, text, b, first, first + 1),
         );
     }
     if is_pattern_slash(b, stated.pattern) {
@@ -219,21 +227,30 @@ fn element_from(text: &[u8], first: usize, newline: bool, stated: Stated) -> Nex
             PATTERN,
             first,
             newline,
-            patterns::pattern_rest(text, first, first + 1),
+            patterns::pattern_rest(codes, text, first, first + 1),
         );
     }
-    if is_dot_before_digit(text, b, first) {
+    if is_dot_before_digit(codes, text, b, first) {
         return Next::Fault(BAD_NUMBER, first);
     }
     sign_element(text, first, newline)
+}
+
+// The next element of a text from a place on, under stated answers, by a table of codes that is lent.
+pub fn element_by(codes: &[u8], text: &[u8], place: usize, stated: Stated) -> Next
+    requires { ⌜ now codes ≡ byteCodes ⌝ }
+    ensures { λ r. ⌜ Finds (now (text .entry)) place stated r ⌝ }
+{
+    match gaps::gap_from(codes, text, place) {
+        Gap::Ends(first, newline) => element_from(codes, text, first, newline, stated),
+        Gap::Fault(number, at) => Next::Fault(number, at),
+    }
 }
 
 // The next element of a text from a place on, under stated answers. A place at or past the text's end has none.
 pub fn element_at(text: &[u8], place: usize, stated: Stated) -> Next
     ensures { λ r. ⌜ Finds (now (text .entry)) place stated r ⌝ }
 {
-    match gaps::gap_from(text, place) {
-        Gap::Ends(first, newline) => element_from(text, first, newline, stated),
-        Gap::Fault(number, at) => Next::Fault(number, at),
-    }
+    let codes = text::codes();
+    element_by(&codes, text, place, stated)
 }

@@ -2,9 +2,9 @@
 // then `end` or `fault,number,place`, with a blank between.
 use elements::Element;
 use libc::STDOUT_FILENO;
-use printing::numbers::put_number;
-use printing::writing::put_byte;
-use printing::writing::put_bytes;
+use writing::numbers::put_number;
+use writing::put_byte;
+use writing::put_bytes;
 
 // A line is gathered and then written at once. An element of a text of at most 256 bytes takes at most 15 bytes, or three
 // more than its own, so every line has room.

@@ -5,8 +5,8 @@ use Prim.Native.Nat.{ℕ, _<_, _^_}
 use native.Mathlib.Omega.{arith}
 use Rattle.answers.specs.Answers.{valueOf}
 use Rattle.prefix.specs.Reading.{Reading, accepted, refused}
-use Rattle.reader.specs.Read.{readingFor, answerOf}
-use Rattle.reader.proofs.Theorems.{refused-place, accepted-count}
+use Rattle.reading.specs.Read.{readingFor, answerOf}
+use Rattle.reading.proofs.Theorems.{refused-place, accepted-count}
 use Rattle.parsing.specs.Parse.{parsingFor}
 use Rattle.parsing.proofs.Bounds.{value-small}
 use Rattle.respacer.specs.Respace.{respacingFor}

@@ -9,9 +9,9 @@ use lib.Dec.{eqb, ltb}
 use lib.ListN.{length, getD, drop, drop-of-length-le, List·getD-eq-default}
 use Rattle.text.specs.Quoted.{byte}
 use Rattle.text.specs.Bytes.{blank, lineEnd, illegal}
-use Rattle.text.specs.Machinery.Inside.{insideOf}
+use Rattle.text.specs.Machinery.Codes.{turning, codeOf}
 use Rattle.text.proofs.Lists.{drop-at}
-use Rattle.text.proofs.Laws.{inside-passed, inside-newline, inside-illegal}
+use Rattle.text.proofs.CodeLaws.{code-passed, code-line-end, code-illegal, code-apart}
 use Rattle.answers.specs.Faults.{stray, openComment}
 use Rattle.gaps.specs.Gaps.{gap, afterSlash, inLine, inBlock}
 use Rattle.gaps.specs.Machinery.Comments.{resumed, NotBefore}
@@ -58,6 +58,18 @@ module _ (s : List ℕ) (i : ℕ) (newline : Bool) where
       unfolding gap
       gap-other e = rw (drop-at s i h) (rw (f, g, ne-eqb _ _ e, gap))
 
+    pub gap-space : getD s i 0 ≡ byte " " → gap i newline (drop i s) ≡ gap (i + 1) newline (drop (i + 1) s)
+    unfolding blank
+    gap-space e = gap-blank (rw e refl)
+
+    pub gap-over-slash : byte "/" < getD s i 0 → gap i newline (drop i s) ≡ Gap.Ends i newline
+    unfolding blank lineEnd
+    gap-over-slash k =
+        gap-other
+        (rw (ne-eqb (getD s i 0) 0x09 (omega arith), ne-eqb (getD s i 0) 0x0B (omega arith), ne-eqb (getD s i 0) 0x0C (omega arith), ne-eqb (getD s i 0) 0x20 (omega arith)))
+        (rw (ne-eqb (getD s i 0) 0x0A (omega arith), ne-eqb (getD s i 0) 0x0D (omega arith)))
+        (omega arith)
+
     -- at a slash
     module _ (e : getD s i 0 ≡ byte "/") where
       gap-slash : gap i newline (drop i s) ≡ afterSlash i newline (drop (i + 1) s)
@@ -87,20 +99,20 @@ module _ (s : List ℕ) (i : ℕ) (newline : Bool) where
         slash-alone d n = gap-slash ∙ rw (next, ne-eqb _ _ d, ne-eqb _ _ n)
 
     -- in a `//`
-    pub line-ends : insideOf (getD s i 0) ≡ 1 → inLine i newline (drop i s) ≡ gap i newline (drop i s)
+    pub line-ends : codeOf (getD s i 0) ≡ 1 → inLine i newline (drop i s) ≡ gap i newline (drop i s)
     unfolding inLine
-    line-ends k = rw (drop-at s i h) (rw (not-blank (getD s i 0) (inside-newline (getD s i 0) k), inside-newline (getD s i 0) k, gap))
+    line-ends k = rw (drop-at s i h) (rw (not-blank (getD s i 0) (code-line-end (getD s i 0) k), code-line-end (getD s i 0) k, gap))
 
-    pub newline-stray : insideOf (getD s i 0) ≡ 2 → inLine i newline (drop i s) ≡ Gap.Fault stray i
+    pub newline-stray : codeOf (getD s i 0) ≡ 0 → inLine i newline (drop i s) ≡ Gap.Fault stray i
     unfolding inLine
     newline-stray k =
-        let f = inside-illegal (getD s i 0) k in
+        let f = code-illegal (getD s i 0) k in
         rw (drop-at s i h) (rw (f .0, f .1, inLine))
 
-    pub newline-more : (insideOf (getD s i 0) ≡ 1 → ⊥) → (insideOf (getD s i 0) ≡ 2 → ⊥) → inLine i newline (drop i s) ≡ inLine (i + 1) newline (drop (i + 1) s)
+    pub newline-more : 1 < codeOf (getD s i 0) → inLine i newline (drop i s) ≡ inLine (i + 1) newline (drop (i + 1) s)
     unfolding inLine
-    newline-more l g =
-        let f = inside-passed (getD s i 0) l g in
+    newline-more k =
+        let f = code-passed (getD s i 0) k in
         rw (drop-at s i h) (rw (f .0, f .1, inLine))
 
 -- In a `/*`. A `*` before the place matters only where a slash stands there, so that the loop needs no memory of it: it looks
@@ -120,21 +132,21 @@ module _ (slash : ℕ) (s : List ℕ) (i : ℕ) (newline : Bool) where
       go false e = rw (drop-of-length-le s (ltb-false i (length s) e))
 
   module _ (h : i < length s) where
-    pub block-stray : insideOf (getD s i 0) ≡ 2 → inBlock slash i newline false (drop i s) ≡ Gap.Fault stray i
+    pub block-stray : codeOf (getD s i 0) ≡ 0 → inBlock slash i newline false (drop i s) ≡ Gap.Fault stray i
     unfolding inBlock
     block-stray k =
-        let f = inside-illegal (getD s i 0) k in
+        let f = code-illegal (getD s i 0) k in
         rw (drop-at s i h) (rw (f .0, f .1, inBlock))
 
-    pub block-line-end : insideOf (getD s i 0) ≡ 1 → inBlock slash i newline false (drop i s) ≡ inBlock slash (i + 1) true false (drop (i + 1) s)
+    pub block-line-end : codeOf (getD s i 0) ≡ 1 → inBlock slash i newline false (drop i s) ≡ inBlock slash (i + 1) true false (drop (i + 1) s)
     unfolding inBlock
-    block-line-end k = rw (drop-at s i h) (rw (inside-newline (getD s i 0) k, inBlock))
+    block-line-end k = rw (drop-at s i h) (rw (code-line-end (getD s i 0) k, inBlock))
 
-    module _ (l : insideOf (getD s i 0) ≡ 1 → ⊥) (g : insideOf (getD s i 0) ≡ 2 → ⊥) where
+    module _ (k : 1 < codeOf (getD s i 0)) where
       passed : inBlock slash i newline false (drop i s) ≡ inBlock slash (i + 1) newline (eqb (getD s i 0) (byte "*")) (drop (i + 1) s)
       unfolding inBlock
       passed =
-          let f = inside-passed (getD s i 0) l g in
+          let f = code-passed (getD s i 0) k in
           rw (drop-at s i h) (rw (f .0, f .1, inBlock))
 
       pub block-more : (getD s i 0 ≡ byte "*" → ⊥) → inBlock slash i newline false (drop i s) ≡ inBlock slash (i + 1) newline false (drop (i + 1) s)
@@ -144,10 +156,15 @@ module _ (slash : ℕ) (s : List ℕ) (i : ℕ) (newline : Bool) where
         starred : inBlock slash i newline false (drop i s) ≡ inBlock slash (i + 1) newline true (drop (i + 1) s)
         starred = rw (eq-eqb _ _ e) at passed
 
+    -- a byte that does not turn
+    pub block-quiet : 2 < codeOf (getD s i 0) → inBlock slash i newline false (drop i s) ≡ inBlock slash (i + 1) newline false (drop (i + 1) s)
+    unfolding turning
+    block-quiet q = block-more (omega arith) (code-apart (getD s i 0) (byte "*") q refl)
+
 -- a `*` at a place, and what follows it
-module _ (slash : ℕ) (s : List ℕ) (i : ℕ) (newline : Bool) (h : i < length s) (l : insideOf (getD s i 0) ≡ 1 → ⊥) (g : insideOf (getD s i 0) ≡ 2 → ⊥) (e : getD s i 0 ≡ byte "*") where
+module _ (slash : ℕ) (s : List ℕ) (i : ℕ) (newline : Bool) (h : i < length s) (k : 1 < codeOf (getD s i 0)) (e : getD s i 0 ≡ byte "*") where
   pub block-star : (getD s (i + 1) 0 ≡ byte "/" → ⊥) → inBlock slash i newline false (drop i s) ≡ inBlock slash (i + 1) newline false (drop (i + 1) s)
-  block-star n = starred slash s i newline h l g e ∙ star-forgotten slash s (i + 1) newline n
+  block-star n = starred slash s i newline h k e ∙ star-forgotten slash s (i + 1) newline n
 
   pub block-star-last : i + 1 ≡ length s → inBlock slash i newline false (drop i s) ≡ inBlock slash (i + 1) newline false (drop (i + 1) s)
   block-star-last last =
@@ -158,7 +175,7 @@ module _ (slash : ℕ) (s : List ℕ) (i : ℕ) (newline : Bool) (h : i < length
   unfolding inBlock lineEnd illegal blank
   block-close n d =
       let next : i + 1 + 1 ≡ i + 2 = omega arith in
-      rw next at (starred slash s i newline h l g e ∙ closed (i + 1) n d)
+      rw next at (starred slash s i newline h k e ∙ closed (i + 1) n d)
     where
       closed : (j : ℕ) → j < length s → getD s j 0 ≡ byte "/" → inBlock slash j newline true (drop j s) ≡ gap (j + 1) newline (drop (j + 1) s)
       closed j m q = rw (drop-at s j m) (rw q)

@@ -3,6 +3,7 @@ ghost use mathlib.Core.Path.{_≡_};
 ghost use mathlib.Core.Bool.{Bool, true, false};
 ghost use Prim.Native.Nat.{_+_, _<_};
 ghost use lib.ListN.{length, drop, getD};
+ghost use Rattle.text.specs.Machinery.Codes.{byteCodes};
 ghost use Rattle.gaps.specs.Gaps.{gap, inLine, inBlock};
 ghost use Rattle.gaps.specs.Machinery.Comments.{resumed, NotBefore};
 use answers::faults::OPEN_COMMENT;
@@ -22,41 +23,46 @@ pub enum Comment {
 }
 
 // The `//` that starts at `slash`: it ends before its line end.
-fn line_comment(text: &[u8], slash: usize) -> Comment
-    requires { ⌜ slash + 1 < length (now text) ⌝ }
+fn line_comment(codes: &[u8], text: &[u8], slash: usize) -> Comment
+    requires { ⌜ (now codes ≡ byteCodes) × (slash + 1 < length (now text)) ⌝ }
     ensures { λ r. ⌜ ((newline : Bool) → inLine (slash + 2) newline (drop (slash + 2) (now (text .entry))) ≡ resumed (now (text .entry)) slash newline r) × NotBefore (slash + 2) r ⌝ }
 {
     let mut i = slash + 2;
     while i < text.len() {
         let b = text[i];
-        let k = text::inside(b);
-        if k == 1 {
+        let code = text::code(codes, b);
+        if text::LINE_END < code {
+            i += 1;
+            continue;
+        }
+        if code == text::LINE_END {
             return Comment::Ends(i, false);
         }
-        if k == 2 {
-            return Comment::Fault(STRAY, i);
-        }
-        i += 1;
+        return Comment::Fault(STRAY, i);
     }
     Comment::Ends(i, false)
 }
 
 // The `/*` that starts at `slash`.
-fn block_comment(text: &[u8], slash: usize) -> Comment
-    requires { ⌜ slash + 1 < length (now text) ⌝ }
+fn block_comment(codes: &[u8], text: &[u8], slash: usize) -> Comment
+    requires { ⌜ (now codes ≡ byteCodes) × (slash + 1 < length (now text)) ⌝ }
     ensures { λ r. ⌜ ((newline : Bool) → inBlock slash (slash + 2) newline false (drop (slash + 2) (now (text .entry))) ≡ resumed (now (text .entry)) slash newline r) × NotBefore (slash + 2) r ⌝ }
 {
     let mut lined = false;
     let mut i = slash + 2;
     while i < text.len() {
         let b = text[i];
-        let k = text::inside(b);
-        if k == 1 {
+        let code = text::code(codes, b);
+        if text::TURNING < code {
+            i += 1;
+            continue;
+        }
+        if code == text::LINE_END {
             lined = true;
             i += 1;
             continue;
         }
-        if k == 2 {
+        if code == text::ILLEGAL {
             return Comment::Fault(STRAY, i);
         }
         if b != b'*' {
@@ -77,8 +83,8 @@ fn block_comment(text: &[u8], slash: usize) -> Comment
 }
 
 // The comment at a slash, if one starts there.
-fn comment_at(text: &[u8], slash: usize) -> Comment
-    requires { ⌜ (slash < length (now text)) × (getD (now text) slash 0 ≡ 47) ⌝ }
+fn comment_at(codes: &[u8], text: &[u8], slash: usize) -> Comment
+    requires { ⌜ (now codes ≡ byteCodes) × (slash < length (now text)) × (getD (now text) slash 0 ≡ 47) ⌝ }
     ensures { λ r. ⌜ ((newline : Bool) → gap slash newline (drop slash (now (text .entry))) ≡ resumed (now (text .entry)) slash newline r) × NotBefore (slash + 1) r ⌝ }
 {
     if slash + 1 == text.len() {
@@ -86,27 +92,37 @@ fn comment_at(text: &[u8], slash: usize) -> Comment
     }
     let b = text[slash + 1];
     if b == b'/' {
-        return line_comment(text, slash);
+        return line_comment(codes, text, slash);
     }
     if b == b'*' {
-        return block_comment(text, slash);
+        return block_comment(codes, text, slash);
     }
     Comment::Absent
 }
 
 // The gap from a place on.
-pub fn gap_from(text: &[u8], from: usize) -> Gap
+pub fn gap_from(codes: &[u8], text: &[u8], from: usize) -> Gap
+    requires { ⌜ now codes ≡ byteCodes ⌝ }
     ensures { λ r. ⌜ r ≡ gap from false (drop from (now (text .entry))) ⌝ }
 {
     let mut newline = false;
     let mut i = from;
     while i < text.len() {
         let b = text[i];
-        if text::is_blank(b) {
+        // The bytes that are met most are told without the table.
+        if b == b' ' {
             i += 1;
             continue;
         }
-        if text::is_line_end(b) {
+        if b'/' < b {
+            return Gap::Ends(i, newline);
+        }
+        let code = text::code(codes, b);
+        if code == text::BLANK {
+            i += 1;
+            continue;
+        }
+        if code == text::LINE_END {
             newline = true;
             i += 1;
             continue;
@@ -114,7 +130,7 @@ pub fn gap_from(text: &[u8], from: usize) -> Gap
         if b != b'/' {
             return Gap::Ends(i, newline);
         }
-        let comment = comment_at(text, i);
+        let comment = comment_at(codes, text, i);
         match comment {
             Comment::Absent => {
                 return Gap::Ends(i, newline);

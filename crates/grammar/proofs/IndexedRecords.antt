@@ -16,7 +16,7 @@ use Rattle.elements.specs.declared.Element.{Element}
 use Rattle.rule.specs.Trees.{Trees, none, leaf, group, count, parenKind, bracketKind}
 use Rattle.tables.specs.Records.{treeWidth, treeRecord}
 use Rattle.storing.specs.Records.{records}
-use Rattle.reader.proofs.Formed.{Formed}
+use Rattle.reading.proofs.Formed.{Formed}
 use Rattle.grammar.specs.Cuts.{isCloser}
 use Rattle.grammar.specs.Tokens.{Token, tokenOf, tokensFrom}
 use Rattle.grammar.specs.Derivations.{countTrees}

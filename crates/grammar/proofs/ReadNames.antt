@@ -55,7 +55,7 @@ use Rattle.grammar.specs.Machinery.Machine.{
   start,
 }
 use Rattle.grammar.proofs.LevelSummary.{summaryOf, name-summary}
-use Rattle.grammar.proofs.Related.{namesWord, word-named}
+use Rattle.grammar.proofs.Related.{mayName, word-named}
 use Rattle.grammar.proofs.InStep.{InStep, stopped, in-step, start-in-step}
 use Rattle.grammar.proofs.Kept.{Outcome, went-on, too-deep, too-many, kept}
 use Rattle.grammar.proofs.SoFar.{elementsSoFar, step-elements}
@@ -70,7 +70,7 @@ abbrev pub recordToken : Token → Token
 recordToken (token class spot) = token (recordClass class) spot
 
 -- behind a dot and where a property is due the machine takes both alike; elsewhere a reserved word is no name
-names-alike : (control : Control) (spot : Spot) (f : Frame) (around : List Open) → T (namesWord control)
+names-alike : (control : Control) (spot : Spot) (f : Frame) (around : List Open) → T (mayName control)
     → consume (live control f around) (token name spot) ≡ consume (live control f around) (token wordName spot)
 names-alike (statementDue true setting) spot f around t = absurd t
 names-alike (statementDue false setting) spot f around t = absurd t

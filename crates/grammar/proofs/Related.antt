@@ -216,8 +216,8 @@ on-kind control kind s r = and-left (isIn (kinds control) kind) (isLast control 
 abbrev dueFirst : Control → Bool
 dueFirst control = (isLast control nothing || isLast control afterComma) && isIn (kinds control) objectKind
 
-abbrev pub namesWord : Control → Bool
-namesWord control = isLast control afterDot || dueFirst control
+abbrev pub mayName : Control → Bool
+mayName control = isLast control afterDot || dueFirst control
 
 left-of : (a b : Bool) → T a → T (a || b)
 left-of true b t = tt
@@ -236,12 +236,12 @@ module _ (control : Control) (kind : ℕ) where
       (rw same at (and-left (isIn (kinds control) kind) (isLast control s) r), and-right (isIn (kinds control) kind) (isLast control s) r)
 
   property-due : (s : Summary) → T (related control kind s) → eqb kind objectKind ≡ true → (T (isLast control s) → T (isLast control nothing || isLast control afterComma))
-      → T (namesWord control)
+      → T (mayName control)
   property-due s r q last =
       let t = in-object s r q in
       right-of (isLast control afterDot) (dueFirst control) (rw (holds (isLast control nothing || isLast control afterComma) (last (t .1))) (t .0))
 
-  pub word-named : (s : Summary) → T (related control kind s) → nameBy (eqb kind objectKind) s ≡ true → T (namesWord control)
+  pub word-named : (s : Summary) → T (related control kind s) → nameBy (eqb kind objectKind) s ≡ true → T (mayName control)
   unfolding related
   word-named nothing r n = property-due nothing r n (left-of (isLast control nothing) (isLast control afterComma))
   word-named afterComma r n = property-due afterComma r n (right-of (isLast control nothing) (isLast control afterComma))

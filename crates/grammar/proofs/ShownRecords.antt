@@ -9,7 +9,7 @@ use Rattle.elements.specs.declared.Element.{Element}
 use Rattle.rule.specs.Trees.{Trees, none, leaf, group, count, objectKind, blockKind}
 use Rattle.tables.specs.Records.{treeRecord}
 use Rattle.storing.specs.Records.{records}
-use Rattle.reader.proofs.Formed.{Formed}
+use Rattle.reading.proofs.Formed.{Formed}
 use Rattle.grammar.specs.TreeElements.{openerOf, closerOf, elementsOf}
 use Rattle.grammar.specs.Shown.{shownIn, patternOf, wordOf, braceOf}
 use Rattle.grammar.proofs.Answers.{among}

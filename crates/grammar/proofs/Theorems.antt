@@ -13,10 +13,10 @@ use Rattle.prefix.specs.Reading.{Limits, Reading, accepted, reading}
 use Rattle.prefix.proofs.LimitLaws.{accepted-unlimited}
 use Rattle.tables.specs.Records.{treeWidth}
 use Rattle.storing.specs.Records.{records}
-use Rattle.reader.specs.Read.{readLimits, readingFor, tableAfter}
-use Rattle.reader.proofs.Formed.{Formed, reading-formed}
-use Rattle.reader.proofs.LengthFirst.{first-accepted}
-use Rattle.reader.proofs.Theorems.{count-of-records}
+use Rattle.reading.specs.Read.{readLimits, readingFor, tableAfter}
+use Rattle.reading.proofs.Formed.{Formed, reading-formed}
+use Rattle.reading.proofs.LengthFirst.{first-accepted}
+use Rattle.reading.proofs.Theorems.{count-of-records}
 use Rattle.grammar.specs.Cuts.{CutsInto}
 use Rattle.grammar.specs.Tokens.{Token, tokenOf, tokens}
 use Rattle.grammar.specs.Grammar.{Program}

@@ -11,7 +11,7 @@ use Rattle.signs.specs.Signs.{longestSign, longestOf}
 use Rattle.elements.specs.Elements.{parenCloser, braceCloser, bracketCloser}
 use Rattle.elements.specs.declared.Element.{Element}
 use Rattle.rule.specs.Trees.{Trees, none, leaf, group, count, deepest, parenKind, bracketKind}
-use Rattle.reader.proofs.Formed.{Formed}
+use Rattle.reading.proofs.Formed.{Formed}
 use Rattle.grammar.specs.Cuts.{isCloser}
 use Rattle.grammar.specs.Derivations.{countTrees, openAfter, deepestFrom}
 use Rattle.grammar.specs.TreeElements.{openerOf, closerOf, elementsOf}

@@ -53,7 +53,7 @@ use Rattle.controls.specs.Machinery.Numbers.{controlOf}
 use Rattle.controls.specs.Machinery.Steps.{isOpener, isEnd, isSingle, Settled, Ends, ends-statements, ends-text, ends-expression, ends-item, ends-items, ends-no-parameter, ends-parameter}
 use Rattle.controls.specs.declared.Control as code
 use Rattle.controls.proofs.EndLaws.{at-openers}
-use Rattle.waiting.specs.Machinery.Written.{putSyntax}
+use Rattle.records.specs.Machinery.Written.{putSyntax}
 use Rattle.waiting.specs.Machinery.Waiting.{width, bare}
 use Rattle.waiting.specs.declared.Level.{Level}
 use Rattle.frames.specs.Machinery.Stands.{Shaped, written, HeldAt, owed, Stands, no-operators, no-beginnings, below-none}

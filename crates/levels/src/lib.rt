@@ -40,18 +40,18 @@ fn level(
         let class = segments::class_at(text, trees, at);
         let newline = segments::newline_at(trees, at);
         let s = frames::ready(control, class, l, waiting, syntax);
-        let step = controls::row(s.control, class, newline);
+        let step = rows::row(s.control, class, newline);
         match step {
             Step::Fail => {
                 return Parsed::Bad(segments::place_at(trees, close, at));
             }
             Step::Goto(next, effect) => {
-                l = frames::affect(effect, class, base + at, s.level, waiting, syntax);
+                l = effects::affect(effect, class, base + at, s.level, waiting, syntax);
                 control = next;
                 at = at + 1;
             }
             Step::Enter(next, setting) => {
-                l = frames::entered(s.level, setting, base + at, waiting, syntax);
+                l = effects::entered(s.level, setting, base + at, waiting, syntax);
                 control = next;
                 at = at + 1;
             }
@@ -73,7 +73,7 @@ fn level(
                         return Parsed::Bad(place);
                     }
                     Parsed::Done(n) => {
-                        l = frames::close(closing, base + at, n, s.level, waiting, syntax);
+                        l = groups::close(closing, base + at, n, s.level, waiting, syntax);
                         control = behind;
                         at = at + segments::size_at(trees, at);
                     }

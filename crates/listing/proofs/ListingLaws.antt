@@ -12,18 +12,14 @@ use Rattle.text.specs.Quoted.{bytes}
 use Rattle.answers.specs.declared.Answer.{Answer}
 use Rattle.rule.specs.Trees.{count}
 use Rattle.prefix.specs.Reading.{Reading, accepted, refused}
-use Rattle.tables.specs.Records.{treeWidth, mostTrees, syntaxWidth, mostSyntax}
+use Rattle.tables.specs.Records.{treeWidth, mostTrees}
 use Rattle.storing.specs.Records.{records}
-use Rattle.reader.specs.Read.{longText, mostBytes, readingFor, answerOf, tableAfter}
+use Rattle.reading.specs.Read.{longText, mostBytes, readingFor, answerOf, tableAfter}
 use Rattle.storing.proofs.CellLaws.{records-length}
-use Rattle.grammar.specs.Syntax.{size, syntaxRecords}
-use Rattle.parsing.specs.Parse.{Parsing, program, denied, parsingFor, treesAfter, syntaxAfter}
-use Rattle.parser.proofs.WrittenCells.{syntax-length}
-use Rattle.respacer.specs.Respace.{wholeReading}
-use Rattle.printing.specs.Printed.{listed, refusal, answered, FitsTable, listingRoom}
-use Rattle.printing.proofs.WritingLaws.{all-written}
+use Rattle.printing.specs.Printed.{listed, answered, FitsTable, listingRoom}
+use Rattle.writing.proofs.WritingLaws.{all-written}
 use Rattle.printing.proofs.PrintedLaws.{listed-front, Said}
-use Rattle.listing.specs.Listing.{printedTrees, mostListed, mostListedTrees, shortReading, wholeTrees, printedSyntax, wholeSyntax, printedRespaced, Front, Holds, Counts}
+use Rattle.listing.specs.Listing.{printedTrees, mostListed, mostListedTrees, shortReading, wholeTrees, Front, Holds, Counts}
 
 -- What answers the same of every text that is too long answers of the front that a buffer holds as of the whole text, if the buffer has a
 -- byte more than may be read.
@@ -37,28 +33,16 @@ module _ {X : Type 0} (f : List ℕ → X) (x : X) (most : ℕ) (long : (text : 
           let h : most < length text = leb-false (length text) most e in
           long (take (most + 1) text) (omega (arith, length-take (most + 1) text)) ∙ sym (long text h)
 
-  front-same : (buffer : List ℕ) (n : ℕ) (text : List ℕ) → length buffer ≡ most + 1 → Front buffer n text → f (take n buffer) ≡ f text
+  pub front-same : (buffer : List ℕ) (n : ℕ) (text : List ℕ) → length buffer ≡ most + 1 → Front buffer n text → f (take n buffer) ≡ f text
   front-same buffer n text l e = ap f (rw l at e) ∙ cut-same text
 
 short-long : (text : List ℕ) → mostListed < length text → shortReading text ≡ refused longText mostBytes
 unfolding shortReading
 short-long text h = rw (lt-leb (length text) mostListed h)
 
-reading-long : (cells : ℕ) (text : List ℕ) → mostBytes < length text → readingFor text cells ≡ refused longText mostBytes
+pub reading-long : (cells : ℕ) (text : List ℕ) → mostBytes < length text → readingFor text cells ≡ refused longText mostBytes
 unfolding readingFor
 reading-long cells text h = rw (lt-leb (length text) mostBytes h)
-
-syntax-long : (text : List ℕ) → mostBytes < length text → wholeSyntax text ≡ denied longText mostBytes
-unfolding parsingFor
-syntax-long text h = rw (reading-long (treeWidth * mostTrees) text h) refl
-
-whole-long : (text : List ℕ) → mostBytes < length text → wholeReading text ≡ refused longText mostBytes
-unfolding wholeReading
-whole-long text h = rw (lt-leb (length text) mostBytes h)
-
-respaced-long : (text : List ℕ) → mostBytes < length text → printedRespaced text (wholeReading text) ≡ refusal longText mostBytes
-unfolding printedRespaced
-respaced-long text h = rw (whole-long text h) refl
 
 short-front : (buffer : List ℕ) (n : ℕ) (text : List ℕ) → length buffer ≡ mostListed + 1 → Front buffer n text → shortReading (take n buffer) ≡ shortReading text
 short-front = front-same shortReading (refused longText mostBytes) mostListed short-long
@@ -66,15 +50,6 @@ short-front = front-same shortReading (refused longText mostBytes) mostListed sh
 module _ (buffer : List ℕ) (n : ℕ) (text : List ℕ) (l : length buffer ≡ mostBytes + 1) (e : Front buffer n text) where
   trees-front : wholeTrees (take n buffer) ≡ wholeTrees text
   trees-front = front-same wholeTrees (refused longText mostBytes) mostBytes (reading-long (treeWidth * mostTrees)) buffer n text l e
-
-  syntax-front : wholeSyntax (take n buffer) ≡ wholeSyntax text
-  syntax-front = front-same wholeSyntax (denied longText mostBytes) mostBytes syntax-long buffer n text l e
-
-  pub whole-front : wholeReading (take n buffer) ≡ wholeReading text
-  whole-front = front-same wholeReading (refused longText mostBytes) mostBytes whole-long buffer n text l e
-
-  pub respaced-front : printedRespaced (take n buffer) (wholeReading (take n buffer)) ≡ printedRespaced text (wholeReading text)
-  respaced-front = front-same (λ t. printedRespaced t (wholeReading t)) (refusal longText mostBytes) mostBytes respaced-long buffer n text l e
 
 -- the reading that `treelist` lists: length first
 pub short-read : (text before now : List ℕ) (answer : Answer) → length before ≡ treeWidth * mostListedTrees → length text ≤ mostListed
@@ -90,11 +65,11 @@ pub long-read : (text before now : List ℕ) → mostListed < length text → no
 long-read text before now h e = rw (short-long text h) (refl, e)
 
 -- An answer and the table beside it: the records are there, and they are what is listed.
-record Lists (heading : List ℕ) (width : ℕ) (cells : List ℕ) (answer : Answer) (said : List ℕ) : Type 0 where
-  within : FitsTable width cells answer
-  said-is : answered heading width cells answer ≡ said
+pub record Lists (heading : List ℕ) (width : ℕ) (cells : List ℕ) (answer : Answer) (said : List ℕ) : Type 0 where
+  pub within : FitsTable width cells answer
+  pub said-is : answered heading width cells answer ≡ said
 
-counted : (heading : List ℕ) (width n : ℕ) (cells rest : List ℕ) → length cells ≡ width * n
+pub counted : (heading : List ℕ) (width n : ℕ) (cells rest : List ℕ) → length cells ≡ width * n
     → Lists heading width (cells ++ rest) (Answer.Accepted n) (listed heading width n cells)
 counted heading width n cells rest l =
     record { within = omega (arith, length-append cells rest); said-is = listed-front heading width n cells rest (omega arith) }
@@ -104,19 +79,13 @@ unfolding printedTrees
 trees-listed (accepted trees) before = counted (bytes "trees,") treeWidth (count trees) (records trees) (drop (treeWidth * count trees) before) (records-length trees)
 trees-listed (refused number place) before = record { within = tt; said-is = refl }
 
-syntax-listed : (p : Parsing) (before : List ℕ) → Lists (bytes "syntax,") syntaxWidth (syntaxAfter p before) (Rattle.parsing.specs.Parse.answerOf p) (printedSyntax p)
-unfolding printedSyntax
-syntax-listed (program trees syntax) before =
-    counted (bytes "syntax,") syntaxWidth (size syntax) (syntaxRecords syntax) (drop (syntaxWidth * size syntax) before) (omega (arith, syntax-length syntax))
-syntax-listed (denied number place) before = record { within = tt; said-is = refl }
-
 -- All that is said has room, so all of it is written.
 pub counts : (said output now : List ℕ) (at : ℕ) → at ≡ length said → now ≡ said ++ drop at output → Counts at now
 counts said output now at e p =
     let l : at ≤ length now = omega (arith, ap length p, length-append said (drop at output)) in
     (l, omega (arith, length-take at now))
 
-whole-listed : (heading : List ℕ) (width : ℕ) (cells : List ℕ) (answer : Answer) (said output now : List ℕ) (at : ℕ) → length heading ≤ 19
+pub whole-listed : (heading : List ℕ) (width : ℕ) (cells : List ℕ) (answer : Answer) (said output now : List ℕ) (at : ℕ) → length heading ≤ 19
     → Lists heading width cells answer said → Said heading width cells answer output now at → length output ≡ listingRoom (length cells) → Counts at now × Holds said output now at
 whole-listed heading width cells answer said output now at h l p room =
     let w = all-written (answered heading width cells answer) output now at (p .0) (omega (arith, p .1 h)) in
@@ -147,22 +116,6 @@ module _ (buffer : List ℕ) (n : ℕ) (front : List ℕ) (is : front ≡ take n
       let same : readingFor front (length table) ≡ wholeTrees front = ap (readingFor front) cells in
       trees-printed wholeTrees table now (e ∙ ap answerOf same) (t ∙ ap (λ (r : Reading). tableAfter r table) same) p room (λ text o. trees-front buffer n text l o)
 
-  pub syntax-printed : (trees treesNow table now : List ℕ) → length trees ≡ treeWidth * mostTrees → length table ≡ syntaxWidth * mostSyntax
-      → answer ≡ Rattle.parsing.specs.Parse.answerOf (parsingFor front (length trees) (length table)) → treesNow ≡ treesAfter (parsingFor front (length trees) (length table)) trees
-      → now ≡ syntaxAfter (parsingFor front (length trees) (length table)) table
-      → Said (bytes "syntax,") syntaxWidth now answer output after at → length output ≡ listingRoom (length now) → length buffer ≡ mostBytes + 1
-      → Counts at after × ((text : List ℕ) → Front buffer n text → Holds (printedSyntax (wholeSyntax text)) output after at × (treesNow ≡ treesAfter (wholeSyntax text) trees) × (now ≡ syntaxAfter (wholeSyntax text) table))
-  syntax-printed trees treesNow table now treeCells cells e u t p room b =
-      let same : parsingFor front (length trees) (length table) ≡ wholeSyntax front = rw (treeCells, cells) refl in
-      let q = parsingFor front (length trees) (length table) in
-      let l : Lists (bytes "syntax,") syntaxWidth now answer (printedSyntax q) = rw (e, t) (syntax-listed q table) in
-      let w = whole-listed (bytes "syntax,") syntaxWidth now answer (printedSyntax q) output after at (omega arith) l p room in
-      let to : (text : List ℕ) → Front buffer n text → q ≡ wholeSyntax text = λ text o. same ∙ (ap wholeSyntax is ∙ syntax-front buffer n text b o) in
-      (w .0, λ text o. (rw (to text o) at (w .1), rw (to text o) at u, rw (to text o) at t))
-
 -- The records that are counted are there.
 pub trees-within : (r : Reading) (answer : Answer) (table now : List ℕ) → answer ≡ answerOf r → now ≡ tableAfter r table → FitsTable treeWidth now answer
 trees-within r answer table now e t = rw (e, t) (trees-listed r table .within)
-
-pub syntax-within : (p : Parsing) (answer : Answer) (table now : List ℕ) → answer ≡ Rattle.parsing.specs.Parse.answerOf p → now ≡ syntaxAfter p table → FitsTable syntaxWidth now answer
-syntax-within p answer table now e t = rw (e, t) (syntax-listed p table .within)

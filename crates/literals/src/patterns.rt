@@ -2,13 +2,15 @@
 ghost use mathlib.Core.Path.{_≡_};
 ghost use mathlib.Core.Bool.{false};
 ghost use lib.ListN.{drop};
+ghost use Rattle.text.specs.Machinery.Codes.{byteCodes};
 ghost use Rattle.literals.specs.Patterns.{patternRest};
 use crate::Literal;
 use answers::faults::OPEN_PATTERN;
 use answers::faults::STRAY;
 
 // The regular expression that the slash at `first` opens, from the byte after it on.
-pub fn pattern_rest(text: &[u8], first: usize, from: usize) -> Literal
+pub fn pattern_rest(codes: &[u8], text: &[u8], first: usize, from: usize) -> Literal
+    requires { ⌜ now codes ≡ byteCodes ⌝ }
     ensures { λ r. ⌜ r ≡ patternRest first false false from (drop from (now (text .entry))) ⌝ }
 {
     let mut class = false;
@@ -16,11 +18,16 @@ pub fn pattern_rest(text: &[u8], first: usize, from: usize) -> Literal
     let mut i = from;
     while i < text.len() {
         let b = text[i];
-        let k = text::inside(b);
-        if k == 1 {
+        let code = text::code(codes, b);
+        if text::TURNING < code {
+            taken = false;
+            i += 1;
+            continue;
+        }
+        if code == text::LINE_END {
             return Literal::Fault(OPEN_PATTERN, first);
         }
-        if k == 2 {
+        if code == text::ILLEGAL {
             return Literal::Fault(STRAY, i);
         }
         if taken {
@@ -39,7 +46,7 @@ pub fn pattern_rest(text: &[u8], first: usize, from: usize) -> Literal
             continue;
         }
         if b == b'/' {
-            return Literal::Ends(text::name_end(text, i + 1));
+            return Literal::Ends(runs::name_end(codes, text, i + 1));
         }
         class = b == b'[';
         i += 1;

@@ -1,7 +1,8 @@
 // Strings: from a quote to the same quote.
 ghost use mathlib.Core.Path.{_≡_};
-ghost use mathlib.Core.Bool.{false};
+ghost use mathlib.Core.Bool.{true, false};
 ghost use lib.ListN.{drop};
+ghost use Rattle.text.specs.Machinery.Codes.{byteCodes};
 ghost use Rattle.literals.specs.Strings.{quote, stringRest};
 use crate::Literal;
 use answers::faults::OPEN_STRING;
@@ -17,18 +18,24 @@ pub fn is_quote(b: u8) -> bool
 }
 
 // The string that the quote `q` at `first` opens, from the byte after it on.
-pub fn string_rest(text: &[u8], q: u8, first: usize, from: usize) -> Literal
+pub fn string_rest(codes: &[u8], text: &[u8], q: u8, first: usize, from: usize) -> Literal
+    requires { ⌜ (now codes ≡ byteCodes) × (quote q ≡ true) ⌝ }
     ensures { λ r. ⌜ r ≡ stringRest q first false from (drop from (now (text .entry))) ⌝ }
 {
     let mut taken = false;
     let mut i = from;
     while i < text.len() {
         let b = text[i];
-        let k = text::inside(b);
-        if k == 1 {
+        let code = text::code(codes, b);
+        if text::TURNING < code {
+            taken = false;
+            i += 1;
+            continue;
+        }
+        if code == text::LINE_END {
             return Literal::Fault(OPEN_STRING, first);
         }
-        if k == 2 {
+        if code == text::ILLEGAL {
             return Literal::Fault(STRAY, i);
         }
         if taken {

@@ -13,7 +13,7 @@ use Rattle.rule.specs.Trees.{count}
 use Rattle.rule.specs.Rule.{elementClass, groupClass, backwards, opensObject, opensPattern, namesWord}
 use Rattle.prefix.specs.Reading.{step, proceed, readOn, reading}
 use Rattle.storing.specs.Records.{records}
-use Rattle.reader.specs.Read.{readingFor}
+use Rattle.reading.specs.Read.{readingFor}
 use Rattle.grammar.specs.Tokens.{classOf, tokensFrom}
 use Rattle.grammar.specs.Syntax.{syntaxRecords}
 use Rattle.grammar.specs.TreeElements.{elementsOf}

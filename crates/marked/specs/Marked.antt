@@ -8,7 +8,7 @@ use Rattle.text.specs.Quoted.{bytes}
 use Rattle.text.specs.Runs.{same}
 use Rattle.prefix.specs.Reading.{Reading, accepted, refused}
 use Rattle.storing.specs.Records.{records}
-use Rattle.reader.specs.Read.{readingFor}
+use Rattle.reading.specs.Read.{readingFor}
 use Rattle.grammar.specs.Syntax.{syntaxRecords}
 use Rattle.parsing.specs.Parse.{Parsing, program, denied, parsingFor}
 use Rattle.respacer.specs.Respace.{Respacing, written, respacingFor}

@@ -1,2 +1,2 @@
 pub mod WrittenCells
-pub mod JudgedLaws
+pub mod ParseLaws

@@ -1,18 +1,17 @@
 -- What the table holds once a syntax tree is written, if it has room for it.
 use mathlib.Core.Path.{_≡_, refl, sym, ap, _∙_}
 use mathlib.Core.List.{List, [], _∷_, _++_}
-use mathlib.Core.Bool.{Bool, true, false, cond}
 use Prim.Native.Nat.{ℕ, suc, _+_, _*_, _/_, _≤_, _<_}
 use native.Mathlib.Nat.{add-zero}
 use native.Mathlib.Numerals.{add-one, add-two}
 use native.Mathlib.Omega.{arith}
 use borrow.Author.Tests.{lt-ltb}
-use lib.Dec.{ltb}
-use lib.ListN.{length, drop, set, length-append, length-set}
+use lib.ListN.{length, drop, set, length-append}
 use lib.Seq.{sets, sets-eq}
 use Rattle.tables.specs.Records.{syntaxWidth}
 use Rattle.grammar.specs.Syntax.{Syntax, nil, node, snoc, size, syntaxRecords}
-use Rattle.waiting.specs.Machinery.Written.{putRecord, putSyntax}
+use Rattle.records.specs.Machinery.Written.{putRecord, putSyntax}
+use Rattle.records.proofs.KeptLength.{syntax-kept-length}
 
 sets-append : (a b table : List ℕ) (i : ℕ) → sets table i (a ++ b) ≡ sets (sets table i a) (i + length a) b
 sets-append [] b table i = rw (add-zero i)
@@ -31,24 +30,6 @@ syntax-length (node kind mark left right) =
     let own = kind ∷ mark ∷ (size left + size right + 1) ∷ [] in
     omega (arith, length-append (syntaxRecords left) (syntaxRecords right ++ own), length-append (syntaxRecords right) own, syntax-length left, syntax-length right)
 syntax-length (snoc before last) = omega (arith, length-append (syntaxRecords before) (syntaxRecords last), syntax-length before, syntax-length last)
-
-put-length : (table : List ℕ) (index kind mark number : ℕ) → length (putRecord table index kind mark number) ≡ length table
-unfolding putRecord
-put-length table index kind mark number = go (ltb index (length table / syntaxWidth))
-  where
-    go : (b : Bool) → length (cond b (set (set (set table (index * 3) kind) (index * 3 + 1) mark) (index * 3 + 2) number) table) ≡ length table
-    go true = simp length-set
-    go false = refl
-
-pub syntax-kept-length : (v : Syntax) (table : List ℕ) (index : ℕ) → length (putSyntax table index v) ≡ length table
-unfolding putSyntax
-syntax-kept-length nil table index = refl
-syntax-kept-length (node kind mark left right) table index =
-    put-length (putSyntax (putSyntax table index left) (index + size left) right) (index + size left + size right) kind mark (size left + size right + 1)
-    ∙ syntax-kept-length right (putSyntax table index left) (index + size left)
-    ∙ syntax-kept-length left table index
-syntax-kept-length (snoc before last) table index =
-    syntax-kept-length last (putSyntax table index before) (index + size before) ∙ syntax-kept-length before table index
 
 -- a record is three stores
 put-sets : (table : List ℕ) (index kind mark number : ℕ) → (index + 1) * syntaxWidth ≤ length table

@@ -11,8 +11,8 @@ use Rattle.rule.specs.Trees.{Trees, count, deepest}
 use Rattle.prefix.specs.Reading.{accepted, refused, reading}
 use Rattle.prefix.proofs.Sizes.{accepted-fits}
 use Rattle.tables.specs.Records.{roomFor}
-use Rattle.reader.specs.Read.{longText, mostBytes, mostGroups, readLimits, readingFor}
-use Rattle.reader.proofs.Formed.{Formed, reading-formed}
+use Rattle.reading.specs.Read.{longText, mostBytes, mostGroups, readLimits, readingFor}
+use Rattle.reading.proofs.Formed.{Formed, reading-formed}
 use Rattle.grammar.specs.Derivations.{countTrees, deepestFrom}
 use Rattle.grammar.specs.TreeElements.{elementsOf}
 use Rattle.grammar.proofs.TreeSizes.{count-elements, deepest-elements}

@@ -11,8 +11,8 @@ use Rattle.elements.specs.declared.Element.{Element}
 use Rattle.elements.specs.declared.Next.{Next}
 use Rattle.elements.specs.declared.Stated.{Stated}
 use Rattle.elements.proofs.Bounds.{found-placed}
-use Rattle.reader.specs.Read.{mostBytes, readLimits}
-use Rattle.reader.proofs.Theorems.{refused-place}
+use Rattle.reading.specs.Read.{mostBytes, readLimits}
+use Rattle.reading.proofs.Theorems.{refused-place}
 use Rattle.grammar.specs.Cuts.{recorded, Cuts, cut-end, cut-element, cut-slash, cut-word}
 use Rattle.grammar.specs.Syntax.{size}
 use Rattle.grammar.proofs.ReadCuts.{reading-cuts}

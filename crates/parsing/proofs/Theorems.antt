@@ -10,9 +10,9 @@ use lib.ListN.{length}
 use Rattle.answers.specs.declared.Answer.{Answer}
 use Rattle.rule.specs.Trees.{Trees, count, deepest}
 use Rattle.prefix.specs.Reading.{Reading, accepted, refused, unlimited}
-use Rattle.reader.specs.Read.{readLimits, readingFor, tableAfter}
-use Rattle.reader.proofs.Theorems.{read-fits}
-use Rattle.reader.proofs.Formed.{Formed, reading-formed}
+use Rattle.reading.specs.Read.{readLimits, readingFor, tableAfter}
+use Rattle.reading.proofs.Theorems.{read-fits}
+use Rattle.reading.proofs.Formed.{Formed, reading-formed}
 use Rattle.grammar.specs.Syntax.{Syntax, size, programTree}
 use Rattle.grammar.specs.Derivations.{Derivation, countTrees, syntaxTree, deepestFrom}
 use Rattle.grammar.specs.TreeElements.{elementsOf}

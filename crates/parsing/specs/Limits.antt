@@ -3,7 +3,7 @@ use Prim.Native.Nat.{ℕ, _/_, _≤_}
 use mathlib.Core.List.{List}
 use lib.ListN.{length}
 use Rattle.tables.specs.Records.{treeWidth, mostTrees, syntaxWidth, mostSyntax}
-use Rattle.reader.specs.Read.{mostBytes, mostGroups}
+use Rattle.reading.specs.Read.{mostBytes, mostGroups}
 use Rattle.grammar.specs.Syntax.{size}
 use Rattle.grammar.specs.Derivations.{Derivation, countTrees, syntaxTree, deepestFrom}
 

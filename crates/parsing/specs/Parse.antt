@@ -9,7 +9,7 @@ use Rattle.answers.specs.Answers.{numberOf, valueOf, Tells}
 use Rattle.answers.specs.declared.Answer.{Answer}
 use Rattle.rule.specs.Trees.{Trees, count}
 use Rattle.prefix.specs.Reading.{Reading, accepted, refused}
-use Rattle.reader.specs.Read.{readingFor, tableAfter}
+use Rattle.reading.specs.Read.{readingFor, tableAfter}
 use Rattle.grammar.specs.Tokens.{Token, token, Spot, tokens}
 use Rattle.tables.specs.Records.{syntaxWidth, syntaxRoom}
 use Rattle.grammar.specs.Syntax.{Syntax, size, syntaxRecords, programTree}

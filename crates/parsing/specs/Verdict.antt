@@ -7,7 +7,7 @@ use Rattle.answers.specs.declared.Answer.{Answer}
 use Rattle.elements.specs.declared.Element.{Element}
 use Rattle.rule.specs.Trees.{Trees}
 use Rattle.prefix.specs.Reading.{accepted, refused}
-use Rattle.reader.specs.Read.{readingFor, tableAfter}
+use Rattle.reading.specs.Read.{readingFor, tableAfter}
 use Rattle.tables.specs.Records.{treeWidth, syntaxWidth}
 use Rattle.grammar.specs.Syntax.{Syntax, size, syntaxRecords}
 use Rattle.grammar.specs.Derivations.{Derivation, countTrees, syntaxTree, BeginsProgram}

@@ -11,13 +11,13 @@ use elements::Element;
 use elements::Stated;
 
 // The kinds of groups, as document 01 and request U2 number those of tree records.
-pub const PARENS: u32 = rule::PARENS;
+pub const PARENS: u32 = summaries::PARENS;
 
-pub const OBJECT: u32 = rule::OBJECT;
+pub const OBJECT: u32 = summaries::OBJECT;
 
-pub const BLOCK: u32 = rule::BLOCK;
+pub const BLOCK: u32 = summaries::BLOCK;
 
-pub const BRACKETS: u32 = rule::BRACKETS;
+pub const BRACKETS: u32 = summaries::BRACKETS;
 
 // The numbers that document 01's table gives the faults of levels.
 pub const DEEP: u32 = 9;
@@ -50,7 +50,7 @@ pub fn start() -> State
     ensures { λ r. ⌜ ((tag : Levels → ℕ → ℕ) (stack : List ℕ) → Represents tag stack r (wholeText none)) ⌝ }
 {
     State {
-        level: rule::NOTHING,
+        level: summaries::NOTHING,
         depth: 0,
         records: 0,
     }
@@ -60,7 +60,7 @@ pub fn start() -> State
 pub fn stated_by(state: State) -> Stated
     ensures { λ r. ⌜ States state r ⌝ }
 {
-    rule::stated_by(state.level)
+    summaries::stated_by(state.level)
 }
 
 fn add_leaf(state: State, room: usize, e: Element) -> Advanced
@@ -71,7 +71,7 @@ fn add_leaf(state: State, room: usize, e: Element) -> Advanced
         return Advanced::Stopped(TREES_FULL, e.first);
     }
     Advanced::Leaf(State {
-        level: rule::after_leaf(state.level, e),
+        level: summaries::after_leaf(state.level, e),
         depth: state.depth,
         records: number + 1,
     })
@@ -101,7 +101,7 @@ fn open_group(
     Advanced::Opened(
         kind,
         State {
-            level: rule::level_in(kind),
+            level: summaries::level_in(kind),
             depth: depth + 1,
             records: number + 1,
         },
@@ -134,7 +134,7 @@ fn close_group(stack: &[u32], state: State, e: Element) -> Advanced
     if stack.len() / 2 < depth {
         return Advanced::Stopped(WRONG_CLOSER, e.first);
     }
-    let kind = state.level / rule::SUMMARIES;
+    let kind = state.level / summaries::SUMMARIES;
     if !is_closed_by(kind, e.which) {
         return Advanced::Stopped(WRONG_CLOSER, e.first);
     }
@@ -143,7 +143,7 @@ fn close_group(stack: &[u32], state: State, e: Element) -> Advanced
     Advanced::Closed(
         tag,
         State {
-            level: rule::after_group(around, kind),
+            level: summaries::after_group(around, kind),
             depth: depth - 1,
             records: state.records,
         },
@@ -162,7 +162,7 @@ pub fn advance(stack: &mut [u32], state: State, room: usize, tag: u32, e: Elemen
         return open_group(stack, state, room, tag, PARENS, e);
     }
     if e.which == signs::OPEN_BRACE {
-        if rule::brace_opens(state.level, e.newline) {
+        if summaries::brace_opens(state.level, e.newline) {
             return open_group(stack, state, room, tag, OBJECT, e);
         }
         return open_group(stack, state, room, tag, BLOCK, e);

@@ -1,16 +1,9 @@
--- The definitions at numbers whose listing is read off.
+-- The definitions at records whose listing is read off.
 use mathlib.Core.Path.{_≡_, refl}
 use mathlib.Core.List.{[], _∷_}
 use Rattle.text.specs.Quoted.{bytes}
-use Rattle.printing.specs.Printed.{digits, decimal, line, lines, listed, refusal}
-
-zero-is : decimal 0 ≡ bytes "0"
-unfolding decimal digits
-zero-is = refl
-
-ten-is : decimal 10 ≡ bytes "10"
-unfolding decimal digits
-ten-is = refl
+use Rattle.writing.specs.Numbers.{digits, decimal, line}
+use Rattle.printing.specs.Printed.{lines, listed, refusal}
 
 trees-are : listed (bytes "trees,") 5 2 (1 ∷ 0 ∷ 1 ∷ 1 ∷ 0 ∷ 8 ∷ 4 ∷ 12 ∷ 4 ∷ 0 ∷ []) ≡ bytes "trees,2\n1,0,1,1,0\n8,4,12,4,0\n"
 unfolding listed lines line decimal digits

@@ -1,3 +1,2 @@
-pub mod WritingLaws
 pub mod PrintedLaws
 pub mod Examples

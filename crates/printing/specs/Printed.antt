@@ -1,33 +1,10 @@
--- Document 01, Readings: how the programs print numbers, records and refusals.
-use Prim.Native.Nat.{ℕ, zero, suc, _+_, _*_, _/_, _%_, _≤_}
-use mathlib.Core.Bool.{cond}
+-- Document 01, Readings: how the programs print records and refusals.
+use Prim.Native.Nat.{ℕ, zero, suc, _+_, _*_, _≤_}
 use mathlib.Core.List.{List, [], _∷_, _++_}
-use lib.Dec.{ltb}
 use lib.ListN.{length, take, drop}
-use Rattle.text.specs.Quoted.{byte, bytes}
+use Rattle.text.specs.Quoted.{bytes}
 use Rattle.answers.specs.declared.Answer.{Answer}
-
-abbrev pub digitByte : ℕ → ℕ
-digitByte d = byte "0" + d
-
--- the decimal digits of a number, the highest first, at most k of them
-unfoldable pub digits : ℕ → ℕ → List ℕ
-digits zero n = []
-digits (suc k) n = cond (ltb n 10) [] (digits k (n / 10)) ++ (digitByte (n % 10) ∷ [])
-
--- n has at most n + 1 digits
-unfoldable pub decimal : ℕ → List ℕ
-decimal n = digits (suc n) n
-
--- what stands behind a number: a comma where others follow on its line, else the line's end
-abbrev pub after : List ℕ → ℕ
-after [] = byte "\n"
-after (n ∷ rest) = byte ","
-
--- numbers in a line
-unfoldable pub line : List ℕ → List ℕ
-line [] = []
-line (n ∷ rest) = decimal n ++ (after rest ∷ line rest)
+use Rattle.writing.specs.Numbers.{line}
 
 -- so many records of a width, one a line
 unfoldable pub lines : ℕ → ℕ → List ℕ → List ℕ

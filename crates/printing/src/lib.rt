@@ -1,13 +1,10 @@
-// Numbers, records and refusals as text, written to a lent output.
+// Records and refusals as text, written to a lent output.
 ghost use Prim.Native.Nat.{_+_, _*_, _≤_};
 ghost use lib.ListN.{length};
 ghost use Rattle.printing.specs.Printed.{lines, listed, refusal, answered, FitsTable, listingRoom};
-ghost use Rattle.printing.specs.Machinery.Writing.{Adds, Written};
-
-pub mod numbers;
-pub mod writing;
-
+ghost use Rattle.writing.specs.Machinery.Writing.{Adds, Written};
 use answers::Answer;
+use writing::numbers;
 
 // Writes the first records of a table, one a line.
 fn put_lines(output: &mut [u8], at: usize, table: &[u32], width: usize, count: usize) -> usize

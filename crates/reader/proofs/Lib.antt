@@ -1,6 +1,1 @@
 pub mod ReadLaws
-pub mod Formed
-pub mod LengthFirst
-pub mod Numbered
-pub mod Theorems
-pub mod TurnLaws

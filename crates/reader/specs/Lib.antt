@@ -1,3 +1,1 @@
-pub mod Read
-pub mod Nested
 pub mod Machinery

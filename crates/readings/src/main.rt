@@ -5,12 +5,12 @@ mod case;
 
 use answers::Answer;
 use case::Case;
-use case_answers::outputs;
-use case_answers::outputs::BYTES;
 use case_answers::print;
-use case_answers::table;
-use case_answers::table::CELLS;
-use case_answers::table::SYNTAX_CELLS;
+use case_tables::outputs;
+use case_tables::outputs::BYTES;
+use case_tables::table;
+use case_tables::table::CELLS;
+use case_tables::table::SYNTAX_CELLS;
 use cases::spelling::MOST;
 use cases::spelling::part;
 use libc::STDIN_FILENO;

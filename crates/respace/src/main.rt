@@ -6,7 +6,7 @@ fn main() {
     let Input::Bytes(count) = streams::read_input(&mut input) else {
         return;
     };
-    let mut output = [0u8; listing::RESPACED_OUTPUT];
-    let written = listing::list_respaced(&input, count, &mut output);
+    let mut output = [0u8; respaced_listing::RESPACED_OUTPUT];
+    let written = respaced_listing::list_respaced(&input, count, &mut output);
     streams::write_output(&output[..written]);
 }

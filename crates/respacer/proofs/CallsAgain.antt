@@ -9,7 +9,7 @@ use lib.Dec.{leb}
 use lib.ListN.{length}
 use Rattle.rule.specs.Trees.{Trees}
 use Rattle.prefix.specs.Reading.{Limits, Reading, accepted, refused, reading}
-use Rattle.reader.specs.Read.{longText, mostBytes, readLimits, readingFor}
+use Rattle.reading.specs.Read.{longText, mostBytes, readLimits, readingFor}
 use Rattle.spacing.specs.Respaced.{lineFeed, respaced}
 use Rattle.respacer.specs.Respace.{respaceLimits, wholeReading, outputFull, written, denied, fitted, respacingFor}
 use Rattle.respacer.specs.Alike.{Kept}

@@ -18,9 +18,9 @@ use Rattle.prefix.specs.declared.Advanced.{Advanced}
 use Rattle.prefix.specs.declared.State.{State}
 use Rattle.prefix.proofs.ReadingLaws.{read-end, read-fault, read-stop, read-more}
 use Rattle.tables.specs.Records.{mostTrees}
-use Rattle.reader.specs.Read.{mostBytes, longText}
-use Rattle.reader.specs.Machinery.Turns.{openerPlace, Takes, at-end, at-fault, at-element}
-use Rattle.reader.specs.declared.ReadOn.{ReadOn}
+use Rattle.reading.specs.Read.{mostBytes, longText}
+use Rattle.turns.specs.Machinery.Turns.{openerPlace, Takes, at-end, at-fault, at-element}
+use Rattle.turns.specs.declared.ReadOn.{ReadOn}
 use Rattle.spacing.specs.Respaced.{addTrees, respaced}
 use Rattle.respacer.specs.Respace.{respaceLimits, wholeReading, outputFull, Respacing, fitted, respacingFor, answerOf, outputAfter}
 use Rattle.respacer.specs.Machinery.Written.{Writes, Turned, goes-on, ends, Told}

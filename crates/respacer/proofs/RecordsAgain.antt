@@ -10,9 +10,9 @@ use Rattle.prefix.specs.Reading.{Reading, accepted, refused}
 use Rattle.prefix.proofs.LimitLaws.{accepted-unlimited}
 use Rattle.tables.specs.Records.{treeWidth, treeRecord}
 use Rattle.storing.specs.Records.{records}
-use Rattle.reader.specs.Read.{mostBytes, readLimits, readingFor, answerOf, tableAfter, Reads}
+use Rattle.reading.specs.Read.{mostBytes, readLimits, readingFor, answerOf, tableAfter, Reads}
 use Rattle.storing.proofs.CellLaws.{records-length}
-use Rattle.reader.proofs.LengthFirst.{first-accepted}
+use Rattle.reading.proofs.LengthFirst.{first-accepted}
 use Rattle.spacing.specs.Respaced.{respaced}
 use Rattle.answers.specs.declared.Answer.{Answer}
 use Rattle.respacer.specs.Respace.{respaceLimits, wholeReading, Respacing, written, denied, respacingFor, outputAfter, Respaces}

@@ -7,7 +7,7 @@ use Rattle.answers.specs.declared.Answer.{Answer}
 use Rattle.rule.specs.Trees.{Trees, count}
 use Rattle.prefix.specs.Reading.{Limits, Reading, accepted, reading, unlimited, unlimitedReading}
 use Rattle.prefix.proofs.LimitLaws.{accepted-unlimited}
-use Rattle.reader.specs.Read.{mostBytes, readingFor, Reads}
+use Rattle.reading.specs.Read.{mostBytes, readingFor, Reads}
 use Rattle.spacing.specs.Respaced.{respaced}
 use Rattle.respacer.specs.Respace.{wholeReading, written, respacingFor, Respaces}
 use Rattle.respacer.specs.Alike.{Kept, RoundTrip, SameLeft}

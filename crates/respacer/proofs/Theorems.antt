@@ -12,10 +12,10 @@ use Rattle.answers.specs.declared.Answer.{Answer}
 use Rattle.rule.specs.Trees.{Trees, count, deepest}
 use Rattle.prefix.specs.Reading.{Reading, accepted, refused, reading, unlimitedReading, deep, treesFull}
 use Rattle.tables.specs.Records.{mostTrees}
-use Rattle.reader.specs.Read.{longText, mostBytes, mostGroups}
-use Rattle.reader.proofs.Formed.{reading-within-text}
-use Rattle.reader.proofs.Numbered.{first-numbered}
-use Rattle.reader.proofs.LengthFirst.{first-fits, first-full, first-deep}
+use Rattle.reading.specs.Read.{longText, mostBytes, mostGroups}
+use Rattle.reading.proofs.Formed.{reading-within-text}
+use Rattle.reading.proofs.Numbered.{first-numbered}
+use Rattle.reading.proofs.LengthFirst.{first-fits, first-full, first-deep}
 use Rattle.spacing.specs.Respaced.{lineFeed, addTrees, respaced}
 use Rattle.respacer.specs.Respace.{Short, respaceLimits, wholeReading, outputFull, Respacing, written, denied, fitted, respacingFor, answerOf, outputAfter, Respaces}
 use Rattle.respacer.proofs.Lengths.{reading-short}

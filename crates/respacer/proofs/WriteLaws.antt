@@ -14,7 +14,7 @@ use Rattle.prefix.specs.Machinery.Represents.{Represents, Closes, closed, Follo
 use Rattle.prefix.specs.declared.State.{State}
 use Rattle.prefix.specs.declared.Advanced.{Advanced}
 use Rattle.tables.specs.Records.{mostTrees}
-use Rattle.reader.specs.Machinery.Turns.{openerPlace}
+use Rattle.turns.specs.Machinery.Turns.{openerPlace}
 use Rattle.spacing.specs.Respaced.{lineFeed, addElement, addCloser, addTrees}
 use Rattle.respacer.specs.Machinery.Written.{writtenOf, Writes, Turned, goes-on, ends, Told}
 use Rattle.spacing.specs.Machinery.Over.{over}

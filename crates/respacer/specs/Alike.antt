@@ -9,7 +9,7 @@ use Rattle.elements.specs.declared.Element.{Element}
 use Rattle.rule.specs.Trees.{Trees, none, leaf, group, count}
 use Rattle.prefix.specs.Reading.{Reading, accepted, refused}
 use Rattle.tables.specs.Records.{treeWidth}
-use Rattle.reader.specs.Read.{readingFor, answerOf, tableAfter}
+use Rattle.reading.specs.Read.{readingFor, answerOf, tableAfter}
 use Rattle.elements.specs.Lexemes.{bytesOf, SameElement}
 use Rattle.spacing.specs.Respaced.{respaced}
 

@@ -10,7 +10,7 @@ use Rattle.answers.specs.declared.Answer.{Answer}
 use Rattle.rule.specs.Trees.{Trees}
 use Rattle.prefix.specs.Reading.{Limits, Reading, accepted, refused, reading}
 use Rattle.tables.specs.Records.{mostTrees}
-use Rattle.reader.specs.Read.{longText, mostBytes, mostGroups}
+use Rattle.reading.specs.Read.{longText, mostBytes, mostGroups}
 use Rattle.spacing.specs.Respaced.{respaced}
 
 -- Document 01, Refused texts, row 15, output full: "respacing; more bytes than fit"; place: text length

@@ -3,22 +3,23 @@ ghost use mathlib.Core.Path.{_≡_};
 ghost use mathlib.Core.List.{List};
 ghost use Prim.Native.Nat.{ℕ, _*_, _<_, _≤_};
 ghost use lib.ListN.{length};
+ghost use Rattle.text.specs.Machinery.Codes.{byteCodes};
 ghost use Rattle.respacer.specs.Respace.{wholeReading, Respaces};
 ghost use Rattle.rule.specs.Levels.{Levels};
 ghost use Rattle.prefix.specs.Reading.{Step};
 ghost use Rattle.prefix.specs.Machinery.Represents.{Follows};
 ghost use Rattle.prefix.specs.declared.State.{State};
 ghost use Rattle.tables.specs.Records.{mostTrees};
-ghost use Rattle.reader.specs.Read.{mostBytes};
-ghost use Rattle.reader.specs.Machinery.Turns.{openerPlace};
+ghost use Rattle.reading.specs.Read.{mostBytes};
+ghost use Rattle.turns.specs.Machinery.Turns.{openerPlace};
 ghost use Rattle.respacer.specs.Machinery.Written.{Writes, Turned, Told};
 use answers::Answer;
 use elements::Element;
 use prefix::Advanced;
 use prefix::State;
-use reader::ReadOn;
+use turns::ReadOn;
 
-// The number of the table's row for an output that is too short.
+// The number that document 01's table of refused texts gives an output that is too short.
 pub const OUTPUT_FULL: u32 = 15;
 
 // What writing an element makes of the state and the place: others, or a refusal.
@@ -65,16 +66,16 @@ fn write_end(output: &mut [u8], stack: &[u32], state: State, at: usize) -> Answe
     Answer::Refused(prefix::UNCLOSED, first)
 }
 
-// The elements of the whole text, as many as fit; and the count of all.
-fn write_text(text: &[u8], output: &mut [u8], stack: &mut [u32]) -> Answer
-    requires { ⌜ (length (now text) ≤ mostBytes) × (length (now stack) ≡ 200) ⌝ }
+// The elements of the whole text, as many as fit; and the count of all bytes, those that do not fit too.
+fn write_text(codes: &[u8], text: &[u8], output: &mut [u8], stack: &mut [u32]) -> Answer
+    requires { ⌜ (now codes ≡ byteCodes) × (length (now text) ≤ mostBytes) × (length (now stack) ≡ 200) ⌝ }
     ensures { λ r. ⌜ Told (now (text .entry)) (now (output .entry)) (now (output .exit)) (wholeReading (now (text .entry))) r ⌝ }
 {
     let mut state = prefix::start();
     let mut place = 0usize;
     let mut at = 0usize;
     loop {
-        let turn = reader::take_turn(text, stack, state, place);
+        let turn = turns::take_turn(codes, text, stack, state, place);
         match turn {
             ReadOn::End(_) => {
                 return write_end(output, stack, state, at);
@@ -104,12 +105,13 @@ fn write_text(text: &[u8], output: &mut [u8], stack: &mut [u32]) -> Answer
 pub fn respace(text: &[u8], output: &mut [u8]) -> Answer
     ensures { λ r. ⌜ Respaces (now (text .entry)) (now (output .entry)) (now (output .exit)) r ⌝ }
 {
-    if reader::MOST_BYTES < text.len() {
+    if turns::MOST_BYTES < text.len() {
         spacing::clear(output);
-        return Answer::Refused(reader::LONG, reader::MOST_BYTES);
+        return Answer::Refused(turns::LONG, turns::MOST_BYTES);
     }
     let mut stack = [0u32; 200];
-    let answer = write_text(text, output, &mut stack);
+    let codes = text::codes();
+    let answer = write_text(&codes, text, output, &mut stack);
     match answer {
         Answer::Accepted(count) => {
             if output.len() < count {

@@ -1,3 +1,4 @@
 pub mod Finite
 pub mod SummaryLaws
 pub mod LevelCodeLaws
+pub mod OtherClasses

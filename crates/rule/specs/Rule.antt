@@ -113,6 +113,7 @@ unnamedExcepted expression (two ∷ one ∷ []) plain = plain
 unnamedExcepted expression (tree three k ∷ tree two l ∷ tree one newline ∷ before) plain =
     cond (is block three && (is parens two && is functionWord one)) (not (opensObject expression before newline)) plain
 
+-- whether a slash opens a regular expression: by the last tree, but for the two forms of the function exception
 unfoldable pub opensPattern : Bool → List Before → Bool
 opensPattern expression ts = excepted expression ts (unnamedExcepted expression ts (plainly ts))
 

@@ -115,7 +115,7 @@ fn starts_at(row: Row, text: &[u8], at: usize) -> bool
     if text.len() - at < len {
         return false;
     }
-    text::equal(&bytes[..len], &text[at..at + len])
+    runs::equal(&bytes[..len], &text[at..at + len])
 }
 
 // The table is passed in by value, so that it is copied once and not in every turn.

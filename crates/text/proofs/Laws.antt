@@ -8,8 +8,6 @@ use native.Mathlib.Omega.{arith}
 use borrow.Author.Tests.{eq-eqb, ne-eqb}
 use lib.Dec.{T, eqb, eqb→eq}
 use lib.ListN.{length, getD, take, drop, drop-of-length-le, length-drop}
-use Rattle.text.specs.Bytes.{lineEnd, illegal}
-use Rattle.text.specs.Machinery.Inside.{insideOf}
 use Rattle.text.specs.Runs.{run, same}
 use Rattle.text.proofs.Lists.{drop-at}
 use Rattle.text.proofs.Range.{and-left, and-right}
@@ -92,32 +90,3 @@ module _ (a b : List ℕ) (i : ℕ) where
     pub same-more : getD a i 0 ≡ getD b i 0 → same (drop i a) (drop i b) ≡ same (drop (i + 1) a) (drop (i + 1) b)
     unfolding same
     same-more e = rw (drop-at a i h, drop-at b i k, eq-eqb _ _ e)
-
--- what the class inside a comment or literal tells
-module _ (b : ℕ) where
-  pub inside-passed : (insideOf b ≡ 1 → ⊥) → (insideOf b ≡ 2 → ⊥) → (lineEnd b ≡ false) × (illegal b ≡ false)
-  unfolding insideOf
-  inside-passed l i = go (lineEnd b) (illegal b) l i
-    where
-      go : (x y : Bool) → (_≡_ {A = ℕ} (cond x 1 (cond y 2 0)) 1 → ⊥) → (_≡_ {A = ℕ} (cond x 1 (cond y 2 0)) 2 → ⊥) → (x ≡ false) × (y ≡ false)
-      go true y n m = absurd (n refl)
-      go false true n m = absurd (m refl)
-      go false false n m = (refl, refl)
-
-  pub inside-newline : insideOf b ≡ 1 → lineEnd b ≡ true
-  unfolding insideOf
-  inside-newline e = go (lineEnd b) (illegal b) e
-    where
-      go : (l i : Bool) → _≡_ {A = ℕ} (cond l 1 (cond i 2 0)) 1 → l ≡ true
-      go true i z = refl
-      go false true z = absurd (omega arith)
-      go false false z = absurd (omega arith)
-
-  pub inside-illegal : insideOf b ≡ 2 → (lineEnd b ≡ false) × (illegal b ≡ true)
-  unfolding insideOf
-  inside-illegal e = go (lineEnd b) (illegal b) e
-    where
-      go : (l i : Bool) → _≡_ {A = ℕ} (cond l 1 (cond i 2 0)) 2 → (l ≡ false) × (i ≡ true)
-      go true i z = absurd (omega arith)
-      go false true z = (refl, refl)
-      go false false z = absurd (omega arith)

@@ -1,4 +1,5 @@
 pub mod Range
 pub mod Lists
 pub mod Laws
+pub mod CodeLaws
 pub mod Members

@@ -5,11 +5,9 @@ ghost use mathlib.Core.Path.{_≡_};
 ghost use Prim.Native.Nat.{_+_, _-_, _*_, _≤_, _<_};
 ghost use lib.ListN.{length};
 ghost use Rattle.tables.specs.Records.{mostTrees, mostSyntax};
-ghost use Rattle.waiting.specs.Machinery.Written.{putRecord};
+ghost use Rattle.records.specs.Machinery.Written.{putRecord};
 ghost use Rattle.waiting.specs.Machinery.Waiting.{width, binding, Backed, Closes, Completes, stackWith, waitingOne, madeOne};
 use controls::classes;
-
-pub mod records;
 
 // Numbers that what waits takes on the stack.
 pub const WIDTH: usize = 3;

@@ -14,7 +14,7 @@ pub const IF: u32 = 22;
 fn choose(name: &[u8], word: &[u8], number: u32, other: u32) -> u32
     ensures { λ r. ⌜ r ≡ chosen (now (name .entry)) (now (word .entry)) number other ⌝ }
 {
-    if text::equal(name, word) {
+    if runs::equal(name, word) {
         number
     } else {
         other

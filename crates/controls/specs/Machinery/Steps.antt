@@ -84,10 +84,22 @@ pub data Means (from : Control) (class : ℕ) : Step → Action → Type 0 where
   means-enter : {to : code.Control} {number : ℕ} {must : Bool} → T (isSingle class) → number ≤ 2 → from ≡ statementDue must (settingBy number) → controlOf to ≡ ifFirst
       → Means from class (Enter to number) (enter ifFirst (behindStatement (settingBy number)) toStatement)
 
+-- what a step that goes on, or opens a group, means of each class, from wherever it leads
+abbrev pub Goes : Step → Control → ℕ → Type 0
+Goes step to effect = (from : Control) (class : ℕ) → T (isSingle class) → Leads (effectBy effect class) from to
+    → Means from class step (goto to (effectBy effect class))
+
+abbrev pub Opens : Step → Control → ℕ → Type 0
+Opens step behind closing = (from : Control) (class : ℕ) → T (isOpener class) → Spans (closingBy closing) from behind
+    → Means from class step (push (insideBy closing) behind (closingBy closing))
+
 -- a control is settled before a token of a class: no name that is no label is held, and no nest is to be left
-pub record Settled (at : code.Control) (class : ℕ) : Type 0 where
-  pub no-name : at .place ≡ 5 → class ≡ colon
-  pub no-nest : at .place ≡ 4 → ⊥
+pub record SettledAt (place class : ℕ) : Type 0 where
+  pub no-name : place ≡ 5 → class ≡ colon
+  pub no-nest : place ≡ 4 → ⊥
+
+abbrev pub Settled : code.Control → ℕ → Type 0
+Settled at class = SettledAt (at .place) class
 
 -- an expression that is the whole inside of a group
 abbrev pub inGroup : Ending → Bool

@@ -2,9 +2,9 @@
 use borrow.Author.Needs.{needs}
 use native.Mathlib.Omega.{arith}
 use mathlib.Core.Path.{sym, ap, _∙_}
+use Rattle.text.proofs.CodeLaws.{code-letter, code-no-letter, code-digit, code-no-digit}
 use Rattle.elements.specs.Elements.{literalElement}
 use Rattle.elements.proofs.ElementLaws.{from-past, from-letter, from-digit, from-quote, from-pattern, from-dot, from-sign}
-use borrow.Author.Needs.{needs}
 use Rattle.elements.proofs.element_from.Statement.{statement}
 use Rattle.elements.proofs.element_from.Tie as tie
 
@@ -14,30 +14,26 @@ returns c = sym (from-past _ _ _ _ (c .if1 .taken))
 shared-slice-read-b : tie.Need-shared-slice-read-b
 shared-slice-read-b c = search needs
 
-is-letter-requires : tie.Need-is-letter-requires
-is-letter-requires c κs = search needs
+code-requires : tie.Need-code-requires
+code-requires c κs = c .before .before .before .before .pre
 
 name-element-requires : tie.Need-name-element-requires
-name-element-requires c κs = search needs
+name-element-requires c κs = (c .before .before .before .before .before .before .pre, omega arith)
 
 returns-2 : tie.Need-returns-2
 returns-2 c =
-    c .name-element .ensures ∙ sym (from-letter _ _ _ _ (omega arith) (sym (c .before .before .is-letter .ensures) ∙ c .before .if2 .taken))
-
-is-digit-requires : tie.Need-is-digit-requires
-is-digit-requires c κs = search needs
+    c .name-element .ensures ∙ sym (from-letter _ _ _ _ (omega arith) (code-letter _ (omega arith)))
 
 number-at-requires : tie.Need-number-at-requires
-number-at-requires c κs = search needs
+number-at-requires c κs = c .before .before .before .before .before .before .before .pre
 
 literal-element-requires : tie.Need-literal-element-requires
 literal-element-requires c κs = search needs
 
 returns-3 : tie.Need-returns-3
 returns-3 c =
-    let l = sym (c .before .before .before .before .before .is-letter .ensures) ∙ c .before .before .before .before .if2 .left in
     c .literal-element .ensures ∙ ap (literalElement _ _ _) (c .before .number-at .ensures)
-    ∙ sym (from-digit _ _ _ _ (omega arith) l (sym (c .before .before .before .is-digit .ensures) ∙ c .before .before .if3 .taken))
+    ∙ sym (from-digit _ _ _ _ (omega arith) (code-no-letter _ (omega arith)) (code-digit _ (omega arith)))
 
 is-quote-requires : tie.Need-is-quote-requires
 is-quote-requires c κs = search needs
@@ -46,17 +42,15 @@ add-string-rest : tie.Need-add-string-rest
 add-string-rest c = search needs
 
 string-rest-requires : tie.Need-string-rest-requires
-string-rest-requires c κs = search needs
+string-rest-requires c κs = (c .before .before .before .before .before .before .before .before .before .pre, sym (c .before .is-quote .ensures) ∙ c .if4 .taken)
 
 literal-element-requires-2 : tie.Need-literal-element-requires-2
 literal-element-requires-2 c κs = search needs
 
 returns-4 : tie.Need-returns-4
 returns-4 c =
-    let l = sym (c .before .before .before .before .before .before .before .is-letter .ensures) ∙ c .before .before .before .before .before .before .if2 .left in
-    let d = sym (c .before .before .before .before .before .is-digit .ensures) ∙ c .before .before .before .before .if3 .left in
     c .literal-element2 .ensures ∙ ap (literalElement _ _ _) (c .before .string-rest .ensures)
-    ∙ sym (from-quote _ _ _ _ (omega arith) l d (sym (c .before .before .before .is-quote .ensures) ∙ c .before .before .if4 .taken))
+    ∙ sym (from-quote _ _ _ _ (omega arith) (code-no-letter _ (omega arith)) (code-no-digit _ (omega arith)) (sym (c .before .before .before .is-quote .ensures) ∙ c .before .before .if4 .taken))
 
 is-pattern-slash-requires : tie.Need-is-pattern-slash-requires
 is-pattern-slash-requires c κs = search needs
@@ -65,41 +59,35 @@ add-pattern-rest : tie.Need-add-pattern-rest
 add-pattern-rest c = search needs
 
 pattern-rest-requires : tie.Need-pattern-rest-requires
-pattern-rest-requires c κs = search needs
+pattern-rest-requires c κs = c .before .before .before .before .before .before .before .before .before .before .before .pre
 
 literal-element-requires-3 : tie.Need-literal-element-requires-3
 literal-element-requires-3 c κs = search needs
 
 returns-5 : tie.Need-returns-5
 returns-5 c =
-    let l = sym (c .before .before .before .before .before .before .before .before .before .is-letter .ensures) ∙ c .before .before .before .before .before .before .before .before .if2 .left in
-    let d = sym (c .before .before .before .before .before .before .before .is-digit .ensures) ∙ c .before .before .before .before .before .before .if3 .left in
     let q = sym (c .before .before .before .before .before .is-quote .ensures) ∙ c .before .before .before .before .if4 .left in
     c .literal-element3 .ensures ∙ ap (literalElement _ _ _) (c .before .pattern-rest .ensures)
-    ∙ sym (from-pattern _ _ _ _ (omega arith) l d q (sym (c .before .before .before .is-pattern-slash .ensures) ∙ c .before .before .if5 .taken))
+    ∙ sym (from-pattern _ _ _ _ (omega arith) (code-no-letter _ (omega arith)) (code-no-digit _ (omega arith)) q (sym (c .before .before .before .is-pattern-slash .ensures) ∙ c .before .before .if5 .taken))
 
 is-dot-before-digit-requires : tie.Need-is-dot-before-digit-requires
-is-dot-before-digit-requires c κs = search needs
+is-dot-before-digit-requires c κs = (c .before .before .before .before .before .before .before .before .before .before .before .pre, omega arith)
 
 returns-6 : tie.Need-returns-6
 returns-6 c =
-    let l = sym (c .before .before .before .before .before .before .before .before .before .is-letter .ensures) ∙ c .before .before .before .before .before .before .before .before .if2 .left in
-    let d = sym (c .before .before .before .before .before .before .before .is-digit .ensures) ∙ c .before .before .before .before .before .before .if3 .left in
     let q = sym (c .before .before .before .before .before .is-quote .ensures) ∙ c .before .before .before .before .if4 .left in
     let p = sym (c .before .before .before .is-pattern-slash .ensures) ∙ c .before .before .if5 .left in
-    sym (from-dot _ _ _ _ (omega arith) l d q p (sym (c .before .is-dot-before-digit .ensures) ∙ c .if6 .taken))
+    sym (from-dot _ _ _ _ (omega arith) (code-no-letter _ (omega arith)) (code-no-digit _ (omega arith)) q p (sym (c .before .is-dot-before-digit .ensures) ∙ c .if6 .taken))
 
 sign-element-requires : tie.Need-sign-element-requires
-sign-element-requires c κs = search needs
+sign-element-requires c κs = omega arith
 
 returns-7 : tie.Need-returns-7
 returns-7 c =
-    let l = sym (c .before .before .before .before .before .before .before .before .before .before .is-letter .ensures) ∙ c .before .before .before .before .before .before .before .before .before .if2 .left in
-    let d = sym (c .before .before .before .before .before .before .before .before .is-digit .ensures) ∙ c .before .before .before .before .before .before .before .if3 .left in
     let q = sym (c .before .before .before .before .before .before .is-quote .ensures) ∙ c .before .before .before .before .before .if4 .left in
     let p = sym (c .before .before .before .before .is-pattern-slash .ensures) ∙ c .before .before .before .if5 .left in
     c .sign-element .ensures
-    ∙ sym (from-sign _ _ _ _ (omega arith) l d q p (sym (c .before .before .is-dot-before-digit .ensures) ∙ c .before .if6 .left))
+    ∙ sym (from-sign _ _ _ _ (omega arith) (code-no-letter _ (omega arith)) (code-no-digit _ (omega arith)) q p (sym (c .before .before .is-dot-before-digit .ensures) ∙ c .before .if6 .left))
 
 pub element-from-spec : {M : Type 1} → statement M
 element-from-spec =
@@ -107,10 +95,9 @@ element-from-spec =
     (tie.spec
     returns
     shared-slice-read-b
-    is-letter-requires
+    code-requires
     name-element-requires
     returns-2
-    is-digit-requires
     number-at-requires
     literal-element-requires
     returns-3

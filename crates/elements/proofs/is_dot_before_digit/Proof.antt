@@ -1,9 +1,9 @@
 -- Test for test; past the text's end no digit stands.
-use borrow.Author.Needs.{needs}
-use mathlib.Core.Path.{ap, _∙_}
+use mathlib.Core.Path.{sym, ap, _∙_}
 use borrow.Author.Tests.{ne-eqb, eq-eqb}
-use Rattle.text.specs.Bytes.{digit}
-use borrow.Author.Needs.{needs}
+use lib.Dec.{eqb}
+use Rattle.text.specs.Machinery.Codes.{codeOf}
+use Rattle.text.proofs.CodeLaws.{by-digit}
 use Rattle.elements.proofs.is_dot_before_digit.Statement.{statement}
 use Rattle.elements.proofs.is_dot_before_digit.Tie as tie
 
@@ -11,14 +11,14 @@ returns : tie.Need-returns
 returns c = rw (ne-eqb _ 46 (c .if1 .taken))
 
 byte-after-requires : tie.Need-byte-after-requires
-byte-after-requires c κs = search needs
+byte-after-requires c κs = c .before .before .before .pre .1
 
-is-digit-requires : tie.Need-is-digit-requires
-is-digit-requires c κs = search needs
+code-requires : tie.Need-code-requires
+code-requires c κs = c .before .before .before .before .pre .0
 
 returns-2 : tie.Need-returns-2
-returns-2 c = rw (eq-eqb _ 46 (c .before .before .if1 .left)) (c .is-digit .ensures ∙ ap digit (c .before .byte-after .ensures))
+returns-2 c = rw (eq-eqb _ 46 (c .before .before .if1 .left)) (ap (λ k. eqb k 6) (c .code .ensures ∙ ap codeOf (c .before .byte-after .ensures)) ∙ sym (by-digit _))
 
 pub is-dot-before-digit-spec : {M : Type 1} → statement M
 is-dot-before-digit-spec =
-    tie.close (tie.spec returns byte-after-requires is-digit-requires returns-2)
+    tie.close (tie.spec returns byte-after-requires code-requires returns-2)

@@ -6,12 +6,11 @@ use borrow.Author.Tests.{eq-eqb, ne-eqb}
 use Rattle.text.specs.Bytes.{nameByte}
 use Rattle.text.proofs.Laws.{run-within}
 use Rattle.elements.proofs.ElementLaws.{named-name, named-word, named-barred}
-use borrow.Author.Needs.{needs}
 use Rattle.elements.proofs.name_element.Statement.{statement}
 use Rattle.elements.proofs.name_element.Tie as tie
 
 name-end-requires : tie.Need-name-end-requires
-name-end-requires c κs = search needs
+name-end-requires c κs = c .before .before .pre .0
 
 sub-word-number : tie.Need-sub-word-number
 sub-word-number c = search needs
@@ -21,7 +20,7 @@ part-word-number-start c = search needs
 
 part-word-number-end : tie.Need-part-word-number-end
 part-word-number-end c =
-    let a = c .before .before .args in
+    let a = c .before .before .before .args in
     omega (arith, run-within nameByte (a .text .now) (a .first) (omega arith))
 
 word-number-requires : tie.Need-word-number-requires

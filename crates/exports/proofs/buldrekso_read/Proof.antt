@@ -2,7 +2,6 @@
 use borrow.Author.Needs.{needs}
 use lib.ListN.{length}
 use Rattle.exports.proofs.Laws.{count-small}
-use borrow.Author.Needs.{needs}
 use Rattle.exports.proofs.buldrekso_read.Statement.{statement}
 use Rattle.exports.proofs.buldrekso_read.Tie as tie
 

@@ -7,17 +7,17 @@ use mathlib.Core.Bool.{Bool, false, _||_, or-false, or-true}
 use Prim.Native.Nat.{_+_, _-_, _≤_}
 use lib.ListN.{length, drop}
 use Rattle.gaps.specs.Gaps.{inBlock}
-use Rattle.gaps.proofs.GapLaws.{block-past, block-stray, block-line-end, block-more, block-star, block-star-last, block-close}
+use Rattle.gaps.proofs.GapLaws.{block-past, block-quiet, block-stray, block-line-end, block-more, block-star, block-star-last, block-close}
 use Rattle.gaps.proofs.block_comment.Statement.{statement}
 use Rattle.gaps.proofs.block_comment.Tie as tie
 
 abbrev Inv-loop : tie.InvT-loop
-Inv-loop text slash lined₀ i₀ lined i =
+Inv-loop codes text slash lined₀ i₀ lined i =
     (slash + 2 ≤ i)
     × ((newline : Bool) → inBlock slash (slash + 2) newline false (drop (slash + 2) text) ≡ inBlock slash i (newline || lined) false (drop i text))
 
 abbrev μ-loop : tie.MeasureT-loop
-μ-loop text slash lined₀ i₀ lined i = length text - i
+μ-loop codes text slash lined₀ i₀ lined i = length text - i
 
 add-i : tie.Need-add-i Inv-loop μ-loop
 add-i c = search needs
@@ -28,8 +28,8 @@ loop-holds c = (omega arith, λ newline. rw (or-false newline))
 shared-slice-read-b : tie.Need-shared-slice-read-b Inv-loop μ-loop
 shared-slice-read-b c = search needs
 
-inside-requires : tie.Need-inside-requires Inv-loop μ-loop
-inside-requires c κs = search needs
+code-requires : tie.Need-code-requires Inv-loop μ-loop
+code-requires c κs = c .before .before .before .before .before .pre .0
 
 add-i-2 : tie.Need-add-i-2 Inv-loop μ-loop
 add-i-2 c = search needs
@@ -40,12 +40,7 @@ loop-less c = search needs
 loop-again : tie.Need-loop-again Inv-loop μ-loop
 loop-again c =
     let l = c .before .before .before .before in
-    (omega arith, λ newline. rw (or-true newline) (l .loop .inv .1 newline ∙ block-line-end _ _ _ _ (omega arith) (omega arith)))
-
-returns : tie.Need-returns Inv-loop μ-loop
-returns c =
-    let l = c .before .before .before .before .before in
-    (λ newline. l .loop .inv .1 newline ∙ block-stray _ _ _ _ (omega arith) (omega arith), tt)
+    (omega arith, λ newline. l .loop .inv .1 newline ∙ block-quiet _ _ _ _ (omega arith) (omega arith))
 
 add-i-3 : tie.Need-add-i-3 Inv-loop μ-loop
 add-i-3 c = search needs
@@ -55,11 +50,13 @@ loop-less-2 c = search needs
 
 loop-again-2 : tie.Need-loop-again-2 Inv-loop μ-loop
 loop-again-2 c =
-    let l = c .before .before .before .before .before .before in
-    (omega arith, λ newline. l .loop .inv .1 newline ∙ block-more _ _ _ _ (omega arith) (omega arith) (omega arith) (omega arith))
+    let l = c .before .before .before .before .before in
+    (omega arith, λ newline. rw (or-true newline) (l .loop .inv .1 newline ∙ block-line-end _ _ _ _ (omega arith) (omega arith)))
 
-add-if4 : tie.Need-add-if4 Inv-loop μ-loop
-add-if4 c = search needs
+returns : tie.Need-returns Inv-loop μ-loop
+returns c =
+    let l = c .before .before .before .before .before .before in
+    (λ newline. l .loop .inv .1 newline ∙ block-stray _ _ _ _ (omega arith) (omega arith), tt)
 
 add-i-4 : tie.Need-add-i-4 Inv-loop μ-loop
 add-i-4 c = search needs
@@ -70,13 +67,10 @@ loop-less-3 c = search needs
 loop-again-3 : tie.Need-loop-again-3 Inv-loop μ-loop
 loop-again-3 c =
     let l = c .before .before .before .before .before .before .before in
-    (omega arith, λ newline. l .loop .inv .1 newline ∙ block-star-last _ _ _ _ (omega arith) (omega arith) (omega arith) (omega arith) (omega arith))
+    (omega arith, λ newline. l .loop .inv .1 newline ∙ block-more _ _ _ _ (omega arith) (omega arith) (omega arith))
 
 add-if5 : tie.Need-add-if5 Inv-loop μ-loop
 add-if5 c = search needs
-
-shared-slice-read-if5 : tie.Need-shared-slice-read-if5 Inv-loop μ-loop
-shared-slice-read-if5 c = search needs
 
 add-i-5 : tie.Need-add-i-5 Inv-loop μ-loop
 add-i-5 c = search needs
@@ -86,16 +80,33 @@ loop-less-4 c = search needs
 
 loop-again-4 : tie.Need-loop-again-4 Inv-loop μ-loop
 loop-again-4 c =
-    let l = c .before .before .before .before .before .before .before .before .before in
-    (omega arith, λ newline. l .loop .inv .1 newline ∙ block-star _ _ _ _ (omega arith) (omega arith) (omega arith) (omega arith) (omega arith))
+    let l = c .before .before .before .before .before .before .before .before in
+    (omega arith, λ newline. l .loop .inv .1 newline ∙ block-star-last _ _ _ _ (omega arith) (omega arith) (omega arith) (omega arith))
 
-add-t11 : tie.Need-add-t11 Inv-loop μ-loop
-add-t11 c = search needs
+add-if6 : tie.Need-add-if6 Inv-loop μ-loop
+add-if6 c = search needs
+
+shared-slice-read-if6 : tie.Need-shared-slice-read-if6 Inv-loop μ-loop
+shared-slice-read-if6 c = search needs
+
+add-i-6 : tie.Need-add-i-6 Inv-loop μ-loop
+add-i-6 c = search needs
+
+loop-less-5 : tie.Need-loop-less-5 Inv-loop μ-loop
+loop-less-5 c = search needs
+
+loop-again-5 : tie.Need-loop-again-5 Inv-loop μ-loop
+loop-again-5 c =
+    let l = c .before .before .before .before .before .before .before .before .before .before in
+    (omega arith, λ newline. l .loop .inv .1 newline ∙ block-star _ _ _ _ (omega arith) (omega arith) (omega arith) (omega arith))
+
+add-t12 : tie.Need-add-t12 Inv-loop μ-loop
+add-t12 c = search needs
 
 returns-2 : tie.Need-returns-2 Inv-loop μ-loop
 returns-2 c =
-    let l = c .before .before .before .before .before .before .before .before .before in
-    (λ newline. l .loop .inv .1 newline ∙ block-close _ _ _ _ (omega arith) (omega arith) (omega arith) (omega arith) (omega arith) (omega arith), omega arith)
+    let l = c .before .before .before .before .before .before .before .before .before .before in
+    (λ newline. l .loop .inv .1 newline ∙ block-close _ _ _ _ (omega arith) (omega arith) (omega arith) (omega arith) (omega arith), omega arith)
 
 returns-3 : tie.Need-returns-3 Inv-loop μ-loop
 returns-3 c = (λ newline. c .before .loop .inv .1 newline ∙ block-past _ _ _ _ (c .loop-test .left), tt)
@@ -109,23 +120,26 @@ block-comment-spec =
     add-i
     loop-holds
     shared-slice-read-b
-    inside-requires
+    code-requires
     add-i-2
     loop-less
     loop-again
-    returns
     add-i-3
     loop-less-2
     loop-again-2
-    add-if4
+    returns
     add-i-4
     loop-less-3
     loop-again-3
     add-if5
-    shared-slice-read-if5
     add-i-5
     loop-less-4
     loop-again-4
-    add-t11
+    add-if6
+    shared-slice-read-if6
+    add-i-6
+    loop-less-5
+    loop-again-5
+    add-t12
     returns-2
     returns-3)

@@ -6,24 +6,22 @@ use mathlib.Core.Bool.{false}
 use Prim.Native.Nat.{_-_}
 use lib.ListN.{length, drop}
 use Rattle.gaps.specs.Gaps.{gap}
-use Rattle.gaps.proofs.GapLaws.{gap-past, gap-blank, gap-line-end, gap-other, gap-no-comment, gap-comment, gap-fault}
+use Rattle.text.proofs.CodeLaws.{code-line-end, code-no-line-end, code-blank, code-no-blank}
+use Rattle.gaps.proofs.GapLaws.{gap-past, gap-space, gap-over-slash, gap-blank, gap-line-end, gap-other, gap-no-comment, gap-comment, gap-fault}
 use Rattle.gaps.proofs.gap_from.Statement.{statement}
 use Rattle.gaps.proofs.gap_from.Tie as tie
 
 abbrev Inv-loop : tie.InvT-loop
-Inv-loop text from newline₀ i₀ newline i = gap from false (drop from text) ≡ gap i newline (drop i text)
+Inv-loop codes text from newline₀ i₀ newline i = gap from false (drop from text) ≡ gap i newline (drop i text)
 
 abbrev μ-loop : tie.MeasureT-loop
-μ-loop text from newline₀ i₀ newline i = length text - i
+μ-loop codes text from newline₀ i₀ newline i = length text - i
 
 loop-holds : tie.Need-loop-holds Inv-loop μ-loop
 loop-holds c = refl
 
 shared-slice-read-b : tie.Need-shared-slice-read-b Inv-loop μ-loop
 shared-slice-read-b c = search needs
-
-is-blank-requires : tie.Need-is-blank-requires Inv-loop μ-loop
-is-blank-requires c κs = search needs
 
 add-i : tie.Need-add-i Inv-loop μ-loop
 add-i c = search needs
@@ -33,11 +31,16 @@ loop-less c = search needs
 
 loop-again : tie.Need-loop-again Inv-loop μ-loop
 loop-again c =
-    let l = c .before .before .before .before in
-    l .loop .inv ∙ gap-blank _ _ _ (omega arith) (sym (c .before .is-blank .ensures) ∙ c .if1 .taken)
+    let l = c .before .before .before in
+    l .loop .inv ∙ gap-space _ _ _ (omega arith) (omega arith)
 
-is-line-end-requires : tie.Need-is-line-end-requires Inv-loop μ-loop
-is-line-end-requires c κs = search needs
+returns : tie.Need-returns Inv-loop μ-loop
+returns c =
+    let l = c .before .before .before .before in
+    sym (l .loop .inv ∙ gap-over-slash _ _ _ (omega arith) (omega arith))
+
+code-requires : tie.Need-code-requires Inv-loop μ-loop
+code-requires c κs = c .before .before .before .before .before .before .before .pre
 
 add-i-2 : tie.Need-add-i-2 Inv-loop μ-loop
 add-i-2 c = search needs
@@ -48,42 +51,42 @@ loop-less-2 c = search needs
 loop-again-2 : tie.Need-loop-again-2 Inv-loop μ-loop
 loop-again-2 c =
     let l = c .before .before .before .before .before .before in
-    l .loop .inv ∙ gap-line-end _ _ _ (omega arith) (sym (c .before .is-line-end .ensures) ∙ c .if2 .taken)
+    l .loop .inv ∙ gap-blank _ _ _ (omega arith) (code-blank _ (omega arith))
 
-returns : tie.Need-returns Inv-loop μ-loop
-returns c =
+add-i-3 : tie.Need-add-i-3 Inv-loop μ-loop
+add-i-3 c = search needs
+
+loop-less-3 : tie.Need-loop-less-3 Inv-loop μ-loop
+loop-less-3 c = search needs
+
+loop-again-3 : tie.Need-loop-again-3 Inv-loop μ-loop
+loop-again-3 c =
     let l = c .before .before .before .before .before .before .before in
+    l .loop .inv ∙ gap-line-end _ _ _ (omega arith) (code-line-end _ (omega arith))
+
+returns-2 : tie.Need-returns-2 Inv-loop μ-loop
+returns-2 c =
+    let l = c .before .before .before .before .before .before .before .before in
     sym
     (l .loop .inv
     ∙ gap-other _ _ _ (omega arith)
-    (sym (c .before .before .before .before .is-blank .ensures) ∙ c .before .before .before .if1 .left)
-    (sym (c .before .before .is-line-end .ensures) ∙ c .before .if2 .left)
-    (c .if3 .taken))
+    (code-no-blank _ (omega arith))
+    (code-no-line-end _ (omega arith))
+    (c .if5 .taken))
 
 comment-at-requires : tie.Need-comment-at-requires Inv-loop μ-loop
-comment-at-requires c κs = search needs
+comment-at-requires c κs = (c .before .before .before .before .before .before .before .before .before .before .before .pre, omega arith, omega arith)
 
 enum-told : tie.Need-enum-told Inv-loop μ-loop
 enum-told c = search needs
 
-returns-2 : tie.Need-returns-2 Inv-loop μ-loop
-returns-2 c =
-    let l = c .before .before .before .before .before .before .before .before .before .before in
+returns-3 : tie.Need-returns-3 Inv-loop μ-loop
+returns-3 c =
+    let l = c .before .before .before .before .before .before .before .before .before .before .before in
     sym (l .loop .inv ∙ gap-no-comment _ _ _ _ (c .before .before .comment-at .ensures .0 (l .loop .newline)) (c .enum-told .given .1))
 
 enum-known-comment : tie.Need-enum-known-comment Inv-loop μ-loop
 enum-known-comment c = search needs
-
-loop-less-3 : tie.Need-loop-less-3 Inv-loop μ-loop
-loop-less-3 c =
-    let onward = rw (c .before .before .comment .given .1) at (c .before .before .before .before .comment-at .ensures .1) in
-    omega arith
-
-loop-again-3 : tie.Need-loop-again-3 Inv-loop μ-loop
-loop-again-3 c =
-    let l = c .before .before .before .before .before .before .before .before .before .before .before .before in
-    let known = c .before .before .before .before .comment-at .ensures .0 (l .loop .newline) in
-    rw (c .if4 .taken) (rw (c .if4 .taken) at (l .loop .inv ∙ gap-comment _ _ _ _ known _ _ (c .before .before .comment .given .1)))
 
 loop-less-4 : tie.Need-loop-less-4 Inv-loop μ-loop
 loop-less-4 c =
@@ -92,21 +95,32 @@ loop-less-4 c =
 
 loop-again-4 : tie.Need-loop-again-4 Inv-loop μ-loop
 loop-again-4 c =
-    let l = c .before .before .before .before .before .before .before .before .before .before .before .before in
+    let l = c .before .before .before .before .before .before .before .before .before .before .before .before .before in
     let known = c .before .before .before .before .comment-at .ensures .0 (l .loop .newline) in
-    rw (c .if4 .left) at (l .loop .inv ∙ gap-comment _ _ _ _ known _ _ (c .before .before .comment .given .1))
+    rw (c .if6 .taken) (rw (c .if6 .taken) at (l .loop .inv ∙ gap-comment _ _ _ _ known _ _ (c .before .before .comment .given .1)))
+
+loop-less-5 : tie.Need-loop-less-5 Inv-loop μ-loop
+loop-less-5 c =
+    let onward = rw (c .before .before .comment .given .1) at (c .before .before .before .before .comment-at .ensures .1) in
+    omega arith
+
+loop-again-5 : tie.Need-loop-again-5 Inv-loop μ-loop
+loop-again-5 c =
+    let l = c .before .before .before .before .before .before .before .before .before .before .before .before .before in
+    let known = c .before .before .before .before .comment-at .ensures .0 (l .loop .newline) in
+    rw (c .if6 .left) at (l .loop .inv ∙ gap-comment _ _ _ _ known _ _ (c .before .before .comment .given .1))
 
 enum-known-comment-2 : tie.Need-enum-known-comment-2 Inv-loop μ-loop
 enum-known-comment-2 c = search needs
 
-returns-3 : tie.Need-returns-3 Inv-loop μ-loop
-returns-3 c =
-    let l = c .before .before .before .before .before .before .before .before .before .before .before in
+returns-4 : tie.Need-returns-4 Inv-loop μ-loop
+returns-4 c =
+    let l = c .before .before .before .before .before .before .before .before .before .before .before .before in
     let known = c .before .before .before .comment-at .ensures .0 (l .loop .newline) in
     sym (l .loop .inv ∙ gap-fault _ _ _ _ known _ _ (c .before .comment2 .given .1))
 
-returns-4 : tie.Need-returns-4 Inv-loop μ-loop
-returns-4 c = sym (c .before .loop .inv ∙ gap-past _ _ _ (c .loop-test .left))
+returns-5 : tie.Need-returns-5 Inv-loop μ-loop
+returns-5 c = sym (c .before .loop .inv ∙ gap-past _ _ _ (c .loop-test .left))
 
 pub gap-from-spec : {M : Type 1} → statement M
 gap-from-spec =
@@ -116,23 +130,26 @@ gap-from-spec =
     μ-loop
     loop-holds
     shared-slice-read-b
-    is-blank-requires
     add-i
     loop-less
     loop-again
-    is-line-end-requires
+    returns
+    code-requires
     add-i-2
     loop-less-2
     loop-again-2
-    returns
-    comment-at-requires
-    enum-told
-    returns-2
-    enum-known-comment
+    add-i-3
     loop-less-3
     loop-again-3
+    returns-2
+    comment-at-requires
+    enum-told
+    returns-3
+    enum-known-comment
     loop-less-4
     loop-again-4
+    loop-less-5
+    loop-again-5
     enum-known-comment-2
-    returns-3
-    returns-4)
+    returns-4
+    returns-5)

@@ -12,10 +12,10 @@ use Rattle.gaps.proofs.line_comment.Statement.{statement}
 use Rattle.gaps.proofs.line_comment.Tie as tie
 
 abbrev Inv-loop : tie.InvT-loop
-Inv-loop text slash i₀ i = (slash + 2 ≤ i) × ((newline : Bool) → inLine (slash + 2) newline (drop (slash + 2) text) ≡ inLine i newline (drop i text))
+Inv-loop codes text slash i₀ i = (slash + 2 ≤ i) × ((newline : Bool) → inLine (slash + 2) newline (drop (slash + 2) text) ≡ inLine i newline (drop i text))
 
 abbrev μ-loop : tie.MeasureT-loop
-μ-loop text slash i₀ i = length text - i
+μ-loop codes text slash i₀ i = length text - i
 
 add-i : tie.Need-add-i Inv-loop μ-loop
 add-i c = search needs
@@ -26,18 +26,8 @@ loop-holds c = (omega arith, λ newline. refl)
 shared-slice-read-b : tie.Need-shared-slice-read-b Inv-loop μ-loop
 shared-slice-read-b c = search needs
 
-inside-requires : tie.Need-inside-requires Inv-loop μ-loop
-inside-requires c κs = search needs
-
-returns : tie.Need-returns Inv-loop μ-loop
-returns c =
-    let l = c .before .before .before .before in
-    (λ newline. rw (or-false newline) (l .loop .inv .1 newline ∙ line-ends _ _ newline (omega arith) (omega arith)), l .loop .inv .0)
-
-returns-2 : tie.Need-returns-2 Inv-loop μ-loop
-returns-2 c =
-    let l = c .before .before .before .before .before in
-    (λ newline. l .loop .inv .1 newline ∙ newline-stray _ _ newline (omega arith) (omega arith), tt)
+code-requires : tie.Need-code-requires Inv-loop μ-loop
+code-requires c κs = c .before .before .before .before .before .pre .0
 
 add-i-2 : tie.Need-add-i-2 Inv-loop μ-loop
 add-i-2 c = search needs
@@ -47,8 +37,18 @@ loop-less c = search needs
 
 loop-again : tie.Need-loop-again Inv-loop μ-loop
 loop-again c =
+    let l = c .before .before .before .before in
+    (omega arith, λ newline. l .loop .inv .1 newline ∙ newline-more _ _ newline (omega arith) (omega arith))
+
+returns : tie.Need-returns Inv-loop μ-loop
+returns c =
     let l = c .before .before .before .before .before in
-    (omega arith, λ newline. l .loop .inv .1 newline ∙ newline-more _ _ newline (omega arith) (omega arith) (omega arith))
+    (λ newline. rw (or-false newline) (l .loop .inv .1 newline ∙ line-ends _ _ newline (omega arith) (omega arith)), l .loop .inv .0)
+
+returns-2 : tie.Need-returns-2 Inv-loop μ-loop
+returns-2 c =
+    let l = c .before .before .before .before .before in
+    (λ newline. l .loop .inv .1 newline ∙ newline-stray _ _ newline (omega arith) (omega arith), tt)
 
 returns-3 : tie.Need-returns-3 Inv-loop μ-loop
 returns-3 c =
@@ -66,10 +66,10 @@ line-comment-spec =
     add-i
     loop-holds
     shared-slice-read-b
-    inside-requires
-    returns
-    returns-2
+    code-requires
     add-i-2
     loop-less
     loop-again
+    returns
+    returns-2
     returns-3)

@@ -28,13 +28,13 @@ use Rattle.levels.proofs.statements.Kinds as statements-kinds
 use Rattle.levels.proofs.+expression+function+group+level+statements.Lts-statements as statements-lts
 use Rattle.controls.proofs.ends.ends.Reads as ends-reads
 use Rattle.controls.proofs.inside_of.Reads as inside-of-reads
-use Rattle.controls.proofs.row.Reads as row-reads
+use Rattle.rows.proofs.row.Reads as row-reads
 use Rattle.controls.proofs.stand.Reads as stand-reads
-use Rattle.frames.proofs.affect.Reads as affect-reads
-use Rattle.frames.proofs.close.Reads as close-reads
+use Rattle.effects.proofs.affect.Reads as affect-reads
+use Rattle.groups.proofs.close.Reads as close-reads
 use Rattle.frames.proofs.empty.Reads as empty-reads
 use Rattle.frames.proofs.ended.Reads as ended-reads
-use Rattle.frames.proofs.entered.Reads as entered-reads
+use Rattle.effects.proofs.entered.Reads as entered-reads
 use Rattle.frames.proofs.ready.Reads as ready-reads
 use Rattle.segments.proofs.class_at.Reads as class-at-reads
 use Rattle.segments.proofs.closer_at.Reads as closer-at-reads

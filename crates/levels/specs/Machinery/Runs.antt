@@ -30,7 +30,7 @@ use Rattle.grammar.specs.Machinery.Machine.{
 }
 use Rattle.controls.specs.Machinery.Numbers.{settingBy, insideBy}
 use Rattle.controls.specs.Machinery.Steps.{isEnd}
-use Rattle.waiting.specs.Machinery.Written.{putSyntax}
+use Rattle.records.specs.Machinery.Written.{putSyntax}
 use Rattle.waiting.specs.Machinery.Waiting.{width}
 use Rattle.frames.specs.Machinery.Stands.{Kept}
 use Rattle.frames.specs.Machinery.Effects.{ofParameter}

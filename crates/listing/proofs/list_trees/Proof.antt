@@ -2,7 +2,7 @@
 use borrow.Author.Needs.{needs}
 use native.Mathlib.Omega.{arith}
 use lib.ListN.{length}
-use Rattle.reader.specs.Read.{readingFor}
+use Rattle.reading.specs.Read.{readingFor}
 use Rattle.listing.proofs.ListingLaws.{trees-within, whole-printed}
 use Rattle.listing.proofs.list_trees.Statement.{statement}
 use Rattle.listing.proofs.list_trees.Tie as tie

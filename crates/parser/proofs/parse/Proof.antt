@@ -6,7 +6,7 @@ use Rattle.parser.proofs.parse.Tie as tie
 use mathlib.Core.Path.{ap, _∙_}
 use native.Mathlib.Omega.{arith}
 use lib.ListN.{replicate}
-use Rattle.parser.proofs.JudgedLaws.{read-done, front-fine, answers-refused, not-read, judged-refused, judged-accepted}
+use Rattle.parser.proofs.ParseLaws.{read-done, front-fine, answers-refused, not-read, judged-refused, judged-accepted}
 
 read-requires : tie.Need-read-requires
 read-requires c κs = search needs

@@ -4,8 +4,9 @@ use mathlib.Core.Path.{_≡_}
 use Prim.Native.Nat.{_+_, _-_, _*_, _≤_}
 use native.Mathlib.Omega.{arith}
 use lib.ListN.{length, take, drop}
-use Rattle.printing.specs.Printed.{line, lines}
-use Rattle.printing.proofs.WritingLaws.{Left, left-less, left-none}
+use Rattle.writing.specs.Numbers.{line}
+use Rattle.printing.specs.Printed.{lines}
+use Rattle.writing.proofs.WritingLaws.{Left, left-less, left-none}
 use Rattle.printing.proofs.PrintedLaws.{lines-none, lines-step, cells-left}
 use Rattle.printing.proofs.put_lines.Statement.{statement}
 use Rattle.printing.proofs.put_lines.Tie as tie

@@ -3,8 +3,9 @@ use borrow.Author.Needs.{needs}
 use mathlib.Core.List.{[], _∷_, _++_}
 use native.Mathlib.Omega.{arith}
 use Rattle.text.specs.Quoted.{byte}
-use Rattle.printing.specs.Printed.{decimal, lines}
-use Rattle.printing.proofs.WritingLaws.{adds-both}
+use Rattle.writing.specs.Numbers.{decimal}
+use Rattle.printing.specs.Printed.{lines}
+use Rattle.writing.proofs.WritingLaws.{adds-both}
 use Rattle.printing.proofs.PrintedLaws.{listed-is, listed-length}
 use Rattle.printing.proofs.put_listed.Statement.{statement}
 use Rattle.printing.proofs.put_listed.Tie as tie

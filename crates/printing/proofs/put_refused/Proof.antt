@@ -2,8 +2,8 @@
 use borrow.Author.Needs.{needs}
 use mathlib.Core.List.{[], _∷_, _++_}
 use Rattle.text.specs.Quoted.{byte, bytes}
-use Rattle.printing.specs.Printed.{decimal}
-use Rattle.printing.proofs.WritingLaws.{adds-both}
+use Rattle.writing.specs.Numbers.{decimal}
+use Rattle.writing.proofs.WritingLaws.{adds-both}
 use Rattle.printing.proofs.PrintedLaws.{refusal-is, refusal-length}
 use Rattle.printing.proofs.put_refused.Statement.{statement}
 use Rattle.printing.proofs.put_refused.Tie as tie

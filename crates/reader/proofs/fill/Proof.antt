@@ -14,7 +14,7 @@ start-requires c κs = search needs
 
 read-on-requires : tie.Need-read-on-requires
 read-on-requires c κs =
-    (c .before .before .before .before .before .before .before .pre .0, λ n. record { room-is = c .before .before .before .room-for .ensures; stack-is = c .before .before .before .before .before .before .before .pre .1; represented = c .start .ensures recordIndex _; first = refl })
+    (c .before .before .before .before .before .before .before .before .pre .0, c .before .before .before .before .before .before .before .before .pre .1, λ n. record { room-is = c .before .before .before .room-for .ensures; stack-is = c .before .before .before .before .before .before .before .before .pre .2; represented = c .start .ensures recordIndex _; first = refl })
 
 enum-known-turn : tie.Need-enum-known-turn
 enum-known-turn c = search needs

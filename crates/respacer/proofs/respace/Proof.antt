@@ -5,7 +5,6 @@ use native.Mathlib.Omega.{arith}
 use mathlib.Core.Path.{ap, _∙_}
 use lib.ListN.{replicate}
 use Rattle.respacer.proofs.LoopLaws.{respace-long, written-full, written-fits, respace-denies}
-use borrow.Author.Needs.{needs}
 use Rattle.respacer.proofs.respace.Statement.{statement}
 use Rattle.respacer.proofs.respace.Tie as tie
 
@@ -22,8 +21,14 @@ returns c =
     respace-long (a .text .now) (a .output .now) _ (c .before .before .before .before .if1 .taken) (c .before .before .clear .ensures) in
     (p .0, p .1, same-tells (p .0))
 
+codes-requires : tie.Need-codes-requires
+codes-requires c κs = search needs
+
 slice-aggregate-write-text : tie.Need-slice-aggregate-write-text
 slice-aggregate-write-text c = search needs
+
+slice-aggregate-write-text-2 : tie.Need-slice-aggregate-write-text-2
+slice-aggregate-write-text-2 c = search needs
 
 write-text-requires : tie.Need-write-text-requires
 write-text-requires c κs = search needs
@@ -39,7 +44,7 @@ same-length-2 c = search needs
 
 returns-2 : tie.Need-returns-2
 returns-2 c =
-    let a = c .before .before .before .before .before .before .before .before .before .before .before .before .before .before .before .before .before .args in
+    let a = c .before .before .before .before .before .before .before .before .before .before .before .before .before .before .before .before .before .before .before .args in
     let t = rw (c .before .before .before .before .before .before .answer .given .1) at (c .before .before .before .before .before .before .before .before .before .before .before .write-text .ensures) in
     let same = c .before .before .before .before .before .before .before .before .before .before .output2 .given in
     let p =
@@ -57,7 +62,7 @@ same-length-3 c = search needs
 
 returns-3 : tie.Need-returns-3
 returns-3 c =
-    let a = c .before .before .before .before .before .before .before .before .before .before .before .before .before .args in
+    let a = c .before .before .before .before .before .before .before .before .before .before .before .before .before .before .before .args in
     let t = rw (c .before .before .answer .given .1) at (c .before .before .before .before .before .before .before .write-text .ensures) in
     let same = c .before .before .before .before .before .before .output2 .given in
     let p =
@@ -69,7 +74,7 @@ same-length-4 c = search needs
 
 returns-4 : tie.Need-returns-4
 returns-4 c =
-    let a = c .before .before .before .before .before .before .before .before .before .before .before .before .before .before .before .before .args in
+    let a = c .before .before .before .before .before .before .before .before .before .before .before .before .before .before .before .before .before .before .args in
     let t = rw (c .before .before .before .before .before .answer2 .given .1) at (c .before .before .before .before .before .before .before .before .before .before .write-text .ensures) in
     let same = c .before .before .before .before .before .before .before .before .before .output2 .given in
     let p =
@@ -83,7 +88,9 @@ respace-spec =
     clear-requires
     same-length
     returns
+    codes-requires
     slice-aggregate-write-text
+    slice-aggregate-write-text-2
     write-text-requires
     enum-known-answer
     clear-requires-2

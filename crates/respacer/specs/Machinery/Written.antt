@@ -8,7 +8,7 @@ use Rattle.rule.specs.Levels.{Levels, wholeText, inside}
 use Rattle.prefix.specs.Reading.{Step, stop, more, Reading, accepted, refused}
 use Rattle.prefix.specs.Machinery.Represents.{Represents}
 use Rattle.prefix.specs.declared.State.{State}
-use Rattle.reader.specs.Machinery.Turns.{openerPlace}
+use Rattle.turns.specs.Machinery.Turns.{openerPlace}
 use Rattle.spacing.specs.Respaced.{addElement, addTrees, respaced}
 use Rattle.spacing.specs.Machinery.Over.{over}
 use Rattle.respacer.specs.declared.Wrote.{Wrote}

@@ -1,8 +1,9 @@
 -- `number_at` is `numberFrom`: what follows the number settles it.
 use borrow.Author.Needs.{needs}
-use mathlib.Core.Path.{sym, _∙_}
+use native.Mathlib.Omega.{arith}
+use mathlib.Core.Path.{sym}
+use Rattle.text.proofs.CodeLaws.{code-name, code-no-name}
 use Rattle.literals.proofs.NumberLaws.{number-past, number-last, number-ends, number-named, number-dotted}
-use borrow.Author.Needs.{needs}
 use Rattle.literals.proofs.numbers.number_at.Statement.{statement}
 use Rattle.literals.proofs.numbers.number_at.Tie as tie
 
@@ -10,18 +11,18 @@ returns : tie.Need-returns
 returns c = sym (number-past _ _ (c .if1 .taken))
 
 number-end-requires : tie.Need-number-end-requires
-number-end-requires c κs = search needs
+number-end-requires c κs = (c .before .before .before .pre, omega arith)
 
 shared-slice-read-b : tie.Need-shared-slice-read-b
 shared-slice-read-b c = search needs
 
-is-name-byte-requires : tie.Need-is-name-byte-requires
-is-name-byte-requires c κs = search needs
+code-requires : tie.Need-code-requires
+code-requires c κs = c .before .before .before .before .before .before .pre
 
 returns-2 : tie.Need-returns-2
 returns-2 c =
     let f = c .before .before .before .before in
-    sym (number-named _ _ _ (f .number-end .ensures) (sym (c .before .is-name-byte .ensures) ∙ c .if3 .taken))
+    sym (number-named _ _ _ (f .number-end .ensures) (code-name _ (omega arith)))
 
 returns-3 : tie.Need-returns-3
 returns-3 c =
@@ -31,7 +32,7 @@ returns-3 c =
 returns-4 : tie.Need-returns-4
 returns-4 c =
     let f = c .before .before .before .before .before in
-    sym (number-ends _ _ _ (f .number-end .ensures) (sym (c .before .before .is-name-byte .ensures) ∙ c .before .if3 .left) (c .if4 .left))
+    sym (number-ends _ _ _ (f .number-end .ensures) (code-no-name _ (omega arith)) (c .if4 .left))
 
 returns-5 : tie.Need-returns-5
 returns-5 c = sym (number-last _ _ _ (c .before .number-end .ensures) (c .if2 .left))
@@ -43,7 +44,7 @@ number-at-spec =
     returns
     number-end-requires
     shared-slice-read-b
-    is-name-byte-requires
+    code-requires
     returns-2
     returns-3
     returns-4

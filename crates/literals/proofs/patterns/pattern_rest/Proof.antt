@@ -8,15 +8,15 @@ use Prim.Native.Nat.{_-_}
 use lib.ListN.{length, drop}
 use Rattle.literals.specs.Patterns.{patternRest}
 use Rattle.literals.specs.declared.Literal.{Literal}
-use Rattle.literals.proofs.PatternLaws.{pattern-past, pattern-newline, pattern-stray, pattern-taken, pattern-backslash, pattern-class, pattern-close, pattern-more}
+use Rattle.literals.proofs.PatternLaws.{pattern-past, pattern-quiet, pattern-newline, pattern-stray, pattern-taken, pattern-backslash, pattern-class, pattern-close, pattern-more}
 use Rattle.literals.proofs.patterns.pattern_rest.Statement.{statement}
 use Rattle.literals.proofs.patterns.pattern_rest.Tie as tie
 
 abbrev Inv-loop : tie.InvT-loop
-Inv-loop text first from class₀ taken₀ i₀ class taken i = patternRest first false false from (drop from text) ≡ patternRest first class taken i (drop i text)
+Inv-loop codes text first from class₀ taken₀ i₀ class taken i = patternRest first false false from (drop from text) ≡ patternRest first class taken i (drop i text)
 
 abbrev μ-loop : tie.MeasureT-loop
-μ-loop text first from class₀ taken₀ i₀ class taken i = length text - i
+μ-loop codes text first from class₀ taken₀ i₀ class taken i = length text - i
 
 loop-holds : tie.Need-loop-holds Inv-loop μ-loop
 loop-holds c = refl
@@ -24,18 +24,8 @@ loop-holds c = refl
 shared-slice-read-b : tie.Need-shared-slice-read-b Inv-loop μ-loop
 shared-slice-read-b c = search needs
 
-inside-requires : tie.Need-inside-requires Inv-loop μ-loop
-inside-requires c κs = search needs
-
-returns : tie.Need-returns Inv-loop μ-loop
-returns c =
-    let l = c .before .before .before .before in
-    sym (l .loop .inv ∙ pattern-newline _ _ _ (omega arith) _ _ (omega arith))
-
-returns-2 : tie.Need-returns-2 Inv-loop μ-loop
-returns-2 c =
-    let l = c .before .before .before .before .before in
-    sym (l .loop .inv ∙ pattern-stray _ _ _ (omega arith) _ _ (omega arith))
+code-requires : tie.Need-code-requires Inv-loop μ-loop
+code-requires c κs = c .before .before .before .before .before .pre
 
 add-i : tie.Need-add-i Inv-loop μ-loop
 add-i c = search needs
@@ -45,8 +35,18 @@ loop-less c = search needs
 
 loop-again : tie.Need-loop-again Inv-loop μ-loop
 loop-again c =
+    let l = c .before .before .before .before in
+    l .loop .inv ∙ pattern-quiet _ _ _ (omega arith) (omega arith) _ _
+
+returns : tie.Need-returns Inv-loop μ-loop
+returns c =
+    let l = c .before .before .before .before .before in
+    sym (l .loop .inv ∙ pattern-newline _ _ _ (omega arith) _ _ (omega arith))
+
+returns-2 : tie.Need-returns-2 Inv-loop μ-loop
+returns-2 c =
     let l = c .before .before .before .before .before .before in
-    rw (c .if3 .taken) at (l .loop .inv) ∙ pattern-taken _ _ _ (omega arith) (omega arith) (omega arith) _
+    sym (l .loop .inv ∙ pattern-stray _ _ _ (omega arith) _ _ (omega arith))
 
 add-i-2 : tie.Need-add-i-2 Inv-loop μ-loop
 add-i-2 c = search needs
@@ -57,7 +57,7 @@ loop-less-2 c = search needs
 loop-again-2 : tie.Need-loop-again-2 Inv-loop μ-loop
 loop-again-2 c =
     let l = c .before .before .before .before .before .before .before in
-    rw (c .before .if3 .left) at (l .loop .inv) ∙ pattern-backslash _ _ _ (omega arith) (omega arith) (omega arith) _ (omega arith)
+    rw (c .if4 .taken) at (l .loop .inv) ∙ pattern-taken _ _ _ (omega arith) (omega arith) _
 
 add-i-3 : tie.Need-add-i-3 Inv-loop μ-loop
 add-i-3 c = search needs
@@ -68,23 +68,7 @@ loop-less-3 c = search needs
 loop-again-3 : tie.Need-loop-again-3 Inv-loop μ-loop
 loop-again-3 c =
     let l = c .before .before .before .before .before .before .before .before in
-    rw (c .before .before .if3 .left)
-    (rw (c .before .before .if3 .left, c .if5 .taken) at (l .loop .inv)
-    ∙ pattern-class _ _ _ (omega arith) (omega arith) (omega arith) (omega arith))
-
-add-name-end : tie.Need-add-name-end Inv-loop μ-loop
-add-name-end c = search needs
-
-name-end-requires : tie.Need-name-end-requires Inv-loop μ-loop
-name-end-requires c κs = search needs
-
-returns-3 : tie.Need-returns-3 Inv-loop μ-loop
-returns-3 c =
-    let l = c .before .before .before .before .before .before .before .before .before .before in
-    sym
-    (rw (c .before .before .before .before .if3 .left, c .before .before .if5 .left) at (l .loop .inv)
-    ∙ pattern-close _ _ _ (omega arith) (omega arith) (omega arith) (omega arith) (omega arith)
-    ∙ ap Literal.Ends (sym (c .name-end .ensures)))
+    rw (c .before .if4 .left) at (l .loop .inv) ∙ pattern-backslash _ _ _ (omega arith) (omega arith) _ (omega arith)
 
 add-i-4 : tie.Need-add-i-4 Inv-loop μ-loop
 add-i-4 c = search needs
@@ -95,9 +79,36 @@ loop-less-4 c = search needs
 loop-again-4 : tie.Need-loop-again-4 Inv-loop μ-loop
 loop-again-4 c =
     let l = c .before .before .before .before .before .before .before .before .before in
-    rw (c .before .before .before .if3 .left)
-    (rw (c .before .before .before .if3 .left, c .before .if5 .left) at (l .loop .inv)
-    ∙ pattern-more _ _ _ (omega arith) (omega arith) (omega arith) (omega arith) (omega arith))
+    rw (c .before .before .if4 .left)
+    (rw (c .before .before .if4 .left, c .if6 .taken) at (l .loop .inv)
+    ∙ pattern-class _ _ _ (omega arith) (omega arith) (omega arith))
+
+add-name-end : tie.Need-add-name-end Inv-loop μ-loop
+add-name-end c = search needs
+
+name-end-requires : tie.Need-name-end-requires Inv-loop μ-loop
+name-end-requires c κs = c .before .before .before .before .before .before .before .before .before .before .before .before .before .pre
+
+returns-3 : tie.Need-returns-3 Inv-loop μ-loop
+returns-3 c =
+    let l = c .before .before .before .before .before .before .before .before .before .before .before in
+    sym
+    (rw (c .before .before .before .before .if4 .left, c .before .before .if6 .left) at (l .loop .inv)
+    ∙ pattern-close _ _ _ (omega arith) (omega arith) (omega arith) (omega arith)
+    ∙ ap Literal.Ends (sym (c .name-end .ensures)))
+
+add-i-5 : tie.Need-add-i-5 Inv-loop μ-loop
+add-i-5 c = search needs
+
+loop-less-5 : tie.Need-loop-less-5 Inv-loop μ-loop
+loop-less-5 c = search needs
+
+loop-again-5 : tie.Need-loop-again-5 Inv-loop μ-loop
+loop-again-5 c =
+    let l = c .before .before .before .before .before .before .before .before .before .before in
+    rw (c .before .before .before .if4 .left)
+    (rw (c .before .before .before .if4 .left, c .before .if6 .left) at (l .loop .inv)
+    ∙ pattern-more _ _ _ (omega arith) (omega arith) (omega arith) (omega arith))
 
 returns-4 : tie.Need-returns-4 Inv-loop μ-loop
 returns-4 c = sym (c .before .loop .inv ∙ pattern-past _ _ _ _ _ (c .loop-test .left))
@@ -110,22 +121,25 @@ pattern-rest-spec =
     μ-loop
     loop-holds
     shared-slice-read-b
-    inside-requires
-    returns
-    returns-2
+    code-requires
     add-i
     loop-less
     loop-again
+    returns
+    returns-2
     add-i-2
     loop-less-2
     loop-again-2
     add-i-3
     loop-less-3
     loop-again-3
-    add-name-end
-    name-end-requires
-    returns-3
     add-i-4
     loop-less-4
     loop-again-4
+    add-name-end
+    name-end-requires
+    returns-3
+    add-i-5
+    loop-less-5
+    loop-again-5
     returns-4)

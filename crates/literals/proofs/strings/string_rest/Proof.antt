@@ -6,15 +6,15 @@ use mathlib.Core.Bool.{false}
 use Prim.Native.Nat.{_-_}
 use lib.ListN.{length, drop}
 use Rattle.literals.specs.Strings.{stringRest}
-use Rattle.literals.proofs.StringLaws.{string-past, string-newline, string-stray, string-taken, string-close, string-more}
+use Rattle.literals.proofs.StringLaws.{string-past, string-quiet, string-newline, string-stray, string-taken, string-close, string-more}
 use Rattle.literals.proofs.strings.string_rest.Statement.{statement}
 use Rattle.literals.proofs.strings.string_rest.Tie as tie
 
 abbrev Inv-loop : tie.InvT-loop
-Inv-loop text q first from taken₀ i₀ taken i = stringRest q first false from (drop from text) ≡ stringRest q first taken i (drop i text)
+Inv-loop codes text q first from taken₀ i₀ taken i = stringRest q first false from (drop from text) ≡ stringRest q first taken i (drop i text)
 
 abbrev μ-loop : tie.MeasureT-loop
-μ-loop text q first from taken₀ i₀ taken i = length text - i
+μ-loop codes text q first from taken₀ i₀ taken i = length text - i
 
 loop-holds : tie.Need-loop-holds Inv-loop μ-loop
 loop-holds c = refl
@@ -22,18 +22,8 @@ loop-holds c = refl
 shared-slice-read-b : tie.Need-shared-slice-read-b Inv-loop μ-loop
 shared-slice-read-b c = search needs
 
-inside-requires : tie.Need-inside-requires Inv-loop μ-loop
-inside-requires c κs = search needs
-
-returns : tie.Need-returns Inv-loop μ-loop
-returns c =
-    let l = c .before .before .before .before in
-    sym (l .loop .inv ∙ string-newline _ _ _ _ (omega arith) _ (omega arith))
-
-returns-2 : tie.Need-returns-2 Inv-loop μ-loop
-returns-2 c =
-    let l = c .before .before .before .before .before in
-    sym (l .loop .inv ∙ string-stray _ _ _ _ (omega arith) _ (omega arith))
+code-requires : tie.Need-code-requires Inv-loop μ-loop
+code-requires c κs = c .before .before .before .before .before .pre .0
 
 add-i : tie.Need-add-i Inv-loop μ-loop
 add-i c = search needs
@@ -43,16 +33,18 @@ loop-less c = search needs
 
 loop-again : tie.Need-loop-again Inv-loop μ-loop
 loop-again c =
+    let l = c .before .before .before .before in
+    l .loop .inv ∙ string-quiet _ _ _ _ (omega arith) (c .before .before .before .before .before .before .before .pre .1) (omega arith) _
+
+returns : tie.Need-returns Inv-loop μ-loop
+returns c =
+    let l = c .before .before .before .before .before in
+    sym (l .loop .inv ∙ string-newline _ _ _ _ (omega arith) _ (omega arith))
+
+returns-2 : tie.Need-returns-2 Inv-loop μ-loop
+returns-2 c =
     let l = c .before .before .before .before .before .before in
-    rw (c .if3 .taken) at (l .loop .inv) ∙ string-taken _ _ _ _ (omega arith) (omega arith) (omega arith)
-
-add-t13 : tie.Need-add-t13 Inv-loop μ-loop
-add-t13 c = search needs
-
-returns-3 : tie.Need-returns-3 Inv-loop μ-loop
-returns-3 c =
-    let l = c .before .before .before .before .before .before .before in
-    sym (rw (c .before .if3 .left) at (l .loop .inv) ∙ string-close _ _ _ _ (omega arith) (omega arith) (omega arith) (omega arith))
+    sym (l .loop .inv ∙ string-stray _ _ _ _ (omega arith) _ (omega arith))
 
 add-i-2 : tie.Need-add-i-2 Inv-loop μ-loop
 add-i-2 c = search needs
@@ -63,7 +55,26 @@ loop-less-2 c = search needs
 loop-again-2 : tie.Need-loop-again-2 Inv-loop μ-loop
 loop-again-2 c =
     let l = c .before .before .before .before .before .before .before in
-    rw (c .before .if3 .left) at (l .loop .inv) ∙ string-more _ _ _ _ (omega arith) (omega arith) (omega arith) (omega arith)
+    rw (c .if4 .taken) at (l .loop .inv) ∙ string-taken _ _ _ _ (omega arith) (omega arith)
+
+add-t14 : tie.Need-add-t14 Inv-loop μ-loop
+add-t14 c = search needs
+
+returns-3 : tie.Need-returns-3 Inv-loop μ-loop
+returns-3 c =
+    let l = c .before .before .before .before .before .before .before .before in
+    sym (rw (c .before .if4 .left) at (l .loop .inv) ∙ string-close _ _ _ _ (omega arith) (omega arith) (omega arith))
+
+add-i-3 : tie.Need-add-i-3 Inv-loop μ-loop
+add-i-3 c = search needs
+
+loop-less-3 : tie.Need-loop-less-3 Inv-loop μ-loop
+loop-less-3 c = search needs
+
+loop-again-3 : tie.Need-loop-again-3 Inv-loop μ-loop
+loop-again-3 c =
+    let l = c .before .before .before .before .before .before .before .before in
+    rw (c .before .if4 .left) at (l .loop .inv) ∙ string-more _ _ _ _ (omega arith) (omega arith) (omega arith)
 
 returns-4 : tie.Need-returns-4 Inv-loop μ-loop
 returns-4 c = sym (c .before .loop .inv ∙ string-past _ _ _ _ _ (c .loop-test .left))
@@ -76,15 +87,18 @@ string-rest-spec =
     μ-loop
     loop-holds
     shared-slice-read-b
-    inside-requires
-    returns
-    returns-2
+    code-requires
     add-i
     loop-less
     loop-again
-    add-t13
-    returns-3
+    returns
+    returns-2
     add-i-2
     loop-less-2
     loop-again-2
+    add-t14
+    returns-3
+    add-i-3
+    loop-less-3
+    loop-again-3
     returns-4)

@@ -1,0 +1,4 @@
+pub mod Formed
+pub mod LengthFirst
+pub mod Numbered
+pub mod Theorems

@@ -1,0 +1,273 @@
+// The prefix rule by a summary of the trees before on a level. The code of a level is that of its summary, which is below 64,
+// and 64 times the kind of its group, which is below 32 (0 for the whole text). From 2,048 up there is room for a count, which is
+// 0 so far.
+ghost use mathlib.Core.Path.{_≡_};
+ghost use Prim.Native.Nat.{_/_, _≤_};
+ghost use mathlib.Core.Bool.{Bool};
+ghost use Rattle.rule.specs.Levels.{isExpression};
+ghost use Rattle.rule.specs.Rule.{comma, wordClass, signClass, elementClass, groupClass};
+ghost use Rattle.rule.specs.Machinery.Summary.{summaries};
+ghost use Rattle.rule.specs.Machinery.LevelCodes.{levelIn, slashByLevel, nameByLevel, statedByLevel, braceByLevel, levelAfterName, levelAfterParens, levelAfterBlock, levelAfter};
+use elements::Element;
+use elements::Stated;
+
+// The kinds of groups, as document 01 and request U2 number those of tree records.
+pub const PARENS: u32 = 7;
+
+pub const OBJECT: u32 = 8;
+
+pub const BLOCK: u32 = 9;
+
+pub const BRACKETS: u32 = 10;
+
+// Room for summaries in the code of a level.
+pub const SUMMARIES: u32 = 64;
+
+// The summaries: after an operand; after the name, the parentheses and the word of a function, in a statement's place and in
+// an operand's; and by what stands last. A slash divides after the first five.
+const OPERAND: u32 = 0;
+
+const STATEMENT_FUNCTION_NAME: u32 = 1;
+
+const OPERAND_FUNCTION_NAME: u32 = 2;
+
+const STATEMENT_FUNCTION_PARENS: u32 = 3;
+
+const OPERAND_FUNCTION_PARENS: u32 = 4;
+
+const STATEMENT_FUNCTION: u32 = 5;
+
+const OPERAND_FUNCTION: u32 = 6;
+
+pub const NOTHING: u32 = 7;
+
+const AFTER_OPERATOR: u32 = 8;
+
+const AFTER_COLON: u32 = 9;
+
+const AFTER_OTHER: u32 = 10;
+
+const AFTER_RETURN: u32 = 11;
+
+const AFTER_IF: u32 = 12;
+
+const AFTER_IF_PARENS: u32 = 13;
+
+const AFTER_BLOCK: u32 = 14;
+
+const AFTER_DOT: u32 = 15;
+
+// Where a property of an object is due: nothing or a comma is last.
+const PROPERTY_DUE: u32 = 16;
+
+// The level where nothing stands yet in a group of a kind.
+pub fn level_in(kind: u32) -> u32
+    requires { ⌜ kind ≤ 10 ⌝ }
+    ensures { λ r. ⌜ r ≡ levelIn kind ⌝ }
+{
+    if kind == OBJECT {
+        return SUMMARIES * OBJECT + PROPERTY_DUE;
+    }
+    SUMMARIES * kind + NOTHING
+}
+
+// Whether a slash opens a regular expression.
+fn slash_opens(level: u32) -> bool
+    ensures { λ r. ⌜ r ≡ slashByLevel level ⌝ }
+{
+    OPERAND_FUNCTION_PARENS < level % SUMMARIES
+}
+
+// Whether a reserved word is a name: after a dot, and where a property is due.
+fn names_word(level: u32) -> bool
+    ensures { λ r. ⌜ r ≡ nameByLevel level ⌝ }
+{
+    AFTER_DOT <= level % SUMMARIES
+}
+
+// What is stated of the next element of a level.
+pub fn stated_by(level: u32) -> Stated
+    ensures { λ r. ⌜ r ≡ statedByLevel level ⌝ }
+{
+    Stated {
+        pattern: slash_opens(level),
+        name: names_word(level),
+    }
+}
+
+// Whether a level is an expression level.
+fn is_expression(level: u32) -> bool
+    ensures { λ r. ⌜ r ≡ isExpression (level / summaries) ⌝ }
+{
+    let kind = level / SUMMARIES;
+    if kind == PARENS {
+        return true;
+    }
+    if kind == OBJECT {
+        return true;
+    }
+    kind == BRACKETS
+}
+
+// Whether a brace opens an object, where a line end lies before it or not.
+pub fn brace_opens(level: u32, newline: bool) -> bool
+    ensures { λ r. ⌜ r ≡ braceByLevel level newline ⌝ }
+{
+    let summary = level % SUMMARIES;
+    if summary == AFTER_OPERATOR {
+        return true;
+    }
+    if summary == PROPERTY_DUE {
+        return true;
+    }
+    if summary == AFTER_RETURN {
+        return !newline;
+    }
+    if summary == NOTHING {
+        return is_expression(level);
+    }
+    if summary == AFTER_COLON {
+        return is_expression(level);
+    }
+    false
+}
+
+// The level after a name.
+fn after_name(level: u32) -> u32
+    ensures { λ r. ⌜ r ≡ levelAfterName level ⌝ }
+{
+    let base = SUMMARIES * (level / SUMMARIES);
+    let summary = level % SUMMARIES;
+    if summary == STATEMENT_FUNCTION {
+        return base + STATEMENT_FUNCTION_NAME;
+    }
+    if summary == OPERAND_FUNCTION {
+        return base + OPERAND_FUNCTION_NAME;
+    }
+    base + OPERAND
+}
+
+// The level after a reserved word.
+fn after_word(level: u32, which: u32, newline: bool) -> u32
+    ensures { λ r. ⌜ r ≡ levelAfter level (wordClass which) newline ⌝ }
+{
+    let base = SUMMARIES * (level / SUMMARIES);
+    if which == words::RETURN {
+        return base + AFTER_RETURN;
+    }
+    if which == words::FUNCTION {
+        if brace_opens(level, newline) {
+            return base + OPERAND_FUNCTION;
+        }
+        return base + STATEMENT_FUNCTION;
+    }
+    if which == words::IF {
+        return base + AFTER_IF;
+    }
+    base + AFTER_OTHER
+}
+
+// The level after a comma: outside an object it is like an operator.
+fn after_comma(level: u32) -> u32
+    ensures { λ r. ⌜ ((newline : Bool) → r ≡ levelAfter level comma newline) ⌝ }
+{
+    let kind = level / SUMMARIES;
+    if kind == OBJECT {
+        return SUMMARIES * OBJECT + PROPERTY_DUE;
+    }
+    SUMMARIES * kind + AFTER_OPERATOR
+}
+
+// The level after a sign.
+fn after_sign(level: u32, which: u32) -> u32
+    ensures { λ r. ⌜ ((newline : Bool) → r ≡ levelAfter level (signClass which) newline) ⌝ }
+{
+    let base = SUMMARIES * (level / SUMMARIES);
+    if which == signs::SLASH {
+        return base + AFTER_OPERATOR;
+    }
+    if which == signs::PLUS {
+        return base + AFTER_OPERATOR;
+    }
+    if which == signs::ASSIGN {
+        return base + AFTER_OPERATOR;
+    }
+    if which == signs::COLON {
+        return base + AFTER_COLON;
+    }
+    if which == signs::DOT {
+        return base + AFTER_DOT;
+    }
+    if which == signs::COMMA {
+        return after_comma(level);
+    }
+    base + AFTER_OTHER
+}
+
+// The level after an element that is no delimiter.
+pub fn after_leaf(level: u32, e: Element) -> u32
+    ensures { λ r. ⌜ r ≡ levelAfter level (elementClass e) (e .newline) ⌝ }
+{
+    if e.kind == elements::NAME {
+        return after_name(level);
+    }
+    if e.kind == elements::WORD {
+        return after_word(level, e.which, e.newline);
+    }
+    if e.kind == elements::SIGN {
+        return after_sign(level, e.which);
+    }
+    SUMMARIES * (level / SUMMARIES) + OPERAND
+}
+
+// The level after `( )`.
+fn after_parens(level: u32) -> u32
+    ensures { λ r. ⌜ r ≡ levelAfterParens level ⌝ }
+{
+    let base = SUMMARIES * (level / SUMMARIES);
+    let summary = level % SUMMARIES;
+    if summary == AFTER_IF {
+        return base + AFTER_IF_PARENS;
+    }
+    if summary == STATEMENT_FUNCTION_NAME {
+        return base + STATEMENT_FUNCTION_PARENS;
+    }
+    if summary == OPERAND_FUNCTION_NAME {
+        return base + OPERAND_FUNCTION_PARENS;
+    }
+    if summary == STATEMENT_FUNCTION {
+        return base + STATEMENT_FUNCTION_PARENS;
+    }
+    if summary == OPERAND_FUNCTION {
+        return base + OPERAND_FUNCTION_PARENS;
+    }
+    base + OPERAND
+}
+
+// The level after a block.
+fn after_block(level: u32) -> u32
+    ensures { λ r. ⌜ r ≡ levelAfterBlock level ⌝ }
+{
+    let base = SUMMARIES * (level / SUMMARIES);
+    let summary = level % SUMMARIES;
+    if summary == OPERAND_FUNCTION_PARENS {
+        return base + OPERAND;
+    }
+    base + AFTER_BLOCK
+}
+
+// The level after a group of a kind.
+pub fn after_group(level: u32, kind: u32) -> u32
+    ensures { λ r. ⌜ ((newline : Bool) → r ≡ levelAfter level (groupClass kind) newline) ⌝ }
+{
+    if kind == PARENS {
+        return after_parens(level);
+    }
+    if kind == OBJECT {
+        return SUMMARIES * (level / SUMMARIES) + OPERAND;
+    }
+    if kind == BRACKETS {
+        return SUMMARIES * (level / SUMMARIES) + OPERAND;
+    }
+    after_block(level)
+}
