@@ -100,7 +100,7 @@ fn comment_at(codes: &[u8], text: &[u8], slash: usize) -> Comment
     Comment::Absent
 }
 
-// The gap from a place on.
+// The gap from a place on. A blank, and what is over `/`, is told before the table: these are met most.
 pub fn gap_from(codes: &[u8], text: &[u8], from: usize) -> Gap
     requires { ⌜ now codes ≡ byteCodes ⌝ }
     ensures { λ r. ⌜ r ≡ gap from false (drop from (now (text .entry))) ⌝ }
@@ -109,7 +109,6 @@ pub fn gap_from(codes: &[u8], text: &[u8], from: usize) -> Gap
     let mut i = from;
     while i < text.len() {
         let b = text[i];
-        // The bytes that are met most are told without the table.
         if b == b' ' {
             i += 1;
             continue;
