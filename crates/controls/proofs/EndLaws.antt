@@ -1,24 +1,15 @@
--- The classes that open a group are three, and those that end a level four; at any other class the entries for closers are passed over.
+-- The classes that end a level are four; at any other class the entries for closers are passed over.
 use mathlib.Core.Path.{_≡_, refl, sym, subst}
 use mathlib.Core.Bool.{Bool, true, false, _||_}
 use Prim.Native.Nat.{ℕ}
 use borrow.Author.Tests.{eqb-true}
 use lib.Dec.{T, eqb}
-use Rattle.grammar.specs.Tokens.{openParen, closeParen, openBrace, closeBrace, openBracket, closeBracket}
+use Rattle.grammar.specs.Tokens.{closeParen, closeBrace, closeBracket}
 use Rattle.grammar.specs.Machinery.Machine.{endOfText, Control, Action, fail}
 use Rattle.controls.specs.declared.Step.{Step}
 use Rattle.controls.specs.declared.Step.the-variants.{Fail}
-use Rattle.controls.specs.Machinery.Steps.{isOpener, isEnd, Means, means-end, means-fail}
-
--- what holds of the three openers holds of each class that opens a group
-pub at-openers : (P : ℕ → Type 0) → P openParen → P openBrace → P openBracket → (class : ℕ) → T (isOpener class) → P class
-at-openers P paren brace bracket class opens = go (eqb class openParen) (eqb class openBrace) (eqb class openBracket) refl refl refl opens
-  where
-    go : (a b c : Bool) → eqb class openParen ≡ a → eqb class openBrace ≡ b → eqb class openBracket ≡ c → T (a || (b || c)) → P class
-    go true b c d e f opens = rw (eqb-true class openParen d) paren
-    go false true c d e f opens = rw (eqb-true class openBrace e) brace
-    go false false true d e f opens = rw (eqb-true class openBracket f) bracket
-    go false false false d e f opens = absurd opens
+use Rattle.grammar.specs.Machinery.Classes.{isEnd}
+use Rattle.controls.specs.Machinery.Steps.{Means, means-end, means-fail}
 
 -- what holds of the four closers holds of each class that ends a level
 pub at-closers : (P : ℕ → Type 0) → P closeParen → P closeBrace → P closeBracket → P endOfText → (class : ℕ) → T (isEnd class) → P class

@@ -33,7 +33,8 @@ use Rattle.grammar.specs.Machinery.Machine.{
   row,
 }
 use Rattle.controls.specs.Machinery.Numbers.{settingBy, endingBy, controlBy}
-use Rattle.controls.specs.Machinery.Steps.{isEnd, Ends, ends-item, ends-items, goes-on}
+use Rattle.grammar.specs.Machinery.Classes.{isEnd}
+use Rattle.controls.specs.Machinery.Steps.{Ends, ends-item, ends-items, goes-on}
 use Rattle.controls.proofs.EndLaws.{at-closers}
 
 abbrev pub EndsAt : Control → ℕ → ℕ → Type 0

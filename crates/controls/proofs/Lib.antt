@@ -2,3 +2,4 @@ pub mod EndLaws
 pub mod StepLaws
 pub mod NumberLaws
 pub mod LevelEnds
+pub mod KeptLength

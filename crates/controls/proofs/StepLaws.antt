@@ -6,7 +6,8 @@ use Rattle.grammar.specs.Machinery.Machine.{Control, goto, push}
 use Rattle.controls.specs.Machinery.Numbers.{controlBy, controlOf, effectBy, closingBy, insideBy}
 use Rattle.controls.specs.declared.Control as code
 use Rattle.controls.specs.declared.Step.the-variants.{Goto, Push}
-use Rattle.controls.specs.Machinery.Steps.{isSingle, isOpener, Leads, Spans, Means, means-goto, means-push}
+use Rattle.grammar.specs.Machinery.Classes.{isSingle, isOpener}
+use Rattle.controls.specs.Machinery.Steps.{Leads, Spans, Means, means-goto, means-push}
 
 -- where the code stands, by the number of its place
 pub at-place : (at : code.Control) (place : ℕ) → at .place ≡ place → controlOf at ≡ controlBy place (at .ending) (at .setting) (at .flag)

@@ -1,3 +1,4 @@
 -- How code and proofs hold what the definitions speak of.
 pub mod Numbers
 pub mod Steps
+pub mod Written

@@ -4,7 +4,8 @@ ghost use mathlib.Core.Path.{_≡_};
 ghost use lib.Dec.{T};
 ghost use Rattle.grammar.specs.Machinery.Machine.{statementDue, operandDone, parameterDue, look, listCloser, row};
 ghost use Rattle.controls.specs.Machinery.Numbers.{settingBy, itemsBy, endingBy, controlOf};
-ghost use Rattle.controls.specs.Machinery.Steps.{isEnd, Settled, Ends};
+ghost use Rattle.grammar.specs.Machinery.Classes.{isEnd};
+ghost use Rattle.controls.specs.Machinery.Steps.{Settled, Ends};
 use crate::BLOCK;
 use crate::BODY;
 use crate::BY_ARGUMENT;
@@ -17,7 +18,7 @@ use crate::OPERAND_DONE;
 use crate::PARAMETER_DUE;
 use crate::PARAMETER_NAMED;
 use crate::STATEMENT_DUE;
-use crate::classes;
+use grammar::tokens;
 
 // Whether a level may end at a closer, or at the text's end, where the machine stands.
 pub fn ends(at: Control, closer: u32) -> bool
@@ -29,7 +30,7 @@ pub fn ends(at: Control, closer: u32) -> bool
         OPERAND_DONE => expression_ends(at.ending, at.setting, closer),
         ITEM_DUE => closer == list_closer(at.ending),
         PARAMETER_DUE => parameters_end(at.flag, closer),
-        PARAMETER_NAMED => closer == classes::CLOSE_PAREN,
+        PARAMETER_NAMED => closer == tokens::CLOSE_PAREN,
         _ => false,
     }
 }
@@ -41,10 +42,10 @@ fn statements_end(setting: u32, must: bool, closer: u32) -> bool
         return false;
     }
     if setting == BODY {
-        return closer == classes::CLOSE_BRACE || closer == classes::END_OF_TEXT;
+        return closer == tokens::CLOSE_BRACE || closer == tokens::END_OF_TEXT;
     }
     if setting == BLOCK {
-        return closer == classes::CLOSE_BRACE;
+        return closer == tokens::CLOSE_BRACE;
     }
     false
 }
@@ -54,12 +55,12 @@ fn list_closer(ending: u32) -> u32
     ensures { λ r. ⌜ r ≡ listCloser (itemsBy ending) ⌝ }
 {
     if ending == BY_ARGUMENT {
-        return classes::CLOSE_PAREN;
+        return tokens::CLOSE_PAREN;
     }
     if ending == BY_ELEMENT {
-        return classes::CLOSE_BRACKET;
+        return tokens::CLOSE_BRACKET;
     }
-    classes::CLOSE_BRACE
+    tokens::CLOSE_BRACE
 }
 
 // No parameter needs to come.
@@ -69,17 +70,17 @@ fn parameters_end(must: bool, closer: u32) -> bool
     if must {
         return false;
     }
-    closer == classes::CLOSE_PAREN
+    closer == tokens::CLOSE_PAREN
 }
 
 fn expression_ends(ending: u32, setting: u32, closer: u32) -> bool
     ensures { λ r. ⌜ ((target : Bool) → T (isEnd closer) → Ends closer (operandDone (endingBy ending setting) target) r (look closer (row (operandDone (endingBy ending setting) target) false))) ⌝ }
 {
     if ending == BY_PAREN {
-        return closer == classes::CLOSE_PAREN;
+        return closer == tokens::CLOSE_PAREN;
     }
     if ending == BY_BRACKET {
-        return closer == classes::CLOSE_BRACKET;
+        return closer == tokens::CLOSE_BRACKET;
     }
     if BY_ARGUMENT <= ending {
         return closer == list_closer(ending);

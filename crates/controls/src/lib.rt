@@ -1,11 +1,15 @@
 // Where the token machine stands, and what it does: places and effects are named after those of grammar/specs/Machinery/Machine.antt
 // where there is one, so that the two can be laid side by side; specs/Machinery/Numbers.antt ties them.
 ghost use mathlib.Core.Path.{_≡_};
+ghost use Rattle.grammar.specs.Grammar.{precedence};
 ghost use Rattle.grammar.specs.Machinery.Machine.{behindStatement};
+ghost use Rattle.grammar.specs.Machinery.Classes.{isLeaf};
 ghost use Rattle.controls.specs.Machinery.Numbers.{settingBy, controlBy, controlOf, insideBy};
 
-pub mod classes;
 pub mod ends;
+pub mod records;
+
+use grammar::tokens;
 
 // Where the machine stands: the place in a form; what ends the expression; the setting of the statement; and whether the chain may yet
 // be assigned to, or whether a statement or a parameter must come.
@@ -165,4 +169,27 @@ pub fn inside_of(closing: u32) -> Control
         TO_INDEX => stand(OPERAND_DUE, BY_BRACKET, BODY, true),
         _ => stand(OPERAND_DUE, BY_PAREN, BODY, true),
     }
+}
+
+// How tight an operator binds; 0 for a class that is none.
+pub fn precedence(class: u32) -> u32
+    ensures { λ r. ⌜ r ≡ precedence class ⌝ }
+{
+    if class == tokens::DIVIDE {
+        return 2;
+    }
+    if class == tokens::PLUS {
+        return 1;
+    }
+    0
+}
+
+// Whether a token of a class is a part by itself: a name, number, string or regular expression.
+pub fn is_leaf(class: u32) -> bool
+    ensures { λ r. ⌜ r ≡ isLeaf class ⌝ }
+{
+    if class == 0 {
+        return false;
+    }
+    class <= tokens::PATTERN
 }

@@ -15,7 +15,7 @@ use Rattle.grammar.specs.Machinery.Machine as machine
 use Rattle.grammar.specs.Machinery.Machine.{Frame, frame, threshold, keep, endBareReturn, takeOperator, Control}
 use Rattle.controls.specs.Machinery.Numbers.{effectBy}
 use Rattle.controls.specs.Machinery.Steps.{Leads, to-name, to-leaf, to-function, to-declaration, to-return, to-label, to-bare-end, to-member, to-assign, to-operator, to-end, to-return-end, to-item-end}
-use Rattle.records.specs.Machinery.Written.{putRecord}
+use Rattle.controls.specs.Machinery.Written.{putRecord}
 use Rattle.waiting.specs.Machinery.Waiting.{width, binding, Backed, Closes, Completes, stackWith, waitingOne, madeOne, withHeld}
 use Rattle.waiting.specs.declared.Level.{Level}
 use Rattle.waiting.proofs.HoldLaws.{backed, uppermost}

@@ -2,32 +2,19 @@
 ghost use mathlib.Core.Path.{_≡_};
 ghost use Prim.Native.Nat.{_+_};
 ghost use Rattle.grammar.specs.Machinery.Machine.{threshold};
-ghost use Rattle.waiting.specs.Machinery.Waiting.{withHeld};
-ghost use Rattle.frames.specs.Machinery.Effects.{MayAffect, Affects, MayEnter, Enters};
-use controls::classes;
+ghost use Rattle.frames.specs.Machinery.Effects.{MayAffect, Affects};
+use controls::records;
+use grammar::tokens;
 use waiting::Level;
-
-// The level with a word or name held.
-fn holding(l: Level, word: usize) -> Level
-    ensures { λ r. ⌜ r ≡ withHeld word l ⌝ }
-{
-    Level {
-        count: l.count,
-        top: l.top,
-        floor: l.floor,
-        start: l.start,
-        held: word,
-    }
-}
 
 // How tight what waits must bind to be closed by an operator.
 fn binds(class: u32) -> u32
     ensures { λ r. ⌜ r ≡ threshold class + 2 ⌝ }
 {
-    if class == classes::ASSIGN {
+    if class == tokens::ASSIGN {
         return 3;
     }
-    classes::precedence(class) + 2
+    controls::precedence(class) + 2
 }
 
 // An operator behind an operand.
@@ -84,21 +71,12 @@ pub fn affect(
         controls::TAKE_MEMBER => waiting::made(l, records::MEMBER, mark, syntax),
         controls::TAKE_OPERATOR => operated(l, class, mark, waiting, syntax),
         controls::TAKE_LABEL => waiting::wait(l, records::LABEL, l.held, waiting),
-        controls::HOLD_WORD => holding(l, mark),
-        controls::HOLD_NAME => holding(l, mark),
+        controls::HOLD_WORD => waiting::holding(l, mark),
+        controls::HOLD_NAME => waiting::holding(l, mark),
         controls::START_RETURN => waiting::wait(l, records::FULL_RETURN, mark, waiting),
         controls::END_EXPRESSION => expression_ended(l, mark, waiting, syntax),
         controls::END_VALUE => waiting::completed(l, waiting, syntax),
         controls::END_BARE_RETURN => bare_return(l, waiting, syntax),
         _ => l,
     }
-}
-
-// Opens a nest, with its word held, where a statement of a setting is due.
-pub fn entered(l: Level, setting: u32, word: usize, waiting: &mut [u16], syntax: &[u32]) -> Level
-    requires { ⌜ MayEnter setting l (now waiting) (now syntax) ⌝ }
-    ensures { λ r. ⌜ Enters setting word l (now (waiting .entry)) (now (syntax .entry)) r (now (waiting .exit)) ⌝ }
-{
-    let inside = waiting::wait(l, waiting::NEST, setting as usize, waiting);
-    holding(inside, word)
 }

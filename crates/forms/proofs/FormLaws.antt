@@ -8,7 +8,7 @@ use borrow.Author.Tests.{ne-eqb, eqb-false}
 use lib.Dec.{T, eqb, leb, leb→le}
 use Rattle.grammar.specs.Tokens.{colon, openParen, openBrace, openBracket, functionWord}
 use Rattle.grammar.specs.Machinery.Machine.{Setting, Ending, statementDue, nameFirst, operandDone, takeLeaf, takeLabel, on, fail, goto, look, operand, noParameter, row}
-use Rattle.controls.specs.Machinery.Steps.{isLeaf, isEnd, isSingle}
+use Rattle.grammar.specs.Machinery.Classes.{isLeaf, isEnd, isSingle}
 use Rattle.controls.proofs.EndLaws.{NoCloser, at-closers}
 
 leaf-few : (class : ℕ) → isLeaf class ≡ true → (1 ≤ class) × (class ≤ 4)

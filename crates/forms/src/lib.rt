@@ -6,7 +6,8 @@ ghost use lib.Dec.{T};
 ghost use Rattle.grammar.specs.Grammar.{arrayElements};
 ghost use Rattle.grammar.specs.Machinery.Machine.{itemDue, operandIn, functionFirst, on, goto, push, look, names, operand, itemRow, row};
 ghost use Rattle.controls.specs.Machinery.Numbers.{itemsBy, endingBy, controlBy, effectBy, closingBy, insideBy};
-ghost use Rattle.controls.specs.Machinery.Steps.{isOpener, isSingle, Due, Leads, Spans, Means, Goes, Opens, SettledAt};
+ghost use Rattle.grammar.specs.Machinery.Classes.{isOpener, isSingle};
+ghost use Rattle.controls.specs.Machinery.Steps.{Due, Leads, Spans, Means, Goes, Opens, SettledAt};
 use controls::BODY;
 use controls::BY_ARGUMENT;
 use controls::BY_ELEMENT;
@@ -44,8 +45,8 @@ use controls::TO_FUNCTION;
 use controls::TO_OBJECT;
 use controls::TO_PARAMETER;
 use controls::TO_PARENS;
-use controls::classes;
 use controls::stand;
+use grammar::tokens;
 
 // Goes on to where the parts say.
 pub fn goto(place: u32, ending: u32, setting: u32, flag: bool, effect: u32) -> Step
@@ -65,19 +66,19 @@ pub fn push(place: u32, ending: u32, setting: u32, flag: bool, closing: u32) -> 
 pub fn operand_row(class: u32, ending: u32, setting: u32, target: bool) -> Step
     ensures { λ r. ⌜ ((from : Rattle.grammar.specs.Machinery.Machine.Control) → Due from (endingBy ending setting) target → Means from class r (look class (operand (endingBy ending setting) target))) ⌝ }
 {
-    if classes::is_leaf(class) {
+    if controls::is_leaf(class) {
         return goto(OPERAND_DONE, ending, setting, target, TAKE_LEAF);
     }
-    if class == classes::OPEN_PAREN {
+    if class == tokens::OPEN_PAREN {
         return push(OPERAND_DONE, ending, setting, target, TO_PARENS);
     }
-    if class == classes::OPEN_BRACE {
+    if class == tokens::OPEN_BRACE {
         return push(OPERAND_DONE, ending, setting, target, TO_OBJECT);
     }
-    if class == classes::OPEN_BRACKET {
+    if class == tokens::OPEN_BRACKET {
         return push(OPERAND_DONE, ending, setting, target, TO_ARRAY);
     }
-    if class == classes::FUNCTION {
+    if class == tokens::FUNCTION {
         return goto(FUNCTION_FIRST, ending, setting, target, HOLD_WORD);
     }
     Step::Fail
@@ -105,10 +106,10 @@ fn only(
 fn only_names(class: u32, place: u32, ending: u32, setting: u32, flag: bool, effect: u32) -> Step
     ensures { λ r. ⌜ ((from : Rattle.grammar.specs.Machinery.Machine.Control) → Leads (effectBy effect class) from (controlBy place ending setting flag) → Means from class r (look class (names (goto (controlBy place ending setting flag) (effectBy effect class)) []))) ⌝ }
 {
-    if class == classes::NAME {
+    if class == tokens::NAME {
         return goto(place, ending, setting, flag, effect);
     }
-    if class == classes::WORD_NAME {
+    if class == tokens::WORD_NAME {
         return goto(place, ending, setting, flag, effect);
     }
     Step::Fail
@@ -136,7 +137,7 @@ fn opens(
 fn element_row(class: u32) -> Step
     ensures { λ r. ⌜ Means (itemDue arrayElements) class r (look class (itemRow arrayElements)) ⌝ }
 {
-    if class == classes::COMMA {
+    if class == tokens::COMMA {
         return goto(ITEM_DUE, BY_ELEMENT, BODY, true, KEEP);
     }
     operand_row(class, BY_ELEMENT, BODY, true)
@@ -163,7 +164,7 @@ pub fn form_row(place: u32, ending: u32, setting: u32, flag: bool, class: u32) -
         DOT_LAST => only_names(class, OPERAND_DONE, ending, setting, flag, TAKE_MEMBER),
         NAME_FIRST => only(
             class,
-            classes::COLON,
+            tokens::COLON,
             STATEMENT_DUE,
             BY_STATEMENT,
             setting,
@@ -172,7 +173,7 @@ pub fn form_row(place: u32, ending: u32, setting: u32, flag: bool, class: u32) -
         ),
         IF_FIRST => opens(
             class,
-            classes::OPEN_PAREN,
+            tokens::OPEN_PAREN,
             STATEMENT_DUE,
             BY_STATEMENT,
             IF_NEST,
@@ -182,7 +183,7 @@ pub fn form_row(place: u32, ending: u32, setting: u32, flag: bool, class: u32) -
         ITEM_DUE => item_row(class, ending),
         PROPERTY_NAMED => only(
             class,
-            classes::COLON,
+            tokens::COLON,
             OPERAND_DUE,
             BY_PROPERTY,
             BODY,
@@ -201,7 +202,7 @@ fn function_row(place: u32, ending: u32, setting: u32, flag: bool, class: u32) -
     match place {
         PARAMETER_DUE => only(
             class,
-            classes::NAME,
+            tokens::NAME,
             PARAMETER_NAMED,
             BY_PAREN,
             BODY,
@@ -210,7 +211,7 @@ fn function_row(place: u32, ending: u32, setting: u32, flag: bool, class: u32) -
         ),
         PARAMETER_NAMED => only(
             class,
-            classes::COMMA,
+            tokens::COMMA,
             PARAMETER_DUE,
             BY_PAREN,
             BODY,
@@ -220,7 +221,7 @@ fn function_row(place: u32, ending: u32, setting: u32, flag: bool, class: u32) -
         FUNCTION_FIRST => unnamed_row(ending, setting, flag, class),
         FUNCTION_NAMED => opens(
             class,
-            classes::OPEN_PAREN,
+            tokens::OPEN_PAREN,
             PARAMETER_PAST,
             ending,
             setting,
@@ -229,7 +230,7 @@ fn function_row(place: u32, ending: u32, setting: u32, flag: bool, class: u32) -
         ),
         PARAMETER_PAST => opens(
             class,
-            classes::OPEN_BRACE,
+            tokens::OPEN_BRACE,
             OPERAND_DONE,
             ending,
             setting,
@@ -244,12 +245,12 @@ fn function_row(place: u32, ending: u32, setting: u32, flag: bool, class: u32) -
 fn unnamed_row(ending: u32, setting: u32, flag: bool, class: u32) -> Step
     ensures { λ r. ⌜ Means (functionFirst (operandIn (endingBy ending setting) flag)) class r (look class (row (functionFirst (operandIn (endingBy ending setting) flag)) false)) ⌝ }
 {
-    if class == classes::NAME {
+    if class == tokens::NAME {
         return goto(FUNCTION_NAMED, ending, setting, flag, KEEP);
     }
     opens(
         class,
-        classes::OPEN_PAREN,
+        tokens::OPEN_PAREN,
         PARAMETER_PAST,
         ending,
         setting,
@@ -265,7 +266,7 @@ fn declared_row(place: u32, class: u32) -> Step
     match place {
         DECLARED_FIRST => only(
             class,
-            classes::NAME,
+            tokens::NAME,
             DECLARED_NAMED,
             BY_STATEMENT,
             BODY,
@@ -274,7 +275,7 @@ fn declared_row(place: u32, class: u32) -> Step
         ),
         DECLARED_NAMED => opens(
             class,
-            classes::OPEN_PAREN,
+            tokens::OPEN_PAREN,
             DECLARED_PAST,
             BY_STATEMENT,
             BODY,
@@ -283,7 +284,7 @@ fn declared_row(place: u32, class: u32) -> Step
         ),
         DECLARED_PAST => opens(
             class,
-            classes::OPEN_BRACE,
+            tokens::OPEN_BRACE,
             STATEMENT_DUE,
             BY_STATEMENT,
             BODY,

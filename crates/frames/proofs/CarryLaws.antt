@@ -10,7 +10,7 @@ use Rattle.grammar.specs.Grammar.{precedence}
 use Rattle.grammar.specs.Machinery.Machine as machine
 use Rattle.grammar.specs.Machinery.Machine.{Pending, pending, Frame, frame, wrap, behindStatement, toStatement, Control, nested}
 use Rattle.controls.specs.Machinery.Numbers.{settingBy}
-use Rattle.records.specs.Machinery.Written.{putRecord, putSyntax}
+use Rattle.controls.specs.Machinery.Written.{putRecord, putSyntax}
 use Rattle.waiting.specs.Machinery.Waiting.{width, binding, nestKind, Shut, shut, close, lefts, Stacked, bare, above, Holds, HoldsShut, Closes, Completes, stackWith, waitingOne, madeOne, withHeld, restarted}
 use Rattle.waiting.specs.declared.Level.{Level}
 use Rattle.waiting.proofs.HoldLaws.{start-le, bottom-top, floor-le, word-held, alone-held, uppermost, done-held, nest-done-held, left-held, taken-back-held}

@@ -49,7 +49,7 @@ use Rattle.grammar.specs.Machinery.Machine.{
   functionFirst,
 }
 use Rattle.controls.specs.Machinery.Steps.{Due, due-operand, due-value, due-item, due-statement, Leads, to-dot, to-hole, to-function-name, to-property, to-value, to-parameter, to-next-parameter}
-use Rattle.records.specs.Machinery.Written.{putRecord}
+use Rattle.controls.specs.Machinery.Written.{putRecord}
 use Rattle.waiting.specs.Machinery.Waiting.{width, binding, Closes, Completes, stackWith, waitingOne, madeOne, withHeld}
 use Rattle.waiting.specs.declared.Level.{Level}
 use Rattle.waiting.proofs.HoldLaws.{uppermost}

@@ -50,7 +50,7 @@ use Rattle.grammar.specs.Machinery.Machine.{
 use Rattle.controls.specs.Machinery.Numbers.{settingBy, endingBy, controlBy, controlOf}
 use Rattle.controls.specs.Machinery.Steps.{Settled, inGroup, Ends, ends-statements, ends-text, ends-expression, ends-item, ends-items, ends-no-parameter, ends-parameter}
 use Rattle.controls.specs.declared.Control as code
-use Rattle.records.specs.Machinery.Written.{putRecord}
+use Rattle.controls.specs.Machinery.Written.{putRecord}
 use Rattle.waiting.specs.Machinery.Waiting.{width, nestKind, Closes, Completes, stackWith, waitingOne, madeOne, withHeld}
 use Rattle.waiting.specs.declared.Level.{Level}
 use Rattle.frames.specs.Machinery.Stands.{some, Within, OneDone, Stands}

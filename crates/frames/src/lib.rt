@@ -6,7 +6,7 @@ ghost use Rattle.controls.specs.Machinery.Numbers.{controlOf};
 ghost use Rattle.waiting.specs.Machinery.Waiting.{Backed};
 ghost use Rattle.frames.specs.Machinery.Effects.{StandsSomewhere, Leaves, MayLeave, LeavesAll, MayName, Names, Readies, EndsLevel};
 use controls::Control;
-use controls::classes;
+use grammar::tokens;
 use waiting::Level;
 
 // Where the machine stands, and what its level has.
@@ -75,7 +75,7 @@ fn named(at: Control, l: Level, syntax: &mut [u32]) -> Standing
         at.setting,
         true,
     );
-    let level = waiting::made(l, classes::NAME, l.held, syntax);
+    let level = waiting::made(l, tokens::NAME, l.held, syntax);
     Standing {
         control: control,
         level: level,
@@ -88,7 +88,7 @@ pub fn ready(at: Control, class: u32, l: Level, waiting: &[u16], syntax: &mut [u
     ensures { λ r. ⌜ Readies at class l (now (waiting .entry)) (now (syntax .entry)) r (now (syntax .exit)) ⌝ }
 {
     if at.place == controls::NAME_FIRST {
-        if class == classes::COLON {
+        if class == tokens::COLON {
             return Standing {
                 control: at,
                 level: l,

@@ -9,9 +9,10 @@ use lib.Dec.{eqb, ltb}
 use lib.ListN.{length, getD, drop, drop-of-length-le, List·getD-eq-default}
 use Rattle.text.specs.Quoted.{byte}
 use Rattle.text.specs.Bytes.{blank, lineEnd, illegal}
-use Rattle.text.specs.Machinery.Codes.{turning, codeOf}
+use Rattle.text.specs.Machinery.Codes.{turning, codeOf, codeOver}
+use Rattle.text.specs.Runs.{run}
 use Rattle.text.proofs.Lists.{drop-at}
-use Rattle.text.proofs.CodeLaws.{code-passed, code-line-end, code-illegal, code-apart}
+use Rattle.text.proofs.CodeLaws.{code-passed, code-line-end, code-illegal, code-apart, over-passed}
 use Rattle.answers.specs.Faults.{stray, openComment}
 use Rattle.gaps.specs.Gaps.{gap, afterSlash, inLine, inBlock}
 use Rattle.gaps.specs.Machinery.Comments.{resumed, NotBefore}
@@ -109,7 +110,7 @@ module _ (s : List ℕ) (i : ℕ) (newline : Bool) where
         let f = code-illegal (getD s i 0) k in
         rw (drop-at s i h) (rw (f .0, f .1, inLine))
 
-    pub newline-more : 1 < codeOf (getD s i 0) → inLine i newline (drop i s) ≡ inLine (i + 1) newline (drop (i + 1) s)
+    newline-more : 1 < codeOf (getD s i 0) → inLine i newline (drop i s) ≡ inLine (i + 1) newline (drop (i + 1) s)
     unfolding inLine
     newline-more k =
         let f = code-passed (getD s i 0) k in
@@ -157,9 +158,18 @@ module _ (slash : ℕ) (s : List ℕ) (i : ℕ) (newline : Bool) where
         starred = rw (eq-eqb _ _ e) at passed
 
     -- a byte that does not turn
-    pub block-quiet : 2 < codeOf (getD s i 0) → inBlock slash i newline false (drop i s) ≡ inBlock slash (i + 1) newline false (drop (i + 1) s)
+    block-quiet : 2 < codeOf (getD s i 0) → inBlock slash i newline false (drop i s) ≡ inBlock slash (i + 1) newline false (drop (i + 1) s)
     unfolding turning
     block-quiet q = block-more (omega arith) (code-apart (getD s i 0) (byte "*") q refl)
+
+-- a run of bytes whose codes are over those at which a comment may do otherwise than go on
+pub line-passed : (s : List ℕ) (newline : Bool) (i end : ℕ) → end ≡ i + run (codeOver 1) (drop i s)
+    → inLine i newline (drop i s) ≡ inLine end newline (drop end s)
+line-passed s newline = over-passed 1 s (λ j. inLine j newline (drop j s)) (λ j. newline-more s j newline)
+
+pub block-passed : (slash : ℕ) (s : List ℕ) (newline : Bool) (i end : ℕ) → end ≡ i + run (codeOver 2) (drop i s)
+    → inBlock slash i newline false (drop i s) ≡ inBlock slash end newline false (drop end s)
+block-passed slash s newline = over-passed 2 s (λ j. inBlock slash j newline false (drop j s)) (λ j. block-quiet slash s j newline)
 
 -- a `*` at a place, and what follows it
 module _ (slash : ℕ) (s : List ℕ) (i : ℕ) (newline : Bool) (h : i < length s) (k : 1 < codeOf (getD s i 0)) (e : getD s i 0 ≡ byte "*") where

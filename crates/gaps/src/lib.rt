@@ -27,18 +27,11 @@ fn line_comment(codes: &[u8], text: &[u8], slash: usize) -> Comment
     requires { ⌜ (now codes ≡ byteCodes) × (slash + 1 < length (now text)) ⌝ }
     ensures { λ r. ⌜ ((newline : Bool) → inLine (slash + 2) newline (drop (slash + 2) (now (text .entry))) ≡ resumed (now (text .entry)) slash newline r) × NotBefore (slash + 2) r ⌝ }
 {
-    let mut i = slash + 2;
-    while i < text.len() {
-        let b = text[i];
-        let code = text::code(codes, b);
-        if text::LINE_END < code {
-            i += 1;
-            continue;
+    let i = runs::run_end(codes, text, slash + 2, text::LINE_END);
+    if i < text.len() {
+        if text::code(codes, text[i]) == text::ILLEGAL {
+            return Comment::Fault(STRAY, i);
         }
-        if code == text::LINE_END {
-            return Comment::Ends(i, false);
-        }
-        return Comment::Fault(STRAY, i);
     }
     Comment::Ends(i, false)
 }
@@ -51,12 +44,12 @@ fn block_comment(codes: &[u8], text: &[u8], slash: usize) -> Comment
     let mut lined = false;
     let mut i = slash + 2;
     while i < text.len() {
+        i = runs::run_end(codes, text, i, text::TURNING);
+        if text.len() <= i {
+            break;
+        }
         let b = text[i];
         let code = text::code(codes, b);
-        if text::TURNING < code {
-            i += 1;
-            continue;
-        }
         if code == text::LINE_END {
             lined = true;
             i += 1;

@@ -41,7 +41,7 @@ use Rattle.grammar.specs.Machinery.Machine.{
 }
 use Rattle.controls.specs.Machinery.Numbers.{closingBy}
 use Rattle.controls.specs.Machinery.Steps.{Due, Spans, past-parens, past-object, past-array, past-index, past-call, past-condition, past-parameter, past-unnamed, past-block, past-declaration, past-function}
-use Rattle.records.specs.Machinery.Written.{putRecord}
+use Rattle.controls.specs.Machinery.Written.{putRecord}
 use Rattle.waiting.specs.Machinery.Waiting.{width, binding, Backed, Completes, stackWith, waitingOne, madeOne}
 use Rattle.waiting.specs.declared.Level.{Level}
 use Rattle.waiting.proofs.HoldLaws.{backed}

@@ -8,61 +8,24 @@ use borrow.Author.Tests.{lt-ltb, ne-eqb}
 use lib.Dec.{T, ltb}
 use lib.ListN.{length}
 use Rattle.grammar.specs.Tokens.{Token, token, Spot}
-use Rattle.grammar.specs.Syntax.{Syntax, nil}
-use Rattle.grammar.specs.Grammar.{Items, callArguments, arrayElements, objectProperties, body, block}
-use Rattle.grammar.specs.Machinery.Machine.{
-  endOfText,
-  Frame,
-  frame,
-  empty,
-  heldWord,
-  Effect,
-  affect,
-  Closing,
-  toStatement,
-  close,
-  Control,
-  ifFirst,
-  operandDone,
-  itemDue,
-  Action,
-  fail,
-  goto,
-  push,
-  enter,
-  pop,
-  finish,
-  Value,
-  byStatement,
-  byReturn,
-  byParen,
-  byBracket,
-  byItem,
-  look,
-  row,
-  Open,
-  grouped,
-  nested,
-  dead,
-  live,
-  act,
-  run,
-}
+use Rattle.grammar.specs.Syntax.{nil}
+use Rattle.grammar.specs.Machinery.Machine.{endOfText, Frame, frame, empty, heldWord, Effect, affect, Closing, toStatement, close, Control, ifFirst, Action, fail, goto, push, enter, look, row, Open, grouped, nested, dead, live, act, run}
 use Rattle.grammar.proofs.Ran.{stays-dead}
 use Rattle.controls.specs.Machinery.Numbers.{controlOf}
-use Rattle.controls.specs.Machinery.Steps.{isOpener, isEnd, isSingle, Settled, Ends, ends-statements, ends-text, ends-expression, ends-item, ends-items, ends-no-parameter, ends-parameter}
+use Rattle.grammar.specs.Machinery.Classes.{isOpener, isEnd, isSingle}
+use Rattle.controls.specs.Machinery.Steps.{Settled}
 use Rattle.controls.specs.declared.Control as code
-use Rattle.controls.proofs.EndLaws.{at-openers}
-use Rattle.records.specs.Machinery.Written.{putSyntax}
+use Rattle.controls.specs.Machinery.Written.{putSyntax}
 use Rattle.waiting.specs.Machinery.Waiting.{width, bare}
 use Rattle.waiting.specs.declared.Level.{Level}
 use Rattle.frames.specs.Machinery.Stands.{Shaped, written, HeldAt, owed, Stands, no-operators, no-beginnings, below-none}
-use Rattle.frames.specs.Machinery.Effects.{Readies, Readied, EndsLevel, IsValue, is-popped, is-program, ofParameter}
-use Rattle.frames.proofs.ParameterLaws.{parameter-value}
+use Rattle.frames.specs.Machinery.Effects.{StandsSomewhere, Readies, Readied, ofParameter}
 use Rattle.frames.specs.declared.Standing.{Standing}
 use Rattle.segments.specs.Machinery.Segments.{Segment, inside, countOf, classAt, sizeAt, placeAt, lineAt, tokensAt, spotAt, closerSpot, Fine}
-use Rattle.segments.proofs.SegmentLaws.{element-then, group-then, end-then}
-use Rattle.levels.specs.Machinery.Runs.{closerToken, closedState, Through, Dies, MayRun, Begins, begins-statements, begins-expression, begins-index, begins-items, begins-parameter}
+use Rattle.segments.proofs.SegmentLaws.{at-openers, element-then, group-then, end-then}
+use Rattle.groups.specs.Machinery.Closers.{closerToken, pops-there, dies-there, AtCloser, ComesTo}
+use Rattle.groups.specs.declared.Parsed.{Parsed}
+use Rattle.levels.specs.Machinery.Runs.{Through, Ran, ran-through, ran-dead, MayRun, Begins, begins-statements, begins-expression, begins-index, begins-items, begins-parameter}
 
 -- where the run of a level is, before a record: what stands around it is behind the nests that are open on it
 pub record Underway (p : Segment) (from : Control) (count top : ℕ) (table before : List ℕ) (c : Control) (l : Level) (at : ℕ) (cells stack : List ℕ) : Type 0 where
@@ -75,6 +38,11 @@ pub record Underway (p : Segment) (from : Control) (count top : ℕ) (table befo
   pub low : count + top ≤ p .base
   pub deep : (p .base + countOf (p .cells)) * width ≤ length stack
   pub within : at ≤ countOf (p .cells)
+
+abbrev pub somewhere : {p : Segment} {from : Control} {count top : ℕ} {table before : List ℕ} {c : Control} {l : Level} {at : ℕ} {cells stack : List ℕ}
+    → Underway p from count top table before c l at cells stack → StandsSomewhere c l stack cells
+somewhere {count = count} {top = top} {table = table} {before = before} {at = at} h =
+    record { g = h .g; nests = h .nests; table = table; stack₀ = before; first = count; floor = top; passed = at; stands = h .stands }
 
 -- at a level's start nothing stands on it
 record Fresh (c : Control) : Type 0 where
@@ -269,7 +237,7 @@ module _ {p : Segment} (fine : Fine p) {from : Control} {count top : ℕ} {table
 
     -- it dies inside the group
     pub dies-inside : {place : ℕ}
-        → ((around : List Open) (mark : ℕ) (u : List Token) → run (live within empty around) (tokensAt (inside p at) 0 ++ (closerToken (class + 1) (inside p at) mark ∷ u)) ≡ dead place)
+        → ((around : List Open) (mark : ℕ) (u : List Token) → run (live within empty around) (tokensAt (inside p at) 0 ++ (closerToken (class + 1) (inside p at .close) mark ∷ u)) ≡ dead place)
         → (around : List Open) (u : List Token) → run (live from empty around) (tokensAt p 0 ++ u) ≡ dead place
     dies-inside dies around u =
         opened around u ∙ dies (grouped to closing (p .base + at) (h .g) ∷ (h .nests ++ around)) (p .base + at + sizeAt (p .cells) at) (rest u)
@@ -284,107 +252,27 @@ module _ {p : Segment} (fine : Fine p) {from : Control} {count top : ℕ} {table
       ∙ step-run c (h .g) (h .nests ++ around) class (spotAt p at) (t .0) entry
       ∙ stays-dead (placeAt (p .cells) (p .close) at) (t .0)
 
--- behind the last record, before the closer or the text's end
-pub record AtEnd (closer : ℕ) (p : Segment) (from : Control) (count top : ℕ) (table before : List ℕ) (c : Control) (l : Level) (cells stack : List ℕ) : Type 0 where
-  pub g : Frame
-  pub nests : List Open
-  pub passed : ℕ
-  pub runs : (around : List Open) (mark : ℕ) (u : List Token)
-      → run (live from empty around) (tokensAt p 0 ++ (closerToken closer p mark ∷ u)) ≡ run (live c g (nests ++ around)) (closerToken closer p mark ∷ u)
-  pub stands : Stands c g nests table before count top passed l stack cells
-  pub kind : ofParameter c ≡ ofParameter from
-  pub few : passed ≤ countOf (p .cells)
+-- behind the last record: what the level comes to at its closer is what was run
+module _ {p : Segment} {from : Control} {count top : ℕ} {table before : List ℕ} (control : code.Control) {l : Level} {at : ℕ} {cells stack : List ℕ}
+    (h : Underway p from count top table before (controlOf control) l at cells stack) (past : countOf (p .cells) ≤ at) (closer : ℕ) where
+  to-closer : (around : List Open) (mark : ℕ) (u : List Token)
+      → run (live from empty around) (tokensAt p 0 ++ (closerToken closer (p .close) mark ∷ u))
+      ≡ run (live (controlOf control) (h .g) (h .nests ++ around)) (closerToken closer (p .close) mark ∷ u)
+  to-closer around mark u =
+      h .runs around (closerToken closer (p .close) mark ∷ u)
+      ∙ ap (λ (ts : List Token). run (live (controlOf control) (h .g) (h .nests ++ around)) ts) (end-then p at past (closerToken closer (p .close) mark ∷ u))
 
-pub ready-at-end : {p : Segment} {from : Control} {count top : ℕ} {table before : List ℕ} {control : code.Control} {l : Level} {at : ℕ} {cells stack : List ℕ}
-    → Underway p from count top table before (controlOf control) l at cells stack → countOf (p .cells) ≤ at
-    → (closer : ℕ) {s : Standing} {cells′ : List ℕ} → Readies control closer l stack cells s cells′
-    → AtEnd closer p from count top table before (controlOf (s .control)) (s .level) cells′ stack
-ready-at-end {p = p} {count = count} {top = top} {table = table} {before = before} {control = control} {at = at} h past closer readies =
-    let r = readies (h .g) (h .nests) table before count top at (h .stands) in
-    record {
-      g = r .frame-then;
-      nests = r .nests-then;
-      passed = at;
-      runs = λ around mark u.
-          h .runs around (closerToken closer p mark ∷ u)
-          ∙ ap (λ (ts : List Token). run (live (controlOf control) (h .g) (h .nests ++ around)) ts) (end-then p at past (closerToken closer p mark ∷ u))
-          ∙ r .takes around (record { newline = false; mark = mark; first = p .close }) u;
-      stands = r .stands;
-      kind = r .kind ∙ h .kind;
-      few = h .within;
-    }
-
-pub end-settled : {p : Segment} {from : Control} {count top : ℕ} {table before : List ℕ} {control : code.Control} {l : Level} {at : ℕ} {cells stack : List ℕ}
-    → Underway p from count top table before (controlOf control) l at cells stack → (closer : ℕ) {s : Standing} {cells′ : List ℕ}
-    → Readies control closer l stack cells s cells′ → Settled (s .control) closer
-end-settled {count = count} {top = top} {table = table} {before = before} {at = at} h closer readies =
-    readies (h .g) (h .nests) table before count top at (h .stands) .settled
-
-no-finish : {A : Type 0} {value : Value} → finish ≡ pop value → A
-no-finish e = absurd (let z : _≡_ {A = ℕ} 0 1 = cc in omega arith)
-
-no-fail : {A : Type 0} {value : Value} → fail ≡ pop value → A
-no-fail e = absurd (let z : _≡_ {A = ℕ} 0 1 = cc in omega arith)
-
--- no list takes the text's end
-item-text : (items : Items) (target : Bool) → look endOfText (row (operandDone (byItem items) target) false) ≡ fail
-item-text callArguments true = refl
-item-text callArguments false = refl
-item-text arrayElements true = refl
-item-text arrayElements false = refl
-item-text objectProperties true = refl
-item-text objectProperties false = refl
-
-items-text : (items : Items) → look endOfText (row (itemDue items) false) ≡ fail
-items-text callArguments = refl
-items-text arrayElements = refl
-items-text objectProperties = refl
-
--- a level that pops does not stand at the text's end
-never-text : {c : Control} {class : ℕ} {value : Value} → Ends class c true (pop value) → look class (row c false) ≡ pop value → class ≡ endOfText → ⊥
-never-text (ends-statements {scope = body}) e q = no-finish (rw q at e)
-never-text (ends-statements {scope = block}) e q = no-fail (rw q at e)
-never-text (ends-expression {ending = byStatement setting} t) e q = absurd t
-never-text (ends-expression {ending = byReturn setting} t) e q = absurd t
-never-text (ends-expression {ending = byParen} {target = true} t) e q = no-fail (rw q at e)
-never-text (ends-expression {ending = byParen} {target = false} t) e q = no-fail (rw q at e)
-never-text (ends-expression {ending = byBracket} {target = true} t) e q = no-fail (rw q at e)
-never-text (ends-expression {ending = byBracket} {target = false} t) e q = no-fail (rw q at e)
-never-text (ends-expression {ending = byItem items} t) e q = absurd t
-never-text (ends-item {items = items} {target = target}) e q = no-fail (sym (item-text items target) ∙ rw q at e)
-never-text (ends-items {items = items}) e q = no-fail (sym (items-text items) ∙ rw q at e)
-never-text ends-no-parameter e q = no-fail (rw q at e)
-never-text ends-parameter e q = no-fail (rw q at e)
-
--- with its value the state behind it is reached
-closes : {c : Control} (class place : ℕ) (around : List Open) (mark : ℕ) (u : List Token) {action : Action} {g : Frame} {nests : List Open} {value : Syntax}
-    → nests ≡ [] → IsValue action g value → Ends class c true action → look class (row c false) ≡ action
-    → run (act action class (record { newline = false; mark = mark; first = place }) g (nests ++ around)) u ≡ run (closedState class place value around) u
-closes class place around mark u none is-popped ends entry = rw (none, ne-eqb class endOfText (never-text ends entry))
-closes class place around mark u none is-program (ends-text e) entry = rw (none, e)
-
-module _ {closer : ℕ} {p : Segment} {from : Control} {count top : ℕ} {table before : List ℕ} {c : Control} {l : Level} {cells stack : List ℕ}
-    (h : AtEnd closer p from count top table before c l cells stack) where
-  at-closer : (around : List Open) (mark : ℕ) (u : List Token) {action : Action} → look closer (row c false) ≡ action
-      → run (live from empty around) (tokensAt p 0 ++ (closerToken closer p mark ∷ u))
-      ≡ run (act action closer (record { newline = false; mark = mark; first = p .close }) (h .g) (h .nests ++ around)) u
-  at-closer around mark u e =
-      h .runs around mark u ∙ step-run c (h .g) (h .nests ++ around) closer (record { newline = false; mark = mark; first = p .close }) u e
-
-  -- it ends there with its value
-  pub through : {action : Action} {n : ℕ} {cells′ : List ℕ} → Ends closer c true action → look closer (row c false) ≡ action
-      → EndsLevel l stack cells n cells′ → Through closer p from count top table before n cells′ stack
-  through {action = action} {n = n} {cells′ = cells′} ends entry finishes =
-      let e = finishes closer c action (h .g) (h .nests) table before count top (h .passed) (h .stands) ends in
-      record {
+  pub ran-to-closer : {r : Parsed} {cells′ : List ℕ} → ComesTo control closer (p .close) l stack cells r cells′ → Ran closer p from count top table before r cells′ stack
+  ran-to-closer {r} {cells′} comes = go (comes (h .g) (h .nests) table before count top at (h .stands))
+    where
+      go : {r : Parsed} → AtCloser closer (p .close) (controlOf control) (h .g) (h .nests) table count at r cells′ → Ran closer p from count top table before r cells′ stack
+      go (pops-there e) = ran-through (record {
         value = e .value;
-        runs = λ around mark u. at-closer around mark u entry ∙ closes closer (p .close) around mark u (e .none) (e .value-is) ends entry;
+        runs = λ around mark u. to-closer around mark u ∙ e .runs around mark u;
         count-is = e .count-is;
         cells-are = e .cells-are;
         kept = h .stands .kept;
-        passes = omega (arith, e .passes, h .few);
-        plain = λ t. parameter-value ends (h .kind ∙ t) (e .value-is);
-      }
-
-  pub dies-at-end : look closer (row c false) ≡ fail → Dies closer p from (p .close)
-  dies-at-end entry around mark u = at-closer around mark u entry ∙ stays-dead (p .close) u
+        passes = omega (arith, e .passes, h .within);
+        plain = λ t. e .plain (h .kind ∙ t);
+      })
+      go (dies-there dies) = ran-dead (λ around mark u. to-closer around mark u ∙ dies around mark u)

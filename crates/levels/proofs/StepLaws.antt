@@ -12,23 +12,23 @@ use Rattle.grammar.specs.Tokens.{openBracket}
 use Rattle.grammar.specs.Grammar.{body}
 use Rattle.grammar.specs.Machinery.Machine.{among, behindStatement, toStatement, Control, statementDue, ifFirst, Action, fail, goto, push, enter, look, row}
 use Rattle.controls.specs.Machinery.Numbers.{settingBy, controlBy, controlOf, effectBy, closingBy, insideBy}
-use Rattle.controls.specs.Machinery.Steps.{isOpener, isEnd, isSingle, Leads, Spans, Settled, Means, means-end, means-fail, means-goto, means-push, means-enter, Ends, goes-on}
+use Rattle.grammar.specs.Machinery.Classes.{isOpener, isEnd, isSingle}
+use Rattle.controls.specs.Machinery.Steps.{Leads, Spans, Settled, Means, means-end, means-fail, means-goto, means-push, means-enter, goes-on}
 use Rattle.controls.specs.declared.Control as code
-use Rattle.controls.proofs.EndLaws.{at-openers}
 use Rattle.controls.specs.declared.Step.{Step}
 use Rattle.controls.specs.declared.Step.the-variants.{Fail, Goto, Push, Enter}
-use Rattle.waiting.specs.Machinery.Waiting.{width, Backed}
+use Rattle.waiting.specs.Machinery.Waiting.{width}
 use Rattle.waiting.specs.declared.Level.{Level}
-use Rattle.frames.specs.Machinery.Effects.{StandsSomewhere, Readies, MayAffect, Affects, MayEnter, Enters, Valued, MayClose, ClosesGroup, EndsLevel, ofParameter}
+use Rattle.frames.specs.Machinery.Effects.{StandsSomewhere, Readies, MayAffect, Affects, MayEnter, Enters, Valued, MayClose, ClosesGroup, ofParameter}
 use Rattle.frames.specs.declared.Standing.{Standing}
 use Rattle.frames.proofs.ParameterLaws.{leads-kind, spans-kind, parameter-inside}
 use Rattle.segments.specs.Machinery.Segments.{Segment, segment, inside, countOf, classAt, sizeAt, placeAt, closerAt, lineAt, contentOf, Fine}
-use Rattle.segments.proofs.SegmentLaws.{inside-fine, inside-count, never-ends}
+use Rattle.segments.proofs.SegmentLaws.{at-openers, inside-fine, inside-count, never-ends}
 use Rattle.levels.specs.Machinery.Runs.{Begins, begins-statements, begins-expression, begins-index, begins-items, begins-parameter, Through, Ran, ran-through, ran-dead, MayRun, MayOpen}
-use Rattle.levels.specs.declared.Parsed.{Parsed}
-use Rattle.levels.specs.declared.Parsed.the-variants.{Done, Bad}
+use Rattle.groups.specs.declared.Parsed.{Parsed}
+use Rattle.groups.specs.declared.Parsed.the-variants.{Done, Bad}
 use Rattle.levels.proofs.RunLaws as runs
-use Rattle.levels.proofs.RunLaws.{Underway, AtEnd, through, dies-at-end}
+use Rattle.levels.proofs.RunLaws.{Underway}
 
 clash : {A : Type 0} (b : Bool) → T b → T (not b) → A
 clash true t s = absurd s
@@ -120,7 +120,7 @@ module _ {p : Segment} {from : Control} {count top : ℕ} {table before : List �
   means-as e = subst (λ (s : Step). Means c class s (look class (row c newline))) e means
 
   abbrev somewhere : StandsSomewhere c l stack cells
-  somewhere = record { g = h .g; nests = h .nests; table = table; stack₀ = before; first = count; floor = top; passed = at; stands = h .stands }
+  somewhere = runs.somewhere h
 
   room : (l .top + 1) * width ≤ length stack
   room = omega (arith, h .deep, h .low, h .stands .passes)
@@ -243,23 +243,6 @@ module _ {p : Segment} {from : Control} {count top : ℕ} {table before : List �
           runs.goes-behind fine h class (sym is) here (pushes .opens) (entry-at (pushes .entry)) (ran inner)
           (closes c (controlOf to) (h .g) (h .nests) table before count top at (at + sizeAt (p .cells) at) (ran inner .value) stack cells
           (h .stands) (pushes .spans) valued (λ q. ran inner .plain (parameter-inside closing q)) fewer few) (spans-kind (pushes .spans)) (long ∙ long₁)
-
--- behind the last record
-module _ {closer : ℕ} {p : Segment} {from : Control} {count top : ℕ} {table before : List ℕ} {c : Control} {l : Level} {cells stack : List ℕ}
-    (h : AtEnd closer p from count top table before c l cells stack) where
-  pub may-end : Backed l stack cells
-  may-end = record { table = table; first = count; done = _; ps = _; operand = _; holds = h .stands .holds }
-
-  pub ends : {b : Bool} {n : ℕ} {cells′ : List ℕ} → Ends closer c b (look closer (row c false)) → b ≡ true → EndsLevel l stack cells n cells′
-      → Ran closer p from count top table before (Done n) cells′ stack
-  ends e t finishes = ran-through (through h (subst (λ (x : Bool). Ends closer c x (look closer (row c false))) t e) refl finishes)
-
-  goes-on-entry : {action : Action} → Ends closer c false action → action ≡ fail
-  goes-on-entry goes-on = refl
-
-  pub dies : {b : Bool} {cells′ stack′ : List ℕ} → Ends closer c b (look closer (row c false)) → b ≡ false
-      → Ran closer p from count top table before (Bad (p .close)) cells′ stack′
-  dies e t = ran-dead (dies-at-end h (goes-on-entry (subst (λ (x : Bool). Ends closer c x (look closer (row c false))) t e)))
 
 -- the inside of a group, as the code has it
 any-close : {text cells : List ℕ} {base close : ℕ} → Fine (segment text cells base close) → Fine (segment text cells base 0)

@@ -7,14 +7,8 @@ ghost use Rattle.segments.specs.Machinery.Segments.{segment, inside};
 ghost use Rattle.levels.specs.Machinery.Runs.{Begins, MayRun, MayOpen, Ran, RanStatements, RanExpression, RanFunction};
 use controls::Control;
 use controls::Step;
+use groups::Parsed;
 use tables::TreeRecord;
-
-// What a parser answers: the number of syntax records so far; or the place of the first element with which those so far
-// begin no program.
-pub enum Parsed {
-    Done(usize),
-    Bad(usize),
-}
 
 // Runs the machine over a level, from where it stands to the closer.
 fn level(
@@ -51,7 +45,7 @@ fn level(
                 at = at + 1;
             }
             Step::Enter(next, setting) => {
-                l = effects::entered(s.level, setting, base + at, waiting, syntax);
+                l = groups::entered(s.level, setting, base + at, waiting, syntax);
                 control = next;
                 at = at + 1;
             }
@@ -81,11 +75,7 @@ fn level(
             }
         }
     }
-    let s = frames::ready(control, closer, l, waiting, syntax);
-    if controls::ends::ends(s.control, closer) {
-        return Parsed::Done(frames::ended(s.level, waiting, syntax));
-    }
-    Parsed::Bad(close)
+    groups::at_closer(control, closer, close, l, waiting, syntax)
 }
 
 // The inside of a group, by what the group is: the part of the table that starts behind the opener's record.

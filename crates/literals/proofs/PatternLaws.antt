@@ -1,5 +1,5 @@
 -- Laws of `patternRest` at a place of the text: one for each way that a byte is taken.
-use mathlib.Core.Path.{_≡_, refl}
+use mathlib.Core.Path.{_≡_, refl, _∙_}
 use mathlib.Core.List.{List}
 use mathlib.Core.Bool.{Bool, true, false, not}
 use Prim.Native.Nat.{ℕ, _+_, _<_, _≤_}
@@ -9,10 +9,10 @@ use lib.Dec.{eqb}
 use lib.ListN.{length, getD, drop, drop-of-length-le}
 use Rattle.text.specs.Quoted.{byte}
 use Rattle.text.specs.Bytes.{nameByte}
-use Rattle.text.specs.Machinery.Codes.{turning, codeOf}
+use Rattle.text.specs.Machinery.Codes.{turning, codeOf, codeOver}
 use Rattle.text.specs.Runs.{run}
 use Rattle.text.proofs.Lists.{drop-at}
-use Rattle.text.proofs.CodeLaws.{code-passed, code-line-end, code-illegal, code-apart}
+use Rattle.text.proofs.CodeLaws.{code-passed, code-line-end, code-illegal, code-apart, over-passed}
 use Rattle.answers.specs.Faults.{stray, openPattern}
 use Rattle.literals.specs.Strings.{backslash}
 use Rattle.literals.specs.Patterns.{patternRest}
@@ -70,7 +70,7 @@ module _ (first : ℕ) (s : List ℕ) (i : ℕ) where
             rw (drop-at s i h) (rw (f .0, f .1, ne-eqb _ _ n, ne-eqb _ _ e, patternRest))
 
     -- a byte that does not turn, in a class or not, and whether a backslash takes it or not
-    pub pattern-quiet : 2 < codeOf (getD s i 0) → (class taken : Bool)
+    pattern-quiet : 2 < codeOf (getD s i 0) → (class taken : Bool)
         → patternRest first class taken i (drop i s) ≡ patternRest first class false (i + 1) (drop (i + 1) s)
     unfolding turning
     pattern-quiet k class true = pattern-taken (omega arith) class
@@ -79,3 +79,11 @@ module _ (first : ℕ) (s : List ℕ) (i : ℕ) where
     pattern-quiet k false false =
         rw (ne-eqb _ _ (code-apart (getD s i 0) (byte "[") k refl)) at
         (pattern-more (omega arith) (code-apart (getD s i 0) backslash k refl) (code-apart (getD s i 0) (byte "/") k refl))
+
+-- such a byte, and the run of them behind it
+pub pattern-passed : (first : ℕ) (s : List ℕ) (i : ℕ) → i < length s → 2 < codeOf (getD s i 0) → (class taken : Bool)
+    → (end : ℕ) → end ≡ i + 1 + run (codeOver 2) (drop (i + 1) s)
+    → patternRest first class taken i (drop i s) ≡ patternRest first class false end (drop end s)
+pattern-passed first s i h k class taken end r =
+    pattern-quiet first s i h k class taken
+    ∙ over-passed 2 s (λ j. patternRest first class false j (drop j s)) (λ j l m. pattern-quiet first s j l m class false) (i + 1) end r

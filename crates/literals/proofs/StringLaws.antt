@@ -1,5 +1,5 @@
 -- Laws of `stringRest` at a place of the text: one for each way that a byte is taken.
-use mathlib.Core.Path.{_≡_, refl}
+use mathlib.Core.Path.{_≡_, refl, _∙_}
 use mathlib.Core.List.{List}
 use mathlib.Core.Bool.{Bool, true, false, _||_}
 use Prim.Native.Nat.{ℕ, _+_, _<_, _≤_}
@@ -8,9 +8,10 @@ use borrow.Author.Tests.{eq-eqb, ne-eqb, eqb-true}
 use lib.Dec.{eqb}
 use lib.ListN.{length, getD, drop, drop-of-length-le}
 use Rattle.text.specs.Quoted.{byte}
-use Rattle.text.specs.Machinery.Codes.{turning, codeOf}
+use Rattle.text.specs.Machinery.Codes.{turning, codeOf, codeOver}
+use Rattle.text.specs.Runs.{run}
 use Rattle.text.proofs.Lists.{drop-at}
-use Rattle.text.proofs.CodeLaws.{code-passed, code-line-end, code-illegal, code-apart}
+use Rattle.text.proofs.CodeLaws.{code-passed, code-line-end, code-illegal, code-apart, over-passed}
 use Rattle.answers.specs.Faults.{stray, openString}
 use Rattle.literals.specs.Strings.{quote, stringRest, backslash}
 use Rattle.literals.specs.declared.Literal.{Literal}
@@ -62,9 +63,16 @@ module _ (q first : ℕ) (s : List ℕ) (i : ℕ) where
           rw (drop-at s i h) (rw (f .0, f .1, ne-eqb _ _ e, stringRest))
 
     -- a byte that does not turn, whether a backslash takes it or not
-    pub string-quiet : quote q ≡ true → 2 < codeOf (getD s i 0) → (taken : Bool)
+    string-quiet : quote q ≡ true → 2 < codeOf (getD s i 0) → (taken : Bool)
         → stringRest q first taken i (drop i s) ≡ stringRest q first false (i + 1) (drop (i + 1) s)
     unfolding turning
     string-quiet e k true = string-taken (omega arith)
     string-quiet e k false =
         rw (ne-eqb _ _ (code-apart (getD s i 0) backslash k refl)) at (string-more (omega arith) (code-apart (getD s i 0) q k (quote-turns q e)))
+
+-- such a byte, and the run of them behind it
+pub string-passed : (q first : ℕ) (s : List ℕ) (i : ℕ) → i < length s → quote q ≡ true → 2 < codeOf (getD s i 0) → (taken : Bool)
+    → (end : ℕ) → end ≡ i + 1 + run (codeOver 2) (drop (i + 1) s) → stringRest q first taken i (drop i s) ≡ stringRest q first false end (drop end s)
+string-passed q first s i h e k taken end r =
+    string-quiet q first s i h e k taken
+    ∙ over-passed 2 s (λ j. stringRest q first false j (drop j s)) (λ j l m. string-quiet q first s j l e m false) (i + 1) end r

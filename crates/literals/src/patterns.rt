@@ -21,7 +21,7 @@ pub fn pattern_rest(codes: &[u8], text: &[u8], first: usize, from: usize) -> Lit
         let code = text::code(codes, b);
         if text::TURNING < code {
             taken = false;
-            i += 1;
+            i = runs::run_end(codes, text, i + 1, text::TURNING);
             continue;
         }
         if code == text::LINE_END {

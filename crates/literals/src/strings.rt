@@ -29,7 +29,7 @@ pub fn string_rest(codes: &[u8], text: &[u8], q: u8, first: usize, from: usize) 
         let code = text::code(codes, b);
         if text::TURNING < code {
             taken = false;
-            i += 1;
+            i = runs::run_end(codes, text, i + 1, text::TURNING);
             continue;
         }
         if code == text::LINE_END {

@@ -1,2 +1,3 @@
 pub mod WrittenCells
+pub mod JudgedLaws
 pub mod ParseLaws

@@ -23,7 +23,7 @@ use Rattle.segments.specs.Machinery.Segments.{Segment, segment, countOf, Fine}
 use Rattle.grammar.proofs.ReadNames.{recorded-run}
 use Rattle.segments.proofs.ReadSegments.{reading-fine, reading-tokens}
 use Rattle.parsing.specs.Parse.{syntaxFull, Parsing, program, denied, endToken, stateAfter, judged, fitting, parsed, parsingFor, answerOf, treesAfter, syntaxAfter}
-use Rattle.programs.specs.Machinery.Judged.{stateBehind, Built, Judged, judged-bad, judged-full, judged-program}
+use Rattle.parser.specs.Machinery.Judged.{stateBehind, Built, Judged, judged-bad, judged-full, judged-program}
 use Rattle.parser.proofs.WrittenCells.{syntax-written}
 use Rattle.parsing.proofs.AcceptedReadings.{AcceptedReading, accepted-reading}
 

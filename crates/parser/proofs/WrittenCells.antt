@@ -10,8 +10,8 @@ use lib.ListN.{length, drop, set, length-append}
 use lib.Seq.{sets, sets-eq}
 use Rattle.tables.specs.Records.{syntaxWidth}
 use Rattle.grammar.specs.Syntax.{Syntax, nil, node, snoc, size, syntaxRecords}
-use Rattle.records.specs.Machinery.Written.{putRecord, putSyntax}
-use Rattle.records.proofs.KeptLength.{syntax-kept-length}
+use Rattle.controls.specs.Machinery.Written.{putRecord, putSyntax}
+use Rattle.controls.proofs.KeptLength.{syntax-kept-length}
 
 sets-append : (a b table : List ℕ) (i : ℕ) → sets table i (a ++ b) ≡ sets (sets table i a) (i + length a) b
 sets-append [] b table i = rw (add-zero i)

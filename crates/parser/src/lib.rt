@@ -1,5 +1,8 @@
 // The parser: a text to syntax records.
 ghost use Rattle.parsing.specs.Parse.{Parses};
+
+mod programs;
+
 use answers::Answer;
 use tables::TreeRecord;
 

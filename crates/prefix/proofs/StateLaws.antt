@@ -12,10 +12,10 @@ use Rattle.elements.specs.declared.Stated.{Stated}
 use Rattle.rule.specs.Trees.{Trees, none, leaf, group, count}
 use Rattle.rule.specs.Rule.{elementClass, groupClass, backwards}
 use Rattle.rule.specs.Levels.{Levels, wholeText, inside, depth, countSoFar, onTop, statedBy, braceOpens}
-use Rattle.prefix.specs.Reading.{Limits, addLeaf, openGroup, closes, closeGroup, deep, wrongCloser, treesFull}
+use Rattle.prefix.specs.Reading.{Limits, openGroup, closes, closeGroup, deep, wrongCloser, treesFull}
 use Rattle.rule.specs.Machinery.Summary.{nothing, summary, code, summaries, levelCode}
 use Rattle.rule.specs.Machinery.LevelCodes.{levelIn, statedByLevel, braceByLevel, levelAfter}
-use Rattle.prefix.specs.Machinery.Represents.{Stack, Represents, closed, Follows, leaf-added, group-opened, group-closed, stopped}
+use Rattle.prefix.specs.Machinery.Represents.{Stack, Represents, closed, Follows, group-opened, group-closed, stopped}
 use Rattle.prefix.specs.declared.State.{State}
 use Rattle.prefix.specs.declared.Advanced.{Advanced}
 use Rattle.rule.proofs.LevelCodeLaws.{level-in, stated-right, brace-opens-right, leaf-added-level, group-added-level, kind-of-level}
@@ -51,25 +51,20 @@ module _ (tag : Levels → ℕ → ℕ) (stack : List ℕ) (state : State) (leve
   pub represented-stated : (r : Stated) → r ≡ statedByLevel (state .level) → r ≡ statedBy levels
   represented-stated r e = e ∙ ap statedByLevel (h .level-is) ∙ stated-right levels
 
+  pub leaf-done : (e : Element) (level : ℕ) → level ≡ levelAfter (state .level) (elementClass e) (e .newline)
+      → Represents tag stack (record { level = level; depth = state .depth; records = state .records + 1 }) (onTop (λ before. leaf before e) levels)
+  unfolding count
+  leaf-done e level w =
+      let add : Trees → Trees = λ before. leaf before e in
+      record {
+        level-is = w ∙ ap (λ (x : ℕ). levelAfter x (elementClass e) (e .newline)) (h .level-is) ∙ leaf-added-level levels e;
+        depth-is = h .depth-is ∙ sym (depth-on-top add levels);
+        records-is = omega (arith, count-on-top add 1 (λ trees. refl) levels, h .records-is);
+        stacked = stack-on-top add tag stack levels (h .stacked);
+        fits = h .fits;
+      }
+
   module _ (limits : Limits) (e : Element) where
-    pub leaf-full : limits .room ≤ state .records → Follows (limits .room) tag stack e levels (Advanced.Stopped treesFull (e .first)) (addLeaf limits levels e)
-    leaf-full full = rw (le-leb (limits .room) (countSoFar levels) (omega (arith, h .records-is))) stopped
-
-    pub leaf-done : (level : ℕ) → level ≡ levelAfter (state .level) (elementClass e) (e .newline) → state .records < limits .room
-        → Follows (limits .room) tag stack e levels (Advanced.Leaf (record { level = level; depth = state .depth; records = state .records + 1 })) (addLeaf limits levels e)
-    unfolding count
-    leaf-done level w some =
-        let add : Trees → Trees = λ before. leaf before e in
-        rw (lt-leb (limits .room) (countSoFar levels) (omega (arith, h .records-is)))
-        (leaf-added {state = record { level = level; depth = state .depth; records = state .records + 1 }} (omega (arith, h .records-is))
-        (record {
-          level-is = w ∙ ap (λ (x : ℕ). levelAfter x (elementClass e) (e .newline)) (h .level-is) ∙ leaf-added-level levels e;
-          depth-is = h .depth-is ∙ sym (depth-on-top add levels);
-          records-is = omega (arith, count-on-top add 1 (λ trees. refl) levels, h .records-is);
-          stacked = stack-on-top add tag stack levels (h .stacked);
-          fits = h .fits;
-        }))
-
     module _ (kind : ℕ) where
       pub open-deep : (after : List ℕ) → limits .groups ≤ state .depth → Follows (limits .room) tag after e levels (Advanced.Stopped deep (e .first)) (openGroup limits levels kind e)
       open-deep after full = rw (le-leb (limits .groups) (depth levels) (omega (arith, h .depth-is))) stopped

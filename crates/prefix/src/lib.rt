@@ -1,12 +1,12 @@
 // The state of a reading: what the elements so far make of it, by the prefix rule.
 ghost use mathlib.Core.Path.{_≡_};
 ghost use mathlib.Core.List.{List};
-ghost use Prim.Native.Nat.{ℕ, _/_, _≤_};
+ghost use Prim.Native.Nat.{ℕ, _/_, _≤_, _<_, _^_};
 ghost use lib.ListN.{length};
 ghost use Rattle.rule.specs.Trees.{none};
 ghost use Rattle.rule.specs.Levels.{Levels, wholeText};
-ghost use Rattle.prefix.specs.Reading.{addLeaf, openGroup, closes, closeGroup};
-ghost use Rattle.prefix.specs.Machinery.Represents.{Represents, Follows, States, Advances};
+ghost use Rattle.prefix.specs.Reading.{openGroup, closes, closeGroup};
+ghost use Rattle.prefix.specs.Machinery.Represents.{Represents, Follows, States, Delimits, AddsLeaf};
 use elements::Element;
 use elements::Stated;
 
@@ -36,10 +36,8 @@ pub struct State {
     pub records: usize,
 }
 
-// What an element makes of the state: a leaf more; a group of a kind opened; a group closed, with the caller's tag for it;
-// or a refusal.
+// What a delimiter makes of the state: a group of a kind opened; a group closed, with the caller's tag for it; or a refusal.
 pub enum Advanced {
-    Leaf(State),
     Opened(u32, State),
     Closed(u32, State),
     Stopped(u32, usize),
@@ -63,18 +61,16 @@ pub fn stated_by(state: State) -> Stated
     summaries::stated_by(state.level)
 }
 
-fn add_leaf(state: State, room: usize, e: Element) -> Advanced
-    ensures { λ r. ⌜ ((tag : Levels → ℕ → ℕ) (stack : List ℕ) (groups : ℕ) (levels : Levels) → Represents tag stack state levels → Follows room tag stack e levels r (addLeaf (record { groups = groups; room = room }) levels e)) ⌝ }
+// The state with a leaf more: an element that is no delimiter.
+pub fn with_leaf(state: State, e: Element) -> State
+    requires { ⌜ state .records < 2 ^ 32 ⌝ }
+    ensures { λ r. ⌜ AddsLeaf state e r ⌝ }
 {
-    let number = state.records;
-    if room <= number {
-        return Advanced::Stopped(TREES_FULL, e.first);
-    }
-    Advanced::Leaf(State {
+    State {
         level: summaries::after_leaf(state.level, e),
         depth: state.depth,
-        records: number + 1,
-    })
+        records: state.records + 1,
+    }
 }
 
 fn open_group(
@@ -150,14 +146,11 @@ fn close_group(stack: &[u32], state: State, e: Element) -> Advanced
     )
 }
 
-// The state after an element, where there is room for so many records. `tag` is what the caller keeps of a group that the
-// element opens, until it is closed.
-pub fn advance(stack: &mut [u32], state: State, room: usize, tag: u32, e: Element) -> Advanced
-    ensures { λ r. ⌜ Advances (now (stack .entry)) (now (stack .exit)) state room tag e r ⌝ }
+// The state after a delimiter, where there is room for so many records. `tag` is what the caller keeps of a group that it opens,
+// until it is closed.
+pub fn delimit(stack: &mut [u32], state: State, room: usize, tag: u32, e: Element) -> Advanced
+    ensures { λ r. ⌜ Delimits (now (stack .entry)) (now (stack .exit)) state room tag e r ⌝ }
 {
-    if e.kind != elements::DELIMITER {
-        return add_leaf(state, room, e);
-    }
     if e.which == signs::OPEN_PAREN {
         return open_group(stack, state, room, tag, PARENS, e);
     }

@@ -1,22 +1,22 @@
 -- The loop of a reading: the levels that are held read the rest of the text as the whole is read.
 use mathlib.Core.Path.{_≡_, refl, ap}
 use mathlib.Core.List.{List}
-use mathlib.Core.Bool.{Bool}
-use Prim.Native.Nat.{ℕ, _+_, _-_, _*_, _<_}
+use mathlib.Core.Bool.{Bool, false}
+use Prim.Native.Nat.{ℕ, _+_, _-_, _*_, _<_, _≤_}
 use native.Mathlib.Omega.{arith}
-use borrow.Author.Tests.{lt-leb}
+use borrow.Author.Tests.{le-leb, lt-leb}
 use lib.ListN.{length, getD, replicate}
 use Rattle.answers.specs.declared.Answer.{Answer}
-use Rattle.elements.specs.declared.Element.{Element}
 use Rattle.rule.specs.Trees.{Trees}
 use Rattle.rule.specs.Levels.{Levels, wholeText, inside, depth, countSoFar}
-use Rattle.prefix.specs.Reading.{Reading, accepted, refused, ending, unclosed}
-use Rattle.prefix.specs.declared.Advanced.{Advanced}
+use Rattle.prefix.specs.Reading.{Reading, accepted, refused, ending, reading, unclosed}
 use Rattle.prefix.specs.declared.State.{State}
+use Rattle.tables.specs.Records.{roomFor}
 use Rattle.storing.specs.Records.{records}
 use Rattle.reading.specs.Read.{mostBytes, longText, readingFor, answerOf, tableAfter}
 use Rattle.storing.specs.Machinery.Table.{cells, Holds, Some}
-use Rattle.turns.specs.Machinery.Turns.{Runs, ran, halted}
+use Rattle.keeping.specs.Machinery.Keeping.{Lent, Keeps}
+use Rattle.turns.specs.Machinery.Turns.{limitsFor, Runs, ran, halted}
 use Rattle.reader.specs.Machinery.Filled.{Filled}
 use Rattle.turns.specs.declared.ReadOn.{ReadOn}
 use Rattle.storing.proofs.CellLaws.{cells-length, first-cell}
@@ -51,35 +51,27 @@ module _ (before now stack : List ℕ) (room : ℕ) (state : State) where
   ends-filled (inside around kind first newline trees) h = tt
 
 -- what reading to the end comes to is the answer, and the table where nothing is cleared
-module _ (bytes before now stack : List ℕ) (room : ℕ) where
+module _ (bytes : List ℕ) (was is : Lent) (room : ℕ) where
   abbrev pub Answered : Answer → Type 0
-  Answered answer = (answer ≡ answerOf (readingFor bytes (length before))) × Filled (readingFor bytes (length before)) before now
+  Answered answer = (answer ≡ answerOf (readingFor bytes (length (was .trees)))) × Filled (readingFor bytes (length (was .trees))) (was .trees) (is .trees)
 
-  answered : (r : Reading) → readingFor bytes (length before) ≡ r → Filled r before now → Answered (answerOf r)
-  answered r e f = rw e (refl, f)
+  pub ran-some : {s : State} {at : ℕ} → Runs false bytes was is room (ReadOn.End s at) → Some (is .trees) (is .stack) room s
+  unfolding Keeps
+  ran-some (ran levels h within e) = record { before = was .trees; levels = levels; holds = h }
 
-  pub ran-some : {s : State} → Runs bytes before now stack room (ReadOn.End s) → Some now stack room s
-  ran-some (ran {levels = levels} h e) = record { before = before; levels = levels; holds = h }
+  module _ (short : length bytes ≤ mostBytes) (room-is : room ≡ roomFor (length (was .trees))) where
+    answered : (r : Reading) → reading bytes (limitsFor room) ≡ r → Filled r (was .trees) (is .trees) → Answered (answerOf r)
+    unfolding readingFor
+    answered r e f = rw (le-leb (length bytes) mostBytes short, ← room-is, e) (refl, f)
 
-  pub ran-answered : {s : State} → Runs bytes before now stack room (ReadOn.End s) → (answer : Answer)
-      → ((before : List ℕ) (room : ℕ) (levels : Levels) → Holds before now stack room s levels → answer ≡ answerOf (ending levels)) → Answered answer
-  ran-answered (ran {state = s} {levels = levels} h e) answer a =
-      rw (a before room levels h) (answered (ending levels) e (ends-filled before now stack room s levels h))
+    pub ran-answered : {s : State} {at : ℕ} → Runs false bytes was is room (ReadOn.End s at) → (answer : Answer)
+        → ((before : List ℕ) (room : ℕ) (levels : Levels) → Holds before (is .trees) (is .stack) room s levels → answer ≡ answerOf (ending levels)) → Answered answer
+    unfolding Keeps
+    ran-answered (ran {state = s} levels h within e) answer a =
+        rw (a (was .trees) room levels h) (answered (ending levels) e (ends-filled (was .trees) (is .trees) (is .stack) room s levels h))
 
-  pub halted-answered : {n q : ℕ} → Runs bytes before now stack room (ReadOn.Stop n q) → Answered (Answer.Refused n q)
-  halted-answered (halted {number = n} {place = q} e) = answered (refused n q) e tt
-
-  abbrev elements : ReadOn → ℕ
-  elements (ReadOn.End s) = 0
-  elements (ReadOn.Stop n q) = 0
-  elements (ReadOn.Taken e advanced) = 1
-
-  no-elements : {t : ReadOn} → Runs bytes before now stack room t → elements t ≡ 0
-  no-elements (ran h e) = refl
-  no-elements (halted e) = refl
-
-  pub none-taken : {e : Element} {advanced : Advanced} → Runs bytes before now stack room (ReadOn.Taken e advanced) → ⊥
-  none-taken t = omega (arith, no-elements t)
+    pub halted-answered : {n q : ℕ} → Runs false bytes was is room (ReadOn.Stop n q) → Answered (Answer.Refused n q)
+    halted-answered (halted {number = n} {place = q} e) = answered (refused n q) e tt
 
 -- the call: what was written is cleared where the reading is refused
 pub read-accepted : (r : Reading) (before now : List ℕ) (n : ℕ) → Answer.Accepted n ≡ answerOf r → Filled r before now → (Answer.Accepted n ≡ answerOf r) × (now ≡ tableAfter r before)

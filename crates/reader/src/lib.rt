@@ -39,12 +39,11 @@ fn fill(codes: &[u8], text: &[u8], trees: &mut [u32], stack: &mut [u32]) -> Answ
     ensures { λ r. ⌜ (r ≡ answerOf (readingFor (now (text .entry)) (length (now (trees .entry))))) × Filled (readingFor (now (text .entry)) (length (now (trees .entry)))) (now (trees .entry)) (now (trees .exit)) ⌝ }
 {
     let room = tables::room_for(trees.len());
-    let turn = turns::read_on(codes, text, trees, stack, room, prefix::start(), 0, false);
-    match turn {
-        ReadOn::End(state) => ending(trees, stack, state),
+    let mut none = [0u8; 0];
+    let run = turns::read_on(codes, text, trees, &mut none, stack, room, false);
+    match run {
+        ReadOn::End(state, _) => ending(trees, stack, state),
         ReadOn::Stop(number, place) => Answer::Refused(number, place),
-        // Not met: the loop is not left after an element.
-        ReadOn::Taken(_, _) => Answer::Refused(0, 0),
     }
 }
 

@@ -12,9 +12,9 @@ use Rattle.prefix.proofs.Induction.{reading-tells}
 use Rattle.prefix.proofs.StepCases.{Taken, leaf-taken, open-taken, close-taken, step-taken}
 use Rattle.elements.specs.Lexemes.{bytesOf}
 use Rattle.spacing.specs.Respaced.{separator, addElement, addCloser, addTrees, space}
-use Rattle.respacer.specs.Machinery.Written.{writtenOf}
+use Rattle.spacing.specs.Machinery.Written.{writtenOf}
 use Rattle.spacing.proofs.OverLaws.{bytes-length}
-use Rattle.respacer.proofs.WriteLaws.{written-leaf, written-group}
+use Rattle.spacing.proofs.WriteLaws.{written-leaf, written-group}
 
 separator-length : (written : List ℕ) (newline : Bool) → length (separator written newline) ≤ 1
 separator-length [] true = omega arith

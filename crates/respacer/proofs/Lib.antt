@@ -1,5 +1,5 @@
-pub mod WriteLaws
-pub mod LoopLaws
+pub mod EndLaws
+pub mod CallLaws
 pub mod Lengths
 pub mod Theorems
 pub mod AlikeLevels

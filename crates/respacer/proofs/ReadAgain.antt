@@ -16,7 +16,7 @@ use Rattle.prefix.proofs.ReadingLaws.{read-end, read-more}
 use Rattle.prefix.proofs.Course.{Course, ended, went, accepted-course}
 use Rattle.elements.specs.Lexemes.{bytesOf}
 use Rattle.spacing.specs.Respaced.{separator, addElement, addTrees, respaced}
-use Rattle.respacer.specs.Machinery.Written.{writtenOf}
+use Rattle.spacing.specs.Machinery.Written.{writtenOf}
 use Rattle.respacer.specs.Alike.{alike-none, Kept}
 use Rattle.respacer.proofs.AlikeLevels.{AlikeLevels, alike-text, alike-stated}
 use Rattle.respacer.proofs.StepWrites.{lineWritten}

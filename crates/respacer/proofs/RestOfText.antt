@@ -17,7 +17,7 @@ use Rattle.prefix.specs.Reading.{Limits, more, step}
 use Rattle.prefix.proofs.Course.{Course, ended, went}
 use Rattle.elements.specs.Lexemes.{bytesOf}
 use Rattle.spacing.specs.Respaced.{lineFeed, space, separator, addElement, respaced}
-use Rattle.respacer.specs.Machinery.Written.{writtenOf}
+use Rattle.spacing.specs.Machinery.Written.{writtenOf}
 use Rattle.spacing.proofs.OverLaws.{bytes-length}
 use Rattle.respacer.proofs.StepWrites.{lineWritten, step-written}
 

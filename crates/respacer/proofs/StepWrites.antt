@@ -14,8 +14,8 @@ use Rattle.rule.specs.Levels.{Levels, wholeText, inside, braceOpens, depth, cou
 use Rattle.prefix.specs.Reading.{Limits, Step, stop, more, addLeaf, openGroup, closes, closeGroup, step, deep, treesFull, wrongCloser}
 use Rattle.prefix.proofs.StepCases.{not-more}
 use Rattle.spacing.specs.Respaced.{addElement, addCloser, addTrees}
-use Rattle.respacer.specs.Machinery.Written.{writtenOf}
-use Rattle.respacer.proofs.WriteLaws.{written-leaf, written-group}
+use Rattle.spacing.specs.Machinery.Written.{writtenOf}
+use Rattle.spacing.proofs.WriteLaws.{written-leaf, written-group}
 
 -- a step by the tests on its element: a delimiter, `(`, `{`, `[`
 abbrev pub stepBy : Bool → Bool → Bool → Bool → Limits → Levels → Element → Step

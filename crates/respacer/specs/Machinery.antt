@@ -1,2 +1,2 @@
 -- How code and proofs hold what the definitions speak of.
-pub mod Written
+pub mod Told

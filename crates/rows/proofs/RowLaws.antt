@@ -12,7 +12,8 @@ use Rattle.grammar.specs.Grammar.{Items, callArguments, arrayElements, objectPr
 use Rattle.grammar.specs.Machinery.Machine.{ifNest, Setting, among, inNest, Ending, byStatement, byReturn, byParen, byBracket, byItem, Control, statementDue, operandDue, itemDue, takeOperator, Entry, fail, goto, look, leaves, operand, noStatement, operatorRow, behindComma, endingRow, besidesOperators, afterOperand, row}
 use Rattle.controls.specs.declared.Step.{Step}
 use Rattle.controls.specs.Machinery.Numbers.{itemsBy, endingBy}
-use Rattle.controls.specs.Machinery.Steps.{isSingle, Means}
+use Rattle.grammar.specs.Machinery.Classes.{isSingle}
+use Rattle.controls.specs.Machinery.Steps.{Means}
 use Rattle.controls.proofs.EndLaws.{NoCloser, at-closers, besides-closers}
 
 -- where a statement is due, a class that starts no statement of its own starts an operand, or ends the level

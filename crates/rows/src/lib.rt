@@ -37,12 +37,12 @@ use controls::TO_BLOCK;
 use controls::TO_CALL;
 use controls::TO_INDEX;
 use controls::behind_statement;
-use controls::classes;
 use controls::stand;
 use forms::form_row;
 use forms::goto;
 use forms::operand_row;
 use forms::push;
+use grammar::tokens;
 
 // Ends a statement.
 fn end_statement(setting: u32, effect: u32) -> Step
@@ -91,28 +91,28 @@ fn comma_row(ending: u32) -> Step
 fn operator_row(class: u32, ending: u32, setting: u32, target: bool) -> Step
     ensures { λ r. ⌜ Means (operandDone (endingBy ending setting) target) class r (look class (afterOperand (endingBy ending setting) target)) ⌝ }
 {
-    if class == classes::DOT {
+    if class == tokens::DOT {
         return goto(DOT_LAST, ending, setting, target, KEEP);
     }
-    if class == classes::OPEN_PAREN {
+    if class == tokens::OPEN_PAREN {
         return push(OPERAND_DONE, ending, setting, target, TO_CALL);
     }
-    if class == classes::ASSIGN {
+    if class == tokens::ASSIGN {
         if target {
             return goto(OPERAND_DUE, ending, setting, true, TAKE_OPERATOR);
         }
         return Step::Fail;
     }
-    if 1 <= classes::precedence(class) {
+    if 1 <= controls::precedence(class) {
         return goto(OPERAND_DUE, ending, setting, false, TAKE_OPERATOR);
     }
-    if class == classes::SEMICOLON {
+    if class == tokens::SEMICOLON {
         return semicolon_row(ending, setting);
     }
-    if class == classes::COMMA {
+    if class == tokens::COMMA {
         return comma_row(ending);
     }
-    if class == classes::OPEN_BRACKET {
+    if class == tokens::OPEN_BRACKET {
         return push(OPERAND_DONE, ending, setting, target, TO_INDEX);
     }
     Step::Fail
@@ -135,20 +135,20 @@ fn declaration_row(setting: u32, must: bool) -> Step
 fn statement_row(class: u32, setting: u32, must: bool) -> Step
     ensures { λ r. ⌜ ((newline : Bool) → Means (statementDue must (settingBy setting)) class r (look class (row (statementDue must (settingBy setting)) newline))) ⌝ }
 {
-    if class == classes::NAME {
+    if class == tokens::NAME {
         return goto(NAME_FIRST, BY_STATEMENT, setting, true, HOLD_NAME);
     }
-    if class == classes::IF {
+    if class == tokens::IF {
         let around = setting_number(setting);
         return Step::Enter(stand(IF_FIRST, BY_STATEMENT, IF_NEST, true), around);
     }
-    if class == classes::RETURN {
+    if class == tokens::RETURN {
         return goto(RETURN_FIRST, BY_RETURN, setting, true, START_RETURN);
     }
-    if class == classes::OPEN_BRACE {
+    if class == tokens::OPEN_BRACE {
         return Step::Push(behind_statement(setting), TO_BLOCK);
     }
-    if class == classes::FUNCTION {
+    if class == tokens::FUNCTION {
         return declaration_row(setting, must);
     }
     operand_row(class, BY_STATEMENT, setting, true)
@@ -158,7 +158,7 @@ fn statement_row(class: u32, setting: u32, must: bool) -> Step
 fn return_row(class: u32, setting: u32, newline: bool) -> Step
     ensures { λ r. ⌜ Means (returnFirst (settingBy setting)) class r (look class (row (returnFirst (settingBy setting)) newline)) ⌝ }
 {
-    if class == classes::SEMICOLON {
+    if class == tokens::SEMICOLON {
         return end_statement(setting, END_BARE_RETURN);
     }
     if newline {

@@ -22,7 +22,7 @@ use Rattle.grammar.specs.Cuts.{isCloser}
 use Rattle.grammar.specs.Tokens.{name, wordName, wordClass, signClass, classOf}
 use Rattle.grammar.proofs.ReadNames.{recordClass}
 use Rattle.grammar.specs.TreeElements.{openerOf, closerOf}
-use Rattle.controls.specs.Machinery.Steps.{isOpener}
+use Rattle.grammar.specs.Machinery.Classes.{isOpener}
 use Rattle.segments.specs.Machinery.Segments.{wordBy, signBy, spelledBy, kindBy, classBy}
 use Rattle.segments.proofs.SegmentLaws.{isElement}
 

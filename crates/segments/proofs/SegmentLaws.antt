@@ -4,7 +4,7 @@ use mathlib.Core.Bool.{Bool, true, false, cond, not, _&&_, _||_}
 use mathlib.Core.List.{List, [], _∷_, _++_, append-assoc}
 use Prim.Native.Nat.{ℕ, zero, suc, _+_, _-_, _*_, _≤_, _<_}
 use native.Mathlib.Omega.{arith}
-use borrow.Author.Tests.{lt-ltb, le-ltb, ltb-true, ltb-false}
+use borrow.Author.Tests.{lt-ltb, le-ltb, ltb-true, ltb-false, eqb-true}
 use lib.Dec.{T, ltb, eqb, ltb→lt}
 use lib.ListN.{length, getD, drop, length-drop}
 use lib.Seq.{getD-take, getD-drop, length-take-le}
@@ -13,8 +13,7 @@ use Rattle.elements.specs.Elements.{nameKind, wordKind, numberKind, stringKind,
 use Rattle.rule.specs.Trees.{parenKind, objectKind, blockKind, bracketKind}
 use Rattle.tables.specs.Records.{treeWidth}
 use Rattle.grammar.specs.Tokens.{Token, token, name, number, string, pattern, divide, plus, assign, colon, semicolon, comma, dot, openParen, openBrace, openBracket, returnWord, functionWord, ifWord}
-use Rattle.controls.specs.Machinery.Steps.{isOpener, isEnd}
-use Rattle.controls.proofs.EndLaws.{at-openers}
+use Rattle.grammar.specs.Machinery.Classes.{isOpener, isEnd}
 use Rattle.segments.specs.Machinery.Segments.{countOf, cellOr, kindAt, placeAt, endAt, sizeAt, looks, wordBy, signBy, spelledBy, kindBy, classBy, classAt, contentOf, Segment, inside, spotAt, closerSpot, tokensBy, tokensAt, FineAt, Fine}
 
 -- a number of a record inside a group is that of a record of the part
@@ -120,6 +119,16 @@ module _ (p : Segment) (i : ℕ) where
         let f = fine .at i h in
         let c = inside-count fine i h in
         rw (lt-ltb i (countOf (p .cells)) h, o, fuel-alike (countOf (p .cells)) (suc (countOf (inside p i .cells))) (inside-fine fine i h) 0 (omega arith) (omega arith), fuel-alike (countOf (p .cells)) (suc (countOf (p .cells))) fine (i + sizeAt (p .cells) i) (omega arith) (omega arith))
+
+-- what holds of the three openers holds of each class that opens a group
+pub at-openers : (P : ℕ → Type 0) → P openParen → P openBrace → P openBracket → (class : ℕ) → T (isOpener class) → P class
+at-openers P paren brace bracket class opens = go (eqb class openParen) (eqb class openBrace) (eqb class openBracket) refl refl refl opens
+  where
+    go : (a b c : Bool) → eqb class openParen ≡ a → eqb class openBrace ≡ b → eqb class openBracket ≡ c → T (a || (b || c)) → P class
+    go true b c d e f opens = rw (eqb-true class openParen d) paren
+    go false true c d e f opens = rw (eqb-true class openBrace e) brace
+    go false false true d e f opens = rw (eqb-true class openBracket f) bracket
+    go false false false d e f opens = absurd opens
 
 -- a class that is one, and opens no group
 abbrev pub isElement : ℕ → Bool

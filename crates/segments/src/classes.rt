@@ -1,7 +1,7 @@
 // The class of a record: its kind tells it, and of a word or sign its length and first byte.
 ghost use mathlib.Core.Path.{_≡_};
 ghost use Rattle.segments.specs.Machinery.Segments.{wordBy, signBy, spelledBy, kindBy};
-use controls::classes;
+use grammar::tokens;
 
 // The class of a reserved word that is taken, by its length and first byte.
 fn word_class(len: usize, b: u8) -> u32
@@ -9,19 +9,19 @@ fn word_class(len: usize, b: u8) -> u32
 {
     if len == 2 {
         if b == b'i' {
-            return classes::IF;
+            return tokens::IF;
         }
         return 0;
     }
     if len == 6 {
         if b == b'r' {
-            return classes::RETURN;
+            return tokens::RETURN;
         }
         return 0;
     }
     if len == 8 {
         if b == b'f' {
-            return classes::FUNCTION;
+            return tokens::FUNCTION;
         }
         return 0;
     }
@@ -33,25 +33,25 @@ fn single_class(b: u8) -> u32
     ensures { λ r. ⌜ r ≡ signBy 1 b ⌝ }
 {
     if b == b';' {
-        return classes::SEMICOLON;
+        return tokens::SEMICOLON;
     }
     if b == b'.' {
-        return classes::DOT;
+        return tokens::DOT;
     }
     if b == b'=' {
-        return classes::ASSIGN;
+        return tokens::ASSIGN;
     }
     if b == b':' {
-        return classes::COLON;
+        return tokens::COLON;
     }
     if b == b'+' {
-        return classes::PLUS;
+        return tokens::PLUS;
     }
     if b == b'/' {
-        return classes::DIVIDE;
+        return tokens::DIVIDE;
     }
     if b == b',' {
-        return classes::COMMA;
+        return tokens::COMMA;
     }
     0
 }
@@ -81,14 +81,14 @@ pub fn kind_class(kind: u32) -> u32
     ensures { λ r. ⌜ r ≡ kindBy kind ⌝ }
 {
     match kind {
-        elements::NAME => classes::NAME,
-        elements::NUMBER => classes::NUMBER,
-        elements::STRING => classes::STRING,
-        elements::PATTERN => classes::PATTERN,
-        prefix::PARENS => classes::OPEN_PAREN,
-        prefix::OBJECT => classes::OPEN_BRACE,
-        prefix::BLOCK => classes::OPEN_BRACE,
-        prefix::BRACKETS => classes::OPEN_BRACKET,
+        elements::NAME => tokens::NAME,
+        elements::NUMBER => tokens::NUMBER,
+        elements::STRING => tokens::STRING,
+        elements::PATTERN => tokens::PATTERN,
+        prefix::PARENS => tokens::OPEN_PAREN,
+        prefix::OBJECT => tokens::OPEN_BRACE,
+        prefix::BLOCK => tokens::OPEN_BRACE,
+        prefix::BRACKETS => tokens::OPEN_BRACKET,
         _ => 0,
     }
 }

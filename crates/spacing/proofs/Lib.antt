@@ -1,2 +1,3 @@
 pub mod OverLaws
 pub mod FoundAgain
+pub mod WriteLaws

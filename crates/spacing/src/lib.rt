@@ -5,7 +5,7 @@ ghost use Prim.Native.Nat.{ℕ, _+_, _<_, _≤_, _^_};
 ghost use lib.ListN.{length, replicate};
 ghost use Rattle.elements.specs.Lexemes.{bytesOf};
 ghost use Rattle.spacing.specs.Respaced.{addElement, addCloser};
-ghost use Rattle.spacing.specs.Machinery.Over.{over};
+ghost use Rattle.spacing.specs.Machinery.Over.{over, Puts};
 
 // Writes a byte behind what is written so far, if it fits; the next place is counted in any case.
 pub fn put_byte(output: &mut [u8], at: usize, b: u8) -> usize
@@ -43,7 +43,7 @@ pub fn put_element(
     newline: bool,
 ) -> usize
     requires { ⌜ (at + 1 < 2 ^ 31) × (first ≤ end) × (end ≤ length (now text)) × (end < 2 ^ 31) ⌝ }
-    ensures { λ r. ⌜ (r + first ≤ at + end + 1) × ((written old : List ℕ) → at ≡ length written → now (output .entry) ≡ over written old → (r ≡ length (addElement (now (text .entry)) written first end newline)) × (now (output .exit) ≡ over (addElement (now (text .entry)) written first end newline) old)) ⌝ }
+    ensures { λ r. ⌜ (r + first ≤ at + end + 1) × Puts (λ w. addElement (now (text .entry)) w first end newline) (now (output .entry)) (now (output .exit)) at r ⌝ }
 {
     if newline {
         let next = put_byte(output, at, 10);
@@ -59,7 +59,7 @@ pub fn put_element(
 // Writes a blank and a closer.
 pub fn put_closer(text: &[u8], output: &mut [u8], at: usize, first: usize, end: usize) -> usize
     requires { ⌜ (at + 1 < 2 ^ 31) × (first ≤ end) × (end ≤ length (now text)) × (end < 2 ^ 31) ⌝ }
-    ensures { λ r. ⌜ (r + first ≤ at + end + 1) × ((written old : List ℕ) → at ≡ length written → now (output .entry) ≡ over written old → (r ≡ length (addCloser (now (text .entry)) written first end)) × (now (output .exit) ≡ over (addCloser (now (text .entry)) written first end) old)) ⌝ }
+    ensures { λ r. ⌜ (r + first ≤ at + end + 1) × Puts (λ w. addCloser (now (text .entry)) w first end) (now (output .entry)) (now (output .exit)) at r ⌝ }
 {
     let next = put_byte(output, at, 32);
     put_bytes(text, output, next, first, end)

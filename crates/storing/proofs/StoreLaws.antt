@@ -1,4 +1,4 @@
--- What each answer of `advance` makes of the table.
+-- What a leaf, an opener and a closer make of the table.
 use mathlib.Core.Path.{_≡_, refl, _∙_}
 use mathlib.Core.List.{List, _++_}
 use mathlib.Core.Bool.{Bool}
@@ -8,15 +8,12 @@ use lib.ListN.{length, take, drop, set, length-set}
 use Rattle.elements.specs.declared.Element.{Element}
 use Rattle.rule.specs.Trees.{Trees, none, leaf, group, count}
 use Rattle.rule.specs.Levels.{Levels, inside, countSoFar, onTop}
-use Rattle.prefix.specs.Reading.{Step}
-use Rattle.prefix.specs.Machinery.Represents.{Represents, Closes, closed, Follows, leaf-added, group-opened, group-closed, stopped}
+use Rattle.prefix.specs.Machinery.Represents.{Represents, Closes, closed}
 use Rattle.prefix.specs.declared.State.{State}
-use Rattle.prefix.specs.declared.Advanced.{Advanced}
 use Rattle.prefix.proofs.StateLaws.{count-on-top}
 use Rattle.tables.specs.Records.{treeWidth, treeRecord}
 use Rattle.storing.specs.Records.{records}
-use Rattle.storing.specs.Machinery.Table.{cells, recordIndex, Holds, Turned, goes-on, ends}
-use Rattle.storing.specs.declared.Stored.{Stored}
+use Rattle.storing.specs.Machinery.Table.{cells, recordIndex, Holds}
 use Rattle.storing.proofs.CellLaws.{cells-length, cells-on-top, put-cells, put-length, finish-cells}
 
 -- the group that a closer ends has its record among those so far
@@ -25,11 +22,11 @@ closes-index (closed q) = omega (arith, q)
 
 -- the end of a group is written into its record
 module _ (before now stack after : List ℕ) (room : ℕ) (state s : State) (e : Element) where
-  closing : {m : ℕ} {levels outer : Levels} → Closes recordIndex e m levels outer → Holds before now stack room state levels → length after ≡ length stack
+  pub store-closer : {m : ℕ} {levels outer : Levels} → Closes recordIndex e m levels outer → Holds before now stack room state levels → length after ≡ length stack
       → Represents recordIndex after s outer
       → Holds before (set (set now (treeWidth * m + 2) (e .end)) (treeWidth * m + 3) (state .records - m)) after room s outer
   unfolding records count
-  closing {m} (closed {around = around} {kind = kind} {first = first} {newline = newline} {trees = trees} q) h same represented =
+  store-closer {m} (closed {around = around} {kind = kind} {first = first} {newline = newline} {trees = trees} q) h same represented =
       let add : Trees → Trees = λ t. group t kind first (e .end) newline trees in
       let n : countSoFar (onTop add around) ≡ countSoFar around + (count trees + 1) = count-on-top add (count trees + 1) (λ t. refl) around in
       let w : state .records - countSoFar around ≡ count trees + 1 = omega (arith, h .represented .records-is) in
@@ -69,42 +66,18 @@ module _ (before now stack : List ℕ) (room : ℕ) (state : State) (levels : Le
           stack-is = same ∙ h .stack-is;
         }
 
-    pub store-leaf : {s : State} {y : Step} → Follows room recordIndex after e levels (Advanced.Leaf s) y
-        → Turned before (take (treeWidth * state .records) now ++ (treeRecord (e .kind) (e .first) (e .end) 1 (e .newline) ++ drop (treeWidth * state .records + treeWidth) now)) after room
-        (Stored.More s) y
+    pub store-leaf : (s : State) → Represents recordIndex after s (onTop (λ t. leaf t e) levels) → countSoFar levels < room
+        → Holds before (take (treeWidth * state .records) now ++ (treeRecord (e .kind) (e .first) (e .end) 1 (e .newline) ++ drop (treeWidth * state .records + treeWidth) now)) after room
+        s (onTop (λ t. leaf t e) levels)
     unfolding records count
-    store-leaf (leaf-added {state = s} some represented) =
+    store-leaf s represented some =
         let add : Trees → Trees = λ t. leaf t e in
-        goes-on
-        (store-put (e .kind) (e .end) 1 s (onTop add levels) represented some
+        store-put (e .kind) (e .end) 1 s (onTop add levels) represented some
         (cells-on-top add (treeRecord (e .kind) (e .first) (e .end) 1 (e .newline)) (λ t. refl) levels)
-        (count-on-top add 1 (λ t. refl) levels))
+        (count-on-top add 1 (λ t. refl) levels)
 
-    pub store-open : {kind : ℕ} {s : State} {y : Step} → Follows room recordIndex after e levels (Advanced.Opened kind s) y
-        → Turned before (take (treeWidth * state .records) now ++ (treeRecord kind (e .first) 0 0 (e .newline) ++ drop (treeWidth * state .records + treeWidth) now)) after room
-        (Stored.More s) y
+    pub store-opener : (kind : ℕ) (s : State) → Represents recordIndex after s (inside levels kind (e .first) (e .newline) none) → countSoFar levels < room
+        → Holds before (take (treeWidth * state .records) now ++ (treeRecord kind (e .first) 0 0 (e .newline) ++ drop (treeWidth * state .records + treeWidth) now)) after room
+        s (inside levels kind (e .first) (e .newline) none)
     unfolding records count
-    store-open (group-opened {kind = kind} {state = s} some represented) =
-        goes-on
-        (store-put kind 0 0 s (inside levels kind (e .first) (e .newline) none) represented some refl (omega arith))
-
-    -- the record of the group that closes is finished
-    pub store-close : {m : ℕ} {s : State} {y : Step} → Follows room recordIndex after e levels (Advanced.Closed m s) y
-        → Turned before (set (set now (treeWidth * m + 2) (e .end)) (treeWidth * m + 3) (state .records - m)) after room (Stored.More s) y
-    store-close (group-closed {state = s} c represented) = goes-on (closing before now stack after room state s e c h same represented)
-
-    pub store-stop : {n p : ℕ} {y : Step} → Follows room recordIndex after e levels (Advanced.Stopped n p) y → (cells : List ℕ) → Turned before cells after room (Stored.Stop n p) y
-    store-stop stopped cells = ends
-
--- what an answer of `advance` says of the records so far
-pub leaf-room : {room : ℕ} {tag : Levels → ℕ → ℕ} {stack : List ℕ} {e : Element} {levels : Levels} {s : State} {y : Step}
-    → Follows room tag stack e levels (Advanced.Leaf s) y → countSoFar levels < room
-leaf-room (leaf-added some represented) = some
-
-pub open-room : {room : ℕ} {tag : Levels → ℕ → ℕ} {stack : List ℕ} {e : Element} {levels : Levels} {kind : ℕ} {s : State} {y : Step}
-    → Follows room tag stack e levels (Advanced.Opened kind s) y → countSoFar levels < room
-open-room (group-opened some represented) = some
-
-pub close-index : {room : ℕ} {stack : List ℕ} {e : Element} {levels : Levels} {m : ℕ} {s : State} {y : Step}
-    → Follows room recordIndex stack e levels (Advanced.Closed m s) y → m < countSoFar levels
-close-index (group-closed c represented) = closes-index c
+    store-opener kind s represented some = store-put kind 0 0 s (inside levels kind (e .first) (e .newline) none) represented some refl (omega arith)

@@ -1,16 +1,18 @@
 -- Laws of the table of codes, and what a code tells of its byte.
-use mathlib.Core.Path.{_≡_, refl, _∙_}
+use mathlib.Core.Path.{_≡_, refl, sym, _∙_, fun-ext}
 use mathlib.Core.Bool.{Bool, true, false, cond, and-false}
 use mathlib.Core.List.{List}
 use Prim.Native.Nat.{ℕ, zero, suc, _+_, _<_, _≤_}
 use native.Mathlib.Omega.{arith}
 use borrow.Author.Tests.{eq-eqb, ne-eqb, lt-ltb, le-ltb, lt-leb, ltb-true, ltb-false}
 use lib.Dec.{T, eqb, ltb, leb}
-use lib.ListN.{length, getD}
+use lib.ListN.{length, getD, drop}
 use Rattle.text.specs.Quoted.{byte}
 use Rattle.text.specs.Bytes.{between, blank, lineEnd, illegal, letter, digit, nameByte}
-use Rattle.text.specs.Machinery.Codes.{turning, codeOf, codesFrom, byteCodes}
+use Rattle.text.specs.Machinery.Codes.{turning, codeOf, codeOver, codesFrom, byteCodes}
+use Rattle.text.specs.Runs.{run}
 use Rattle.text.proofs.Range.{every, alike, alike→eq, agree}
+use Rattle.text.proofs.Laws.{run-stop, run-more, run-passed, run-ends}
 
 from-length : (b n : ℕ) → length (codesFrom b n) ≡ n
 from-length b zero = refl
@@ -173,3 +175,32 @@ code-apart b x h t e = go (lineEnd x) (illegal x) (rw e at h)
     go true n z = omega arith
     go false true z = omega arith
     go false false z = let k : 2 < 2 = rw t at z in omega arith
+
+-- name bytes are those whose codes are over that of a blank, and digits those whose codes are over that of a letter
+pub over-blank : codeOver 4 ≡ nameByte
+unfolding codeOver
+over-blank = fun-ext (λ b. sym (by-name b))
+
+pub over-letter : codeOver 5 ≡ digit
+unfolding codeOver codeOf turning illegal lineEnd blank letter digit
+over-letter = fun-ext (λ b. sym (by-code digit (ltb 5) tt tt past-digit b))
+
+-- runs of bytes whose codes are over a limit, as the laws of runs say it
+module _ (limit : ℕ) (s : List ℕ) where
+  module _ (i : ℕ) (h : i < length s) where
+    pub over-stop : codeOf (getD s i 0) ≤ limit → i + run (codeOver limit) (drop i s) ≡ i
+    unfolding codeOver
+    over-stop k = run-stop (codeOver limit) s i h (le-ltb limit (codeOf (getD s i 0)) k)
+
+    pub over-more : (j : ℕ) → j ≡ i + 1 → limit < codeOf (getD s i 0) → i + run (codeOver limit) (drop i s) ≡ j + run (codeOver limit) (drop j s)
+    unfolding codeOver
+    over-more j e k = rw e (run-more (codeOver limit) s i h (lt-ltb limit (codeOf (getD s i 0)) k))
+
+  pub over-passed : {A : Type 0} (f : ℕ → A) → ((i : ℕ) → i < length s → limit < codeOf (getD s i 0) → f i ≡ f (i + 1))
+      → (i end : ℕ) → end ≡ i + run (codeOver limit) (drop i s) → f i ≡ f end
+  unfolding codeOver
+  over-passed f more = run-passed (codeOver limit) s f (λ i h t. more i h (ltb-true limit (codeOf (getD s i 0)) t))
+
+  pub over-ends : (i end : ℕ) → end ≡ i + run (codeOver limit) (drop i s) → end < length s → codeOf (getD s end 0) ≤ limit
+  unfolding codeOver
+  over-ends i end e h = ltb-false limit (codeOf (getD s end 0)) (run-ends (codeOver limit) s i end e h)

@@ -1,12 +1,12 @@
 -- Laws of runs and of the comparison of two texts, at a place.
-use mathlib.Core.Path.{_≡_, refl, ap}
+use mathlib.Core.Path.{_≡_, refl, ap, _∙_}
 use mathlib.Core.List.{List, [], _∷_, _++_}
 use mathlib.Core.Bool.{Bool, true, false, and-false, cond}
 use Prim.Native.Nat.{ℕ, suc, zero, _+_, _<_, _≤_}
 use native.Mathlib.Nat.{add-zero}
 use native.Mathlib.Omega.{arith}
-use borrow.Author.Tests.{eq-eqb, ne-eqb}
-use lib.Dec.{T, eqb, eqb→eq}
+use borrow.Author.Tests.{eq-eqb, ne-eqb, ltb-true, ltb-false}
+use lib.Dec.{T, eqb, eqb→eq, ltb}
 use lib.ListN.{length, getD, take, drop, drop-of-length-le, length-drop}
 use Rattle.text.specs.Runs.{run, same}
 use Rattle.text.proofs.Lists.{drop-at}
@@ -61,6 +61,34 @@ module _ (class : ℕ → Bool) (s : List ℕ) (i : ℕ) where
     pub run-more : class (getD s i 0) ≡ true → i + run class (drop i s) ≡ i + 1 + run class (drop (i + 1) s)
     unfolding run
     run-more e = rw (drop-at s i h) (rw (e, run) (omega arith))
+
+-- what each byte of a run hands on to the next place holds at the run's end
+module _ {A : Type 0} (class : ℕ → Bool) (s : List ℕ) (f : ℕ → A)
+    (more : (i : ℕ) → i < length s → class (getD s i 0) ≡ true → f i ≡ f (i + 1)) where
+  passed-within : (n i : ℕ) → length s ≤ i + n → f i ≡ f (i + run class (drop i s))
+  passed-within zero i h = rw (run-past class s i (omega arith))
+  passed-within (suc n) i h = go (ltb i (length s)) refl (class (getD s i 0)) refl (passed-within n (i + 1) (omega arith))
+    where
+      go : (b : Bool) → ltb i (length s) ≡ b → (t : Bool) → class (getD s i 0) ≡ t → f (i + 1) ≡ f (i + 1 + run class (drop (i + 1) s))
+          → f i ≡ f (i + run class (drop i s))
+      go false e t d next = rw (run-past class s i (ltb-false i (length s) e))
+      go true e false d next = rw (run-stop class s i (ltb-true i (length s) e) d)
+      go true e true d next =
+          let l = ltb-true i (length s) e in
+          rw (run-more class s i l d) (more i l d ∙ next)
+
+  pub run-passed : (i end : ℕ) → end ≡ i + run class (drop i s) → f i ≡ f end
+  run-passed i end e = rw e (passed-within (length s) i (omega arith))
+
+-- no byte of the class stands at the end of its run
+pub run-ends : (class : ℕ → Bool) (s : List ℕ) (i end : ℕ) → end ≡ i + run class (drop i s) → end < length s → class (getD s end 0) ≡ false
+run-ends class s i end e h = go (class (getD s end 0)) refl
+  where
+    go : (t : Bool) → class (getD s end 0) ≡ t → t ≡ false
+    go false d = refl
+    go true d =
+        absurd
+        (omega (arith, run-passed class s (λ j. j + run class (drop j s)) (run-more class s) i end e, run-more class s end h d))
 
 pub same-length : (a b : List ℕ) → (length a ≡ length b → ⊥) → same a b ≡ false
 unfolding same

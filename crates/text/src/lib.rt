@@ -3,7 +3,7 @@ ghost use mathlib.Core.Path.{_≡_};
 ghost use Rattle.text.specs.Machinery.Codes.{codeOf, byteCodes};
 
 // The codes; 3 is that of any other legal byte. Those over LINE_END are legal inside a comment or a literal, those over TURNING go on
-// with it in any case, and those over BLANK are of name bytes.
+// with it in any case, those over BLANK are of name bytes, and those over LETTER of digits.
 pub const ILLEGAL: u8 = 0;
 
 pub const LINE_END: u8 = 1;

@@ -1,2 +1,2 @@
 pub mod RunLaws
-pub mod TurnLaws
+pub mod TakeLaws

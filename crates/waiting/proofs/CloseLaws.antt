@@ -8,7 +8,7 @@ use lib.ListN.{length, getD}
 use Rattle.tables.specs.Records.{mostTrees, mostSyntax}
 use Rattle.grammar.specs.Syntax.{Syntax, node}
 use Rattle.grammar.specs.Machinery.Machine.{Pending, pending}
-use Rattle.records.specs.Machinery.Written.{putRecord}
+use Rattle.controls.specs.Machinery.Written.{putRecord}
 use Rattle.waiting.specs.Machinery.Waiting.{width, binding, close, Holds, Backed, HoldsShut}
 use Rattle.waiting.specs.declared.Level.{Level}
 use Rattle.waiting.proofs.HoldLaws.{uppermost, bottom-top, backed, unstacked-held}

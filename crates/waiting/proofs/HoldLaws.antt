@@ -7,7 +7,7 @@ use lib.ListN.{length, getD}
 use Rattle.tables.specs.Records.{mostTrees, mostSyntax}
 use Rattle.grammar.specs.Syntax.{Syntax, nil, snoc, size}
 use Rattle.grammar.specs.Machinery.Machine.{Pending, pending}
-use Rattle.records.specs.Machinery.Written.{putSyntax}
+use Rattle.controls.specs.Machinery.Written.{putSyntax}
 use Rattle.waiting.specs.Machinery.Waiting.{width, lefts, Stacked, bare, above, Holds, Backed, withHeld, restarted}
 use Rattle.waiting.specs.declared.Level.{Level}
 

@@ -8,7 +8,7 @@ use lib.Seq.{getD-set-same, getD-set-other}
 use Rattle.tables.specs.Records.{mostTrees}
 use Rattle.grammar.specs.Syntax.{Syntax, nil, snoc, node, size}
 use Rattle.grammar.specs.Machinery.Machine.{Pending, pending}
-use Rattle.records.specs.Machinery.Written.{putRecord, putSyntax}
+use Rattle.controls.specs.Machinery.Written.{putRecord, putSyntax}
 use Rattle.waiting.specs.Machinery.Waiting.{width, lefts, Stacked, bare, above, Holds, stackWith, waitingOne, madeOne}
 use Rattle.waiting.specs.declared.Level.{Level}
 use Rattle.waiting.proofs.HoldLaws.{alone-held}

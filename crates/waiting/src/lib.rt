@@ -5,9 +5,10 @@ ghost use mathlib.Core.Path.{_≡_};
 ghost use Prim.Native.Nat.{_+_, _-_, _*_, _≤_, _<_};
 ghost use lib.ListN.{length};
 ghost use Rattle.tables.specs.Records.{mostTrees, mostSyntax};
-ghost use Rattle.records.specs.Machinery.Written.{putRecord};
-ghost use Rattle.waiting.specs.Machinery.Waiting.{width, binding, Backed, Closes, Completes, stackWith, waitingOne, madeOne};
-use controls::classes;
+ghost use Rattle.controls.specs.Machinery.Written.{putRecord};
+ghost use Rattle.waiting.specs.Machinery.Waiting.{width, binding, Backed, Closes, Completes, stackWith, waitingOne, madeOne, withHeld};
+use controls::records;
+use grammar::tokens;
 
 // Numbers that what waits takes on the stack.
 pub const WIDTH: usize = 3;
@@ -29,10 +30,10 @@ pub struct Level {
 fn binding(kind: u32) -> u32
     ensures { λ r. ⌜ r ≡ binding kind ⌝ }
 {
-    if kind == classes::ASSIGN {
+    if kind == tokens::ASSIGN {
         return 2;
     }
-    let precedence = classes::precedence(kind);
+    let precedence = controls::precedence(kind);
     if 1 <= precedence {
         return precedence + 2;
     }
@@ -122,5 +123,18 @@ pub fn completed(l: Level, waiting: &[u16], syntax: &mut [u32]) -> Level
         floor: all.floor,
         start: all.count,
         held: all.held,
+    }
+}
+
+// The level with a word or name held.
+pub fn holding(l: Level, word: usize) -> Level
+    ensures { λ r. ⌜ r ≡ withHeld word l ⌝ }
+{
+    Level {
+        count: l.count,
+        top: l.top,
+        floor: l.floor,
+        start: l.start,
+        held: word,
     }
 }

@@ -1,29 +1,16 @@
 -- What a step of the code means: the entry of the machine's table, and between which controls it leads. Machinery.
 use Prim.Native.Nat.{ℕ, _≤_}
 use mathlib.Core.Path.{_≡_}
-use mathlib.Core.Bool.{Bool, true, false, cond, not, _&&_, _||_}
-use lib.Dec.{T, eqb, ltb, leb}
-use Rattle.grammar.specs.Tokens.{pattern, assign, colon, openParen, closeParen, openBrace, closeBrace, openBracket, closeBracket}
+use mathlib.Core.Bool.{Bool, true, false}
+use lib.Dec.{T}
+use Rattle.grammar.specs.Tokens.{assign, colon}
 use Rattle.grammar.specs.Grammar.{Items, arrayElements, objectProperties, Scope, body, precedence}
 use Rattle.grammar.specs.Machinery.Machine.{endOfText, ifNest, Setting, among, inNest, behindStatement, Effect, keep, takeName, takeMember, endExpression, endValue, endBareReturn, takeLabel, holdWord, startReturn, takeLeaf, takeOperator, Closing, toParens, toCall, toObject, toArray, toIndex, toBlock, toCondition, toParameter, toDeclaration, toFunction, toStatement, noValue, expressionValue, doneValue, listValue, Ending, byStatement, byReturn, byParen, byBracket, byItem, behindComma, Role, declared, operandIn, Control, statementDue, nameFirst, returnFirst, ifFirst, operandDue, operandDone, dotLast, functionFirst, functionNamed, parameterPast, itemDue, propertyNamed, parameterDue, parameterNamed, Action, fail, goto, push, enter, pop, finish}
+use Rattle.grammar.specs.Machinery.Classes.{isOpener, isEnd, isSingle}
 use Rattle.controls.specs.Machinery.Numbers.{settingBy, controlOf, effectBy, closingBy, insideBy}
 use Rattle.controls.specs.declared.Control as code
 use Rattle.controls.specs.declared.Step.{Step}
 use Rattle.controls.specs.declared.Step.the-variants.{Fail, Goto, Push, Enter}
-
--- a token of a class that is a part by itself: a name, number, string or regular expression
-abbrev pub isLeaf : ℕ → Bool
-isLeaf class = cond (eqb class 0) false (leb class pattern)
-
--- a class that opens a group (the class of its closer is the next number), that ends a level, and that is one record's alone
-abbrev pub isOpener : ℕ → Bool
-isOpener class = eqb class openParen || (eqb class openBrace || eqb class openBracket)
-
-abbrev pub isEnd : ℕ → Bool
-isEnd class = eqb class closeParen || (eqb class closeBrace || (eqb class closeBracket || eqb class endOfText))
-
-abbrev pub isSingle : ℕ → Bool
-isSingle class = ltb 0 class && (not (isOpener class) && not (isEnd class))
 
 -- where an operand may start, what ends its expression, and whether it may be assigned to; a property's does not start with the item, and
 -- no row takes it there

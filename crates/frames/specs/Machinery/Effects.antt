@@ -45,7 +45,7 @@ use Rattle.grammar.specs.Machinery.Machine.{
 use Rattle.controls.specs.Machinery.Numbers.{settingBy, controlOf, effectBy, closingBy}
 use Rattle.controls.specs.Machinery.Steps.{Leads, Spans, Settled, Ends}
 use Rattle.controls.specs.declared.Control as code
-use Rattle.records.specs.Machinery.Written.{putSyntax}
+use Rattle.controls.specs.Machinery.Written.{putSyntax}
 use Rattle.waiting.specs.Machinery.Waiting.{width}
 use Rattle.frames.specs.Machinery.Stands.{Kept, Stands}
 use Rattle.waiting.specs.declared.Level.{Level}

@@ -7,7 +7,7 @@ use mathlib.Core.Bool.{Bool, false, _||_, or-false, or-true}
 use Prim.Native.Nat.{_+_, _-_, _≤_}
 use lib.ListN.{length, drop}
 use Rattle.gaps.specs.Gaps.{inBlock}
-use Rattle.gaps.proofs.GapLaws.{block-past, block-quiet, block-stray, block-line-end, block-more, block-star, block-star-last, block-close}
+use Rattle.gaps.proofs.GapLaws.{block-past, block-passed, block-stray, block-line-end, block-more, block-star, block-star-last, block-close}
 use Rattle.gaps.proofs.block_comment.Statement.{statement}
 use Rattle.gaps.proofs.block_comment.Tie as tie
 
@@ -25,11 +25,14 @@ add-i c = search needs
 loop-holds : tie.Need-loop-holds Inv-loop μ-loop
 loop-holds c = (omega arith, λ newline. rw (or-false newline))
 
+run-end-requires : tie.Need-run-end-requires Inv-loop μ-loop
+run-end-requires c κs = search needs
+
 shared-slice-read-b : tie.Need-shared-slice-read-b Inv-loop μ-loop
 shared-slice-read-b c = search needs
 
 code-requires : tie.Need-code-requires Inv-loop μ-loop
-code-requires c κs = c .before .before .before .before .before .pre .0
+code-requires c κs = search needs
 
 add-i-2 : tie.Need-add-i-2 Inv-loop μ-loop
 add-i-2 c = search needs
@@ -39,8 +42,13 @@ loop-less c = search needs
 
 loop-again : tie.Need-loop-again Inv-loop μ-loop
 loop-again c =
-    let l = c .before .before .before .before in
-    (omega arith, λ newline. l .loop .inv .1 newline ∙ block-quiet _ _ _ _ (omega arith) (omega arith))
+    let r = c .before .before .before .before in
+    (omega arith, λ newline. rw (or-true newline) (r .before .before .loop .inv .1 newline ∙ block-passed _ _ _ _ _ (r .run-end .ensures) ∙ block-line-end _ _ _ _ (omega arith) (omega arith)))
+
+returns : tie.Need-returns Inv-loop μ-loop
+returns c =
+    let r = c .before .before .before .before .before in
+    (λ newline. r .before .before .loop .inv .1 newline ∙ block-passed _ _ _ _ _ (r .run-end .ensures) ∙ block-stray _ _ _ _ (omega arith) (omega arith), tt)
 
 add-i-3 : tie.Need-add-i-3 Inv-loop μ-loop
 add-i-3 c = search needs
@@ -50,13 +58,11 @@ loop-less-2 c = search needs
 
 loop-again-2 : tie.Need-loop-again-2 Inv-loop μ-loop
 loop-again-2 c =
-    let l = c .before .before .before .before .before in
-    (omega arith, λ newline. rw (or-true newline) (l .loop .inv .1 newline ∙ block-line-end _ _ _ _ (omega arith) (omega arith)))
+    let r = c .before .before .before .before .before .before in
+    (omega arith, λ newline. r .before .before .loop .inv .1 newline ∙ block-passed _ _ _ _ _ (r .run-end .ensures) ∙ block-more _ _ _ _ (omega arith) (omega arith) (omega arith))
 
-returns : tie.Need-returns Inv-loop μ-loop
-returns c =
-    let l = c .before .before .before .before .before .before in
-    (λ newline. l .loop .inv .1 newline ∙ block-stray _ _ _ _ (omega arith) (omega arith), tt)
+add-if5 : tie.Need-add-if5 Inv-loop μ-loop
+add-if5 c = search needs
 
 add-i-4 : tie.Need-add-i-4 Inv-loop μ-loop
 add-i-4 c = search needs
@@ -66,11 +72,14 @@ loop-less-3 c = search needs
 
 loop-again-3 : tie.Need-loop-again-3 Inv-loop μ-loop
 loop-again-3 c =
-    let l = c .before .before .before .before .before .before .before in
-    (omega arith, λ newline. l .loop .inv .1 newline ∙ block-more _ _ _ _ (omega arith) (omega arith) (omega arith))
+    let r = c .before .before .before .before .before .before .before in
+    (omega arith, λ newline. r .before .before .loop .inv .1 newline ∙ block-passed _ _ _ _ _ (r .run-end .ensures) ∙ block-star-last _ _ _ _ (omega arith) (omega arith) (omega arith) (omega arith))
 
-add-if5 : tie.Need-add-if5 Inv-loop μ-loop
-add-if5 c = search needs
+add-if6 : tie.Need-add-if6 Inv-loop μ-loop
+add-if6 c = search needs
+
+shared-slice-read-if6 : tie.Need-shared-slice-read-if6 Inv-loop μ-loop
+shared-slice-read-if6 c = search needs
 
 add-i-5 : tie.Need-add-i-5 Inv-loop μ-loop
 add-i-5 c = search needs
@@ -80,36 +89,24 @@ loop-less-4 c = search needs
 
 loop-again-4 : tie.Need-loop-again-4 Inv-loop μ-loop
 loop-again-4 c =
-    let l = c .before .before .before .before .before .before .before .before in
-    (omega arith, λ newline. l .loop .inv .1 newline ∙ block-star-last _ _ _ _ (omega arith) (omega arith) (omega arith) (omega arith))
-
-add-if6 : tie.Need-add-if6 Inv-loop μ-loop
-add-if6 c = search needs
-
-shared-slice-read-if6 : tie.Need-shared-slice-read-if6 Inv-loop μ-loop
-shared-slice-read-if6 c = search needs
-
-add-i-6 : tie.Need-add-i-6 Inv-loop μ-loop
-add-i-6 c = search needs
-
-loop-less-5 : tie.Need-loop-less-5 Inv-loop μ-loop
-loop-less-5 c = search needs
-
-loop-again-5 : tie.Need-loop-again-5 Inv-loop μ-loop
-loop-again-5 c =
-    let l = c .before .before .before .before .before .before .before .before .before .before in
-    (omega arith, λ newline. l .loop .inv .1 newline ∙ block-star _ _ _ _ (omega arith) (omega arith) (omega arith) (omega arith))
+    let r = c .before .before .before .before .before .before .before .before .before in
+    (omega arith, λ newline. r .before .before .loop .inv .1 newline ∙ block-passed _ _ _ _ _ (r .run-end .ensures) ∙ block-star _ _ _ _ (omega arith) (omega arith) (omega arith) (omega arith))
 
 add-t12 : tie.Need-add-t12 Inv-loop μ-loop
 add-t12 c = search needs
 
 returns-2 : tie.Need-returns-2 Inv-loop μ-loop
 returns-2 c =
-    let l = c .before .before .before .before .before .before .before .before .before .before in
-    (λ newline. l .loop .inv .1 newline ∙ block-close _ _ _ _ (omega arith) (omega arith) (omega arith) (omega arith) (omega arith), omega arith)
+    let r = c .before .before .before .before .before .before .before .before .before in
+    (λ newline. r .before .before .loop .inv .1 newline ∙ block-passed _ _ _ _ _ (r .run-end .ensures) ∙ block-close _ _ _ _ (omega arith) (omega arith) (omega arith) (omega arith) (omega arith), omega arith)
 
 returns-3 : tie.Need-returns-3 Inv-loop μ-loop
 returns-3 c = (λ newline. c .before .loop .inv .1 newline ∙ block-past _ _ _ _ (c .loop-test .left), tt)
+
+returns-4 : tie.Need-returns-4 Inv-loop μ-loop
+returns-4 c =
+    let r = c .before in
+    (λ newline. r .before .before .loop .inv .1 newline ∙ block-passed _ _ _ _ _ (r .run-end .ensures) ∙ block-past _ _ _ _ (c .if1 .taken), tt)
 
 pub block-comment-spec : {M : Type 1} → statement M
 block-comment-spec =
@@ -119,27 +116,26 @@ block-comment-spec =
     μ-loop
     add-i
     loop-holds
+    run-end-requires
     shared-slice-read-b
     code-requires
     add-i-2
     loop-less
     loop-again
+    returns
     add-i-3
     loop-less-2
     loop-again-2
-    returns
+    add-if5
     add-i-4
     loop-less-3
     loop-again-3
-    add-if5
+    add-if6
+    shared-slice-read-if6
     add-i-5
     loop-less-4
     loop-again-4
-    add-if6
-    shared-slice-read-if6
-    add-i-6
-    loop-less-5
-    loop-again-5
     add-t12
     returns-2
-    returns-3)
+    returns-3
+    returns-4)

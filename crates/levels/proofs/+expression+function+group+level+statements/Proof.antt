@@ -7,8 +7,8 @@ use borrow.Author.Needs.{needs}
 use lib.ListN.{length}
 use Rattle.controls.specs.Machinery.Numbers.{controlOf}
 use Rattle.segments.specs.Machinery.Segments.{segment, countOf}
-use Rattle.levels.proofs.RunLaws.{Underway, starts-underway, ready-at-end, end-settled}
-use Rattle.levels.proofs.StepLaws.{Arrival, fails, may-affect, affected, may-enter, entered, class-small, may-open, inner-dies, may-close, closed, may-end, ends, dies, open-any, may-run, fewer-inside, as-inside, begins-inside, statements-start, begins-scope, body-scope, body-inside, block-inside, ran-as}
+use Rattle.levels.proofs.RunLaws.{Underway, somewhere, starts-underway, ran-to-closer}
+use Rattle.levels.proofs.StepLaws.{Arrival, fails, may-affect, affected, may-enter, entered, class-small, may-open, inner-dies, may-close, closed, open-any, may-run, fewer-inside, as-inside, begins-inside, statements-start, begins-scope, body-scope, body-inside, block-inside, ran-as}
 use borrow.Fn.Kinds.{In}
 use borrow.Fn.PlainCycle.{Measures, is, falls, and}
 use Rattle.levels.proofs.expression.Reads as expression
@@ -26,15 +26,14 @@ use Rattle.levels.proofs.+expression+function+group+level+statements.Lt
 use Rattle.levels.proofs.statements.Reads as statements
 use Rattle.levels.proofs.statements.Kinds as statements-kinds
 use Rattle.levels.proofs.+expression+function+group+level+statements.Lts-statements as statements-lts
-use Rattle.controls.proofs.ends.ends.Reads as ends-reads
 use Rattle.controls.proofs.inside_of.Reads as inside-of-reads
 use Rattle.rows.proofs.row.Reads as row-reads
 use Rattle.controls.proofs.stand.Reads as stand-reads
 use Rattle.effects.proofs.affect.Reads as affect-reads
 use Rattle.groups.proofs.close.Reads as close-reads
 use Rattle.frames.proofs.empty.Reads as empty-reads
-use Rattle.frames.proofs.ended.Reads as ended-reads
-use Rattle.effects.proofs.entered.Reads as entered-reads
+use Rattle.groups.proofs.at_closer.Reads as at-closer-reads
+use Rattle.groups.proofs.entered.Reads as entered-reads
 use Rattle.frames.proofs.ready.Reads as ready-reads
 use Rattle.segments.proofs.class_at.Reads as class-at-reads
 use Rattle.segments.proofs.closer_at.Reads as closer-at-reads
@@ -105,7 +104,7 @@ abbrev group-claims : ℕ → group-lts.Claims
 group-claims t = (inside-reads.Asked, inside-reads.Learnt, closer-at-reads.Asked, closer-at-reads.Learnt, statements-below t, statements.Post, function-below t, function.Post, expression-below t, expression.Post)
 
 abbrev level-claims : ℕ → level-lts.Claims
-level-claims t = (empty-reads.Asked, empty-reads.Learnt, class-at-reads.Asked, class-at-reads.Learnt, newline-at-reads.Asked, newline-at-reads.Learnt, ready-reads.Asked, ready-reads.Learnt, row-reads.Asked, row-reads.Learnt, place-at-reads.Asked, place-at-reads.Learnt, affect-reads.Asked, affect-reads.Learnt, entered-reads.Asked, entered-reads.Learnt, group-below t, group.Post, close-reads.Asked, close-reads.Learnt, size-at-reads.Asked, size-at-reads.Learnt, ends-reads.Asked, ends-reads.Learnt, ended-reads.Asked, ended-reads.Learnt)
+level-claims t = (empty-reads.Asked, empty-reads.Learnt, class-at-reads.Asked, class-at-reads.Learnt, newline-at-reads.Asked, newline-at-reads.Learnt, ready-reads.Asked, ready-reads.Learnt, row-reads.Asked, row-reads.Learnt, place-at-reads.Asked, place-at-reads.Learnt, affect-reads.Asked, affect-reads.Learnt, entered-reads.Asked, entered-reads.Learnt, group-below t, group.Post, close-reads.Asked, close-reads.Learnt, size-at-reads.Asked, size-at-reads.Learnt, at-closer-reads.Asked, at-closer-reads.Learnt)
 
 abbrev statements-claims : ℕ → statements-lts.Claims
 statements-claims t = (stand-reads.Asked, stand-reads.Learnt, level-below t, level.Post)
@@ -224,13 +223,13 @@ level-newline-at-requires : (t : ℕ) → level-lts.Need-newline-at-requires (le
 level-newline-at-requires t c κs = tt
 
 level-ready-requires : (t : ℕ) → level-lts.Need-ready-requires (level-claims t) (level-at t) level.Post level-Inv-loop level-μ-loop
-level-ready-requires t c κs = search needs
+level-ready-requires t c κs = somewhere (c .before .before .before .before .before .loop .inv .2)
 
 level-row-requires : (t : ℕ) → level-lts.Need-row-requires (level-claims t) (level-at t) level.Post level-Inv-loop level-μ-loop
 level-row-requires t c κs = tt
 
 level-enum-told : (t : ℕ) → level-lts.Need-enum-told (level-claims t) (level-at t) level.Post level-Inv-loop level-μ-loop
-level-enum-told t c = search needs
+level-enum-told t c = c .match .keys1
 
 level-place-at-requires : (t : ℕ) → level-lts.Need-place-at-requires (level-claims t) (level-at t) level.Post level-Inv-loop level-μ-loop
 level-place-at-requires t c κs = tt
@@ -245,7 +244,7 @@ level-returns : (t : ℕ) → level-lts.Need-returns (level-claims t) (level-at 
 level-returns t c = fails (turn t (c .before .before .before)) ((c .before .enum-told) .given .1) ((c .place-at) .ensures)
 
 level-enum-known-step : (t : ℕ) → level-lts.Need-enum-known-step (level-claims t) (level-at t) level.Post level-Inv-loop level-μ-loop
-level-enum-known-step t c = search needs
+level-enum-known-step t c = c .match .keys2
 
 level-add-affect : (t : ℕ) → level-lts.Need-add-affect (level-claims t) (level-at t) level.Post level-Inv-loop level-μ-loop
 level-add-affect t c = omega (arith, (c .before .before .before .before .before .before .before .before .before .before .before .loop-test) .taken, (c .before .before .before .before .before .before .before .before .before .before .before .before .before .before .before .before .before .before) .pre .1 .0 .fine .few)
@@ -263,7 +262,7 @@ level-loop-again : (t : ℕ) → level-lts.Need-loop-again (level-claims t) (lev
 level-loop-again t c = ((c .before .syntax2) .given ∙ (c .before .before .before .before .before .before .before .before .before .before .before .before .syntax) .given ∙ (c .before .before .before .before .before .before .before .before .before .before .before .before .before .before .before .before .before .before .before .loop) .inv .0, (c .before .before .before .waiting) .given ∙ (c .before .before .before .before .before .before .before .before .before .before .before .before .before .before .before .before .before .before .before .loop) .inv .1, affected (turn t (c .before .before .before .before .before .before .before .before .before .before)) ((c .before .before .before .before .before .before .before .before .step) .given .1) ((c .before .before .before .before .affect) .ensures) ((c .before .before .before .waiting) .given))
 
 level-enum-known-step-2 : (t : ℕ) → level-lts.Need-enum-known-step-2 (level-claims t) (level-at t) level.Post level-Inv-loop level-μ-loop
-level-enum-known-step-2 t c = search needs
+level-enum-known-step-2 t c = c .match .keys3
 
 level-add-entered : (t : ℕ) → level-lts.Need-add-entered (level-claims t) (level-at t) level.Post level-Inv-loop level-μ-loop
 level-add-entered t c = omega (arith, (c .before .before .before .before .before .before .before .before .before .before .before .loop-test) .taken, (c .before .before .before .before .before .before .before .before .before .before .before .before .before .before .before .before .before .before) .pre .1 .0 .fine .few)
@@ -281,7 +280,7 @@ level-loop-again-2 : (t : ℕ) → level-lts.Need-loop-again-2 (level-claims t) 
 level-loop-again-2 t c = ((c .before .before .before .before .before .before .before .before .before .before .syntax) .given ∙ (c .before .before .before .before .before .before .before .before .before .before .before .before .before .before .before .before .before .loop) .inv .0, (c .before .waiting2) .given ∙ (c .before .before .before .before .before .before .before .before .before .before .before .before .before .before .before .before .before .loop) .inv .1, entered (turn t (c .before .before .before .before .before .before .before .before)) ((c .before .before .before .before .before .before .step2) .given .1) ((c .before .before .entered) .ensures) ((c .before .waiting2) .given))
 
 level-enum-known-step-3 : (t : ℕ) → level-lts.Need-enum-known-step-3 (level-claims t) (level-at t) level.Post level-Inv-loop level-μ-loop
-level-enum-known-step-3 t c = search needs
+level-enum-known-step-3 t c = c .match .keys4
 
 level-add-group : (t : ℕ) → level-lts.Need-add-group (level-claims t) (level-at t) level.Post level-Inv-loop level-μ-loop
 level-add-group t c = omega (arith, class-small (turn t (c .before .before .before)) ((c .before .step3) .given .1))
@@ -290,7 +289,7 @@ level-group-requires : (t : ℕ) → level-lts.Need-group-requires (level-claims
 level-group-requires t c κs = (omega (arith, (c .before .before .before .before .before .before .before .before .before .before .before .before .before .before .before .before .before .before .before .before) .pre .0), open-any (may-open (turn t (c .before .before .before .before .before)) ((c .before .before .before .step3) .given .1) refl refl))
 
 level-enum-known-inner : (t : ℕ) → level-lts.Need-enum-known-inner (level-claims t) (level-at t) level.Post level-Inv-loop level-μ-loop
-level-enum-known-inner t c = search needs
+level-enum-known-inner t c = c .match2 .keys1
 
 level-same-length-3 : (t : ℕ) → level-lts.Need-same-length-3 (level-claims t) (level-at t) level.Post level-Inv-loop level-μ-loop
 level-same-length-3 t c = (c .before .before .before .before .before .before .waiting3) .given ∙ (c .before .before .before .before .before .before .before .before .before .before .before .before .before .before .before .before .before .before .before .before .before .before .loop) .inv .1
@@ -302,7 +301,7 @@ level-returns-2 : (t : ℕ) → level-lts.Need-returns-2 (level-claims t) (level
 level-returns-2 t c = inner-dies (turn t (c .before .before .before .before .before .before .before .before .before .before .before .before .before)) ((c .before .before .before .before .before .before .before .before .before .before .before .step3) .given .1) ((c .before .before .before .before .before .before .before .group) .ensures) ((c .before .inner) .given .1)
 
 level-enum-known-inner-2 : (t : ℕ) → level-lts.Need-enum-known-inner-2 (level-claims t) (level-at t) level.Post level-Inv-loop level-μ-loop
-level-enum-known-inner-2 t c = search needs
+level-enum-known-inner-2 t c = c .match2 .keys2
 
 level-add-close : (t : ℕ) → level-lts.Need-add-close (level-claims t) (level-at t) level.Post level-Inv-loop level-μ-loop
 level-add-close t c = omega (arith, (c .before .before .before .before .before .before .before .before .before .before .before .before .before .before .before .before .before .before .before .before .before .loop-test) .taken, (c .before .before .before .before .before .before .before .before .before .before .before .before .before .before .before .before .before .before .before .before .before .before .before .before .before .before .before .before) .pre .1 .0 .fine .few)
@@ -322,32 +321,17 @@ level-loop-less-3 t c = omega (arith, (c .before .before .before .before .before
 level-loop-again-3 : (t : ℕ) → level-lts.Need-loop-again-3 (level-claims t) (level-at t) level.Post level-Inv-loop level-μ-loop
 level-loop-again-3 t c = ((c .before .before .syntax4) .given ∙ (c .before .before .before .before .before .before .before .before .before .before .before .before .syntax3) .given ∙ (c .before .before .before .before .before .before .before .before .before .before .before .before .before .before .before .before .before .before .before .before .before .before .before .syntax) .given ∙ (c .before .before .before .before .before .before .before .before .before .before .before .before .before .before .before .before .before .before .before .before .before .before .before .before .before .before .before .before .before .before .loop) .inv .0, (c .before .before .before .before .waiting4) .given ∙ (c .before .before .before .before .before .before .before .before .before .before .before .before .before .before .waiting3) .given ∙ (c .before .before .before .before .before .before .before .before .before .before .before .before .before .before .before .before .before .before .before .before .before .before .before .before .before .before .before .before .before .before .loop) .inv .1, rw ((c .size-at) .ensures) (closed (turn t (c .before .before .before .before .before .before .before .before .before .before .before .before .before .before .before .before .before .before .before .before .before)) ((c .before .before .before .before .before .before .before .before .before .before .before .before .before .before .before .before .before .before .before .step3) .given .1) ((c .before .before .before .before .before .before .before .before .before .before .before .before .before .before .before .group) .ensures) ((c .before .before .before .before .before .before .before .before .before .inner2) .given .1) ((c .before .before .before .before .before .close) .ensures) ((c .before .before .before .before .waiting4) .given)))
 
-level-ready-requires-2 : (t : ℕ) → level-lts.Need-ready-requires-2 (level-claims t) (level-at t) level.Post level-Inv-loop level-μ-loop
-level-ready-requires-2 t c κs = search needs
-
-level-ends-requires : (t : ℕ) → level-lts.Need-ends-requires (level-claims t) (level-at t) level.Post level-Inv-loop level-μ-loop
-level-ends-requires t c κs = tt
-
-level-ended-requires : (t : ℕ) → level-lts.Need-ended-requires (level-claims t) (level-at t) level.Post level-Inv-loop level-μ-loop
-level-ended-requires t c κs = may-end (ready-at-end ((c .before .before .before .before .before .before .before .before .before .before .loop) .inv .2) ((c .before .before .before .before .before .before .before .before .before .loop-test) .left) ((c .before .before .before .before .before .before .before .before .before .before .before .before .before .before .before .before) .args .closer) ((c .before .before .before .before .before .before .ready2) .ensures))
+level-at-closer-requires : (t : ℕ) → level-lts.Need-at-closer-requires (level-claims t) (level-at t) level.Post level-Inv-loop level-μ-loop
+level-at-closer-requires t c κs = (somewhere (c .before .before .before .loop .inv .2), c .before .before .before .before .before .before .before .before .before .pre .1 .0 .closes)
 
 level-same-length-5 : (t : ℕ) → level-lts.Need-same-length-5 (level-claims t) (level-at t) level.Post level-Inv-loop level-μ-loop
-level-same-length-5 t c = search needs
+level-same-length-5 t c = c .before .before .before .before .before .before .loop .inv .1
 
 level-same-length-6 : (t : ℕ) → level-lts.Need-same-length-6 (level-claims t) (level-at t) level.Post level-Inv-loop level-μ-loop
-level-same-length-6 t c = search needs
+level-same-length-6 t c = c .before .syntax5 .given ∙ c .before .before .before .before .before .before .loop .inv .0
 
 level-returns-3 : (t : ℕ) → level-lts.Need-returns-3 (level-claims t) (level-at t) level.Post level-Inv-loop level-μ-loop
-level-returns-3 t c = ends (ready-at-end ((c .before .before .before .before .before .before .before .before .before .before .before .before .before .loop) .inv .2) ((c .before .before .before .before .before .before .before .before .before .before .before .before .loop-test) .left) ((c .before .before .before .before .before .before .before .before .before .before .before .before .before .before .before .before .before .before .before) .args .closer) ((c .before .before .before .before .before .before .before .before .before .ready2) .ensures)) ((c .before .before .before .before .before .before .ends) .ensures (end-settled ((c .before .before .before .before .before .before .before .before .before .before .before .before .before .loop) .inv .2) ((c .before .before .before .before .before .before .before .before .before .before .before .before .before .before .before .before .before .before .before) .args .closer) ((c .before .before .before .before .before .before .before .before .before .ready2) .ensures)) ((c .before .before .before .before .before .before .before .before .before .before .before .before .before .before .before .before .before .before .before) .pre .1 .0 .closes)) ((c .before .before .before .before .before .if1) .taken) ((c .before .before .ended) .ensures)
-
-level-same-length-7 : (t : ℕ) → level-lts.Need-same-length-7 (level-claims t) (level-at t) level.Post level-Inv-loop level-μ-loop
-level-same-length-7 t c = c .before .before .before .before .before .before .before .before .loop .inv .1
-
-level-same-length-8 : (t : ℕ) → level-lts.Need-same-length-8 (level-claims t) (level-at t) level.Post level-Inv-loop level-μ-loop
-level-same-length-8 t c = c .before .before .before .syntax5 .given ∙ c .before .before .before .before .before .before .before .before .loop .inv .0
-
-level-returns-4 : (t : ℕ) → level-lts.Need-returns-4 (level-claims t) (level-at t) level.Post level-Inv-loop level-μ-loop
-level-returns-4 t c = dies (ready-at-end ((c .before .before .before .before .before .before .before .before .loop) .inv .2) ((c .before .before .before .before .before .before .before .loop-test) .left) ((c .before .before .before .before .before .before .before .before .before .before .before .before .before .before) .args .closer) ((c .before .before .before .before .ready2) .ensures)) ((c .before .ends) .ensures (end-settled ((c .before .before .before .before .before .before .before .before .loop) .inv .2) ((c .before .before .before .before .before .before .before .before .before .before .before .before .before .before) .args .closer) ((c .before .before .before .before .ready2) .ensures)) ((c .before .before .before .before .before .before .before .before .before .before .before .before .before .before) .pre .1 .0 .closes)) ((c .if1) .left)
+level-returns-3 t c = ran-to-closer (c .before .before .before .before .before .before .loop .control) (c .before .before .before .before .before .before .loop .inv .2) (c .before .before .before .before .before .loop-test .left) (c .before .before .before .before .before .before .before .before .before .before .before .before .args .closer) (c .before .before .at-closer .ensures)
 
 statements-stand-requires : (t : ℕ) → statements-lts.Need-stand-requires (statements-claims t) (statements-at t) statements.Post
 statements-stand-requires t c κs = tt
@@ -440,10 +424,8 @@ pub +expression+function+group+level+statements-spec : {M : Type 1} → statemen
       close-reads.Learnt,
       size-at-reads.Asked,
       size-at-reads.Learnt,
-      ends-reads.Asked,
-      ends-reads.Learnt,
-      ended-reads.Asked,
-      ended-reads.Learnt,
+      at-closer-reads.Asked,
+      at-closer-reads.Learnt,
     )
     (level-at t)
     level.Post
@@ -486,15 +468,10 @@ pub +expression+function+group+level+statements-spec : {M : Type 1} → statemen
     (level-add-at-3 t)
     (level-loop-less-3 t)
     (level-loop-again-3 t)
-    (level-ready-requires-2 t)
-    (level-ends-requires t)
-    (level-ended-requires t)
+    (level-at-closer-requires t)
     (level-same-length-5 t)
     (level-same-length-6 t)
-    (level-returns-3 t)
-    (level-same-length-7 t)
-    (level-same-length-8 t)
-    (level-returns-4 t))
+    (level-returns-3 t))
     λ t. statements-lts.spec
     (stand-reads.Asked, stand-reads.Learnt, level-below t, level.Post)
     (statements-at t)

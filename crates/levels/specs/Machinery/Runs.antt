@@ -1,56 +1,30 @@
 -- What the parsers of a level say, by runs of the token machine. Machinery.
 use Prim.Native.Nat.{ℕ, _+_, _*_, _≤_, _<_}
 use mathlib.Core.Path.{_≡_}
-use mathlib.Core.Bool.{true, false, cond}
-use mathlib.Core.List.{List, [], _∷_, _++_}
-use lib.Dec.{T, eqb}
+use mathlib.Core.Bool.{true, false}
+use mathlib.Core.List.{List, _∷_, _++_}
+use lib.Dec.{T}
 use lib.ListN.{length}
-use Rattle.grammar.specs.Tokens.{Token, token}
+use Rattle.grammar.specs.Tokens.{Token}
 use Rattle.grammar.specs.Syntax.{Syntax, nil, size}
 use Rattle.grammar.specs.Grammar.{Items, Scope, body}
-use Rattle.grammar.specs.Machinery.Machine.{
-  endOfText,
-  frame,
-  empty,
-  among,
-  byParen,
-  byBracket,
-  Control,
-  statementDue,
-  operandDue,
-  itemDue,
-  parameterDue,
-  Open,
-  State,
-  dead,
-  live,
-  popTo,
-  finishIn,
-  run,
-}
+use Rattle.grammar.specs.Machinery.Machine.{empty, among, byParen, byBracket, Control, statementDue, operandDue, itemDue, parameterDue, Open, dead, live, run}
 use Rattle.controls.specs.Machinery.Numbers.{settingBy, insideBy}
-use Rattle.controls.specs.Machinery.Steps.{isEnd}
-use Rattle.records.specs.Machinery.Written.{putSyntax}
+use Rattle.grammar.specs.Machinery.Classes.{isEnd}
+use Rattle.controls.specs.Machinery.Written.{putSyntax}
 use Rattle.waiting.specs.Machinery.Waiting.{width}
 use Rattle.frames.specs.Machinery.Stands.{Kept}
 use Rattle.frames.specs.Machinery.Effects.{ofParameter}
 use Rattle.segments.specs.Machinery.Segments.{Segment, countOf, tokensAt, Fine}
-use Rattle.levels.specs.declared.Parsed.{Parsed}
-use Rattle.levels.specs.declared.Parsed.the-variants.{Done, Bad}
-
--- behind a part stands its closer, or the end of the text
-abbrev pub closerToken : ℕ → Segment → ℕ → Token
-closerToken class p mark = token class (record { newline = false; mark = mark; first = p .close })
-
--- the machine's state behind a level that has closed with a value
-abbrev pub closedState : ℕ → ℕ → Syntax → List Open → State
-closedState class place value around = cond (eqb class endOfText) (finishIn place (frame value [] [] nil) around) (popTo place value around)
+use Rattle.groups.specs.Machinery.Closers.{closerToken, closedState}
+use Rattle.groups.specs.declared.Parsed.{Parsed}
+use Rattle.groups.specs.declared.Parsed.the-variants.{Done, Bad}
 
 -- a level that was run to its end, from a control: whatever stands around it, its value is popped, and the value's records are written
 pub record Through (class : ℕ) (p : Segment) (c : Control) (count top : ℕ) (table before : List ℕ) (n : ℕ) (cells stack : List ℕ) : Type 0 where
   pub value : Syntax
   pub runs : (around : List Open) (mark : ℕ) (u : List Token)
-      → run (live c empty around) (tokensAt p 0 ++ (closerToken class p mark ∷ u)) ≡ run (closedState class (p .close) value around) u
+      → run (live c empty around) (tokensAt p 0 ++ (closerToken class (p .close) mark ∷ u)) ≡ run (closedState class (p .close) value around) u
   pub count-is : n ≡ count + size value
   pub cells-are : cells ≡ putSyntax table count value
   pub kept : Kept before stack top
@@ -60,7 +34,7 @@ pub record Through (class : ℕ) (p : Segment) (c : Control) (count top : ℕ) (
 -- one at which the machine dies, whatever stands around it
 abbrev pub Dies : ℕ → Segment → Control → ℕ → Type 0
 Dies class p c place = (around : List Open) (mark : ℕ) (u : List Token)
-    → run (live c empty around) (tokensAt p 0 ++ (closerToken class p mark ∷ u)) ≡ dead place
+    → run (live c empty around) (tokensAt p 0 ++ (closerToken class (p .close) mark ∷ u)) ≡ dead place
 
 pub data Ran (class : ℕ) (p : Segment) (c : Control) (count top : ℕ) (table before : List ℕ) : Parsed → List ℕ → List ℕ → Type 0 where
   ran-through : {n : ℕ} {cells stack : List ℕ} → Through class p c count top table before n cells stack

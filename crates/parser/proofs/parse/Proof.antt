@@ -12,13 +12,13 @@ read-requires : tie.Need-read-requires
 read-requires c κs = search needs
 
 enum-known-read : tie.Need-enum-known-read
-enum-known-read c = search needs
+enum-known-read c = c .match .keys1
 
 clear-requires : tie.Need-clear-requires
 clear-requires c κs = search needs
 
 enum-known-read-2 : tie.Need-enum-known-read-2
-enum-known-read-2 c = search needs
+enum-known-read-2 c = c .match .keys2
 
 mul-program-of : tie.Need-mul-program-of
 mul-program-of c =
@@ -41,10 +41,10 @@ program-of-requires c κs =
     front-fine (read-done _ ((c .before .before .before .before .before .before .before .before .before .before .before .before .before .args) .trees .now) _ _ _ (c .before .before .before .before .before .before .before .before .read .ensures .0) (c .before .before .before .before .before .before .before .before .read .ensures .1) (c .before .before .before .before .read3 .given .1)) _
 
 enum-known-answer : tie.Need-enum-known-answer
-enum-known-answer c = search needs
+enum-known-answer c = c .match2 .keys1
 
 enum-known-answer-2 : tie.Need-enum-known-answer-2
-enum-known-answer-2 c = search needs
+enum-known-answer-2 c = c .match2 .keys2
 
 clear-requires-2 : tie.Need-clear-requires-2
 clear-requires-2 c κs = search needs
@@ -53,10 +53,10 @@ clear-requires-3 : tie.Need-clear-requires-3
 clear-requires-3 c κs = search needs
 
 same-length : tie.Need-same-length
-same-length c = search needs
+same-length c = c .before .before .before .before .before .before .before .before .trees .given
 
 same-length-2 : tie.Need-same-length-2
-same-length-2 c = search needs
+same-length-2 c = c .before .syntax .given
 
 returns : tie.Need-returns
 returns c =
@@ -67,10 +67,10 @@ returns c =
     (p .0, p .1, p .2, same-tells (p .0))
 
 same-length-3 : tie.Need-same-length-3
-same-length-3 c = search needs
+same-length-3 c = c .before .before .before .before .before .before .before .before .before .before .before .before .before .trees .given
 
 same-length-4 : tie.Need-same-length-4
-same-length-4 c = search needs
+same-length-4 c = c .before .before .before .before .syntax2 .given
 
 returns-2 : tie.Need-returns-2
 returns-2 c =

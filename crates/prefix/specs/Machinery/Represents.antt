@@ -7,7 +7,7 @@ use Rattle.elements.specs.declared.Element.{Element}
 use Rattle.elements.specs.declared.Stated.{Stated}
 use Rattle.rule.specs.Trees.{Trees, none, leaf, group}
 use Rattle.rule.specs.Levels.{Levels, wholeText, inside, depth, countSoFar, onTop, statedBy}
-use Rattle.prefix.specs.Reading.{Step, stop, more, step}
+use Rattle.prefix.specs.Reading.{Step, stop, more, delimit}
 use Rattle.rule.specs.Machinery.Summary.{levelCode}
 use Rattle.rule.specs.Machinery.LevelCodes.{statedByLevel}
 use Rattle.prefix.specs.declared.State.{State}
@@ -33,10 +33,8 @@ pub data Closes (tag : Levels → ℕ → ℕ) (e : Element) (m : ℕ) : Levels 
       → m ≡ tag around first
       → Closes tag e m (inside around kind first newline trees) (onTop (λ before. group before kind first (e .end) newline trees) around)
 
--- what the code's answer says of the definition's step, where there is room for so many records
+-- what the code's answer says of the definition's step at a delimiter, where there is room for so many records
 pub data Follows (room : ℕ) (tag : Levels → ℕ → ℕ) (stack : List ℕ) (e : Element) (levels : Levels) : Advanced → Step → Type 0 where
-  leaf-added : {state : State} → countSoFar levels < room → Represents tag stack state (onTop (λ before. leaf before e) levels)
-      → Follows room tag stack e levels (Advanced.Leaf state) (more (onTop (λ before. leaf before e) levels))
   group-opened : {kind : ℕ} {state : State} → countSoFar levels < room → Represents tag stack state (inside levels kind (e .first) (e .newline) none)
       → Follows room tag stack e levels (Advanced.Opened kind state) (more (inside levels kind (e .first) (e .newline) none))
   group-closed : {m : ℕ} {state : State} {after : Levels} → Closes tag e m levels after → Represents tag stack state after
@@ -49,9 +47,15 @@ States state stated =
     (stated ≡ statedByLevel (state .level))
     × ((tag : Levels → ℕ → ℕ) (stack : List ℕ) (levels : Levels) → Represents tag stack state levels → stated ≡ statedBy levels)
 
--- What `advance` promises of a state that holds levels: the definition's step is taken from them, with as many groups as the stack has room
+-- What `delimit` promises of a state that holds levels: the definition's step is taken from them, with as many groups as the stack has room
 -- for. It is left free what becomes of a state that holds none, of the stack's cells above the open groups, and of the stack where it stops.
-abbrev pub Advances : List ℕ → List ℕ → State → ℕ → ℕ → Element → Advanced → Type 0
-Advances stack after state room tag e advanced =
+abbrev pub Delimits : List ℕ → List ℕ → State → ℕ → ℕ → Element → Advanced → Type 0
+Delimits stack after state room tag e advanced =
     (tags : Levels → ℕ → ℕ) (levels : Levels) → Represents tags stack state levels → tag ≡ tags levels (e .first)
-    → Follows room tags after e levels advanced (step (record { groups = length stack / 2; room = room }) levels e)
+    → Follows room tags after e levels advanced (delimit (record { groups = length stack / 2; room = room }) levels e)
+
+-- What `with_leaf` promises of a state that holds levels: the state holds them with that leaf.
+abbrev pub AddsLeaf : State → Element → State → Type 0
+AddsLeaf state e after =
+    (tag : Levels → ℕ → ℕ) (stack : List ℕ) (levels : Levels) → Represents tag stack state levels
+    → Represents tag stack after (onTop (λ before. leaf before e) levels)

@@ -4,7 +4,7 @@ use Rattle.answers.proofs.AnswerLaws.{same-tells}
 use native.Mathlib.Omega.{arith}
 use mathlib.Core.Path.{ap, _∙_}
 use lib.ListN.{replicate}
-use Rattle.respacer.proofs.LoopLaws.{respace-long, written-full, written-fits, respace-denies}
+use Rattle.respacer.proofs.CallLaws.{respace-long, written-full, written-fits, respace-denies}
 use Rattle.respacer.proofs.respace.Statement.{statement}
 use Rattle.respacer.proofs.respace.Tie as tie
 

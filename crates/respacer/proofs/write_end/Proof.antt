@@ -2,7 +2,7 @@
 use borrow.Author.Needs.{needs}
 use native.Mathlib.Omega.{arith}
 use Prim.Native.Nat.{_+_, _-_, _*_}
-use Rattle.respacer.proofs.WriteLaws.{end-accepted, end-unclosed}
+use Rattle.respacer.proofs.EndLaws.{end-accepted, end-unclosed}
 use borrow.Author.Needs.{needs}
 use Rattle.respacer.proofs.write_end.Statement.{statement}
 use Rattle.respacer.proofs.write_end.Tie as tie

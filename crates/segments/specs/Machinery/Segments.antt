@@ -11,7 +11,7 @@ use Rattle.elements.specs.Elements.{nameKind, wordKind, numberKind, stringKind,
 use Rattle.rule.specs.Trees.{parenKind, objectKind, blockKind, bracketKind}
 use Rattle.tables.specs.Records.{treeWidth, mostTrees}
 use Rattle.grammar.specs.Tokens.{Token, token, Spot, name, number, string, pattern, divide, plus, assign, colon, semicolon, comma, dot, openParen, openBrace, openBracket, returnWord, functionWord, ifWord}
-use Rattle.controls.specs.Machinery.Steps.{isOpener}
+use Rattle.grammar.specs.Machinery.Classes.{isOpener}
 
 -- the number of records among cells
 abbrev pub countOf : List ℕ → ℕ

@@ -3,15 +3,11 @@ use Prim.Native.Nat.{ℕ, _*_, _≤_}
 use mathlib.Core.Path.{_≡_}
 use mathlib.Core.List.{List, _++_}
 use lib.ListN.{length, drop}
-use Rattle.elements.specs.declared.Element.{Element}
 use Rattle.rule.specs.Levels.{Levels, wholeText, inside, countSoFar}
-use Rattle.prefix.specs.Reading.{Step, stop, more}
-use Rattle.prefix.specs.Machinery.Represents.{Represents, Follows}
-use Rattle.prefix.specs.declared.Advanced.{Advanced}
+use Rattle.prefix.specs.Machinery.Represents.{Represents}
 use Rattle.prefix.specs.declared.State.{State}
 use Rattle.tables.specs.Records.{treeWidth, mostTrees, treeRecord}
 use Rattle.storing.specs.Records.{records}
-use Rattle.storing.specs.declared.Stored.{Stored}
 
 -- the records so far; an open group's end and number are 0
 abbrev pub cells : Levels → List ℕ
@@ -37,19 +33,3 @@ pub record Some (now stack : List ℕ) (room : ℕ) (state : State) : Type 0 whe
   pub before : List ℕ
   pub levels : Levels
   pub holds : Holds before now stack room state levels
-
--- some levels are held, and an element's step was taken from them
-pub record Stepped (now : List ℕ) (state : State) (e : Element) (advanced : Advanced) : Type 0 where
-  pub before : List ℕ
-  pub stack : List ℕ
-  pub after : List ℕ
-  pub room : ℕ
-  pub levels : Levels
-  pub to : Step
-  pub holds : Holds before now stack room state levels
-  pub follows : Follows room recordIndex after e levels advanced to
-
--- the code's turn is the definition's step
-pub data Turned (before now stack : List ℕ) (room : ℕ) : Stored → Step → Type 0 where
-  goes-on : {state : State} {levels : Levels} → Holds before now stack room state levels → Turned before now stack room (Stored.More state) (more levels)
-  ends : {number place : ℕ} → Turned before now stack room (Stored.Stop number place) (stop number place)

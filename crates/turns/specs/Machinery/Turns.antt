@@ -1,51 +1,44 @@
--- What a turn and a run of a reading come to, over what the table holds. Machinery.
-use Prim.Native.Nat.{ℕ, _/_, _≤_, _<_}
+-- What the turns of a reading come to. Machinery.
+use Prim.Native.Nat.{ℕ, _*_, _≤_}
 use mathlib.Core.Path.{_≡_}
+use mathlib.Core.Bool.{Bool, false}
 use mathlib.Core.List.{List}
 use lib.ListN.{length}
-use Rattle.elements.specs.Elements.{elementAt}
 use Rattle.elements.specs.declared.Element.{Element}
-use Rattle.elements.specs.declared.Next.{Next}
-use Rattle.rule.specs.Trees.{none}
-use Rattle.rule.specs.Levels.{Levels, wholeText, statedBy}
-use Rattle.prefix.specs.Reading.{refused, step, ending}
-use Rattle.prefix.specs.Machinery.Represents.{Represents, Follows}
-use Rattle.prefix.specs.declared.Advanced.{Advanced}
+use Rattle.rule.specs.Levels.{Levels}
+use Rattle.prefix.specs.Reading.{Limits, Step, stop, more, step, refused, ending, reading}
 use Rattle.prefix.specs.declared.State.{State}
-use Rattle.tables.specs.Records.{mostTrees, roomFor}
-use Rattle.storing.specs.Machinery.Table.{recordIndex, Holds}
-use Rattle.reading.specs.Read.{longText, mostBytes, readingFor}
+use Rattle.tables.specs.Records.{treeWidth, mostTrees}
+use Rattle.keeping.specs.Machinery.Keeping.{Lent, Keeps}
+use Rattle.reading.specs.Read.{mostBytes, mostGroups}
 use Rattle.turns.specs.declared.ReadOn.{ReadOn}
+use Rattle.turns.specs.declared.Taken.{Taken}
 
--- where nothing is stored, a group's tag on the stack is the place of its opener
-abbrev pub openerPlace : Levels → ℕ → ℕ
-openerPlace around first = first
+-- the limits of a reading that has room for so many records
+abbrev pub limitsFor : ℕ → Limits
+limitsFor room = record { groups = mostGroups; room = room }
 
--- where a reading starts
-pub record Starts (now stack : List ℕ) (room : ℕ) (state : State) (place : ℕ) : Type 0 where
-  pub room-is : room ≡ roomFor (length now)
+-- the code's turn is the definition's step
+pub data Turned (spaced : Bool) (bytes : List ℕ) (was is : Lent) (room place : ℕ) : Taken → Step → Type 0 where
+  goes-on : {state : State} {at : ℕ} {levels : Levels} → Keeps spaced bytes was is room state at place levels
+      → Turned spaced bytes was is room place (Taken.More state at) (more levels)
+  ends : {number fault : ℕ} → Turned spaced bytes was is room place (Taken.Stop number fault) (stop number fault)
+
+-- what taking an element promises, of whatever is kept before it
+abbrev pub Takes : Bool → List ℕ → Lent → Lent → ℕ → State → ℕ → Element → Taken → Type 0
+Takes spaced bytes is after room state at e taken =
+    (was : Lent) (place : ℕ) (levels : Levels) → place ≤ e .first → Keeps spaced bytes was is room state at place levels
+    → Turned spaced bytes was after room (e .end) taken (step (limitsFor room) levels e)
+
+-- what a reading asks: a text that is not long, room that the table has where its records are kept, and the stack of 100 groups
+pub record MayRun (spaced : Bool) (bytes trees stack : List ℕ) (room : ℕ) : Type 0 where
+  pub short : length bytes ≤ mostBytes
   pub stack-is : length stack ≡ 200
-  pub represented : Represents recordIndex stack state (wholeText none)
-  pub first : place ≡ 0
+  pub room-small : room ≤ mostTrees
+  pub room-fits : spaced ≡ false → treeWidth * room ≤ length trees
 
--- what reading to the end comes to: the levels there, with their records, or the refusal
-pub data Runs (bytes before now stack : List ℕ) (room : ℕ) : ReadOn → Type 0 where
-  ran : {state : State} {levels : Levels} → Holds before now stack room state levels → readingFor bytes (length before) ≡ ending levels
-      → Runs bytes before now stack room (ReadOn.End state)
-  halted : {number place : ℕ} → readingFor bytes (length before) ≡ refused number place → Runs bytes before now stack room (ReadOn.Stop number place)
-
--- what one turn comes to, where the levels are held and nothing is stored: what stands there, and the element's step
-pub data Takes (bytes stack after : List ℕ) (room : ℕ) (state : State) (place : ℕ) (levels : Levels) : ReadOn → Type 0 where
-  at-end : after ≡ stack → elementAt bytes place (statedBy levels) ≡ Next.End → Takes bytes stack after room state place levels (ReadOn.End state)
-  at-fault : {number fault : ℕ} → elementAt bytes place (statedBy levels) ≡ Next.Fault number fault
-      → Takes bytes stack after room state place levels (ReadOn.Stop number fault)
-  at-element : {e : Element} {advanced : Advanced} → elementAt bytes place (statedBy levels) ≡ Next.Found e
-      → Follows room openerPlace after e levels advanced (step (record { groups = length stack / 2; room = room }) levels e)
-      → Takes bytes stack after room state place levels (ReadOn.Taken e advanced)
-
--- What `take_turn` promises: the first row of the table of refused texts of a long text; else, of a state that holds levels, the turn from
--- them. It is left free what becomes of a state that holds none, and of the stack as by `advance`.
-abbrev pub TakesTurn : List ℕ → List ℕ → List ℕ → State → ℕ → ReadOn → Type 0
-TakesTurn bytes stack after state place turn =
-    (length bytes ≤ mostBytes → (levels : Levels) → Represents openerPlace stack state levels → Takes bytes stack after mostTrees state place levels turn)
-    × (mostBytes < length bytes → turn ≡ ReadOn.Stop longText mostBytes)
+-- what reading to the end comes to: what is kept of the levels there, or the refusal
+pub data Runs (spaced : Bool) (bytes : List ℕ) (was is : Lent) (room : ℕ) : ReadOn → Type 0 where
+  ran : {state : State} {at place : ℕ} (levels : Levels) → Keeps spaced bytes was is room state at place levels → place ≤ length bytes
+      → reading bytes (limitsFor room) ≡ ending levels → Runs spaced bytes was is room (ReadOn.End state at)
+  halted : {number place : ℕ} → reading bytes (limitsFor room) ≡ refused number place → Runs spaced bytes was is room (ReadOn.Stop number place)

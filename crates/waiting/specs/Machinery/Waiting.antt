@@ -10,7 +10,7 @@ use Rattle.grammar.specs.Tokens.{assign}
 use Rattle.grammar.specs.Syntax.{Syntax, snoc, node, size}
 use Rattle.grammar.specs.Grammar.{precedence}
 use Rattle.grammar.specs.Machinery.Machine.{Pending, pending}
-use Rattle.records.specs.Machinery.Written.{putSyntax}
+use Rattle.controls.specs.Machinery.Written.{putSyntax}
 use Rattle.waiting.specs.declared.Level.{Level}
 
 -- numbers that what waits takes on the stack: its kind, its mark, its first syntax record

@@ -8,7 +8,7 @@ use Prim.Native.Nat.{_-_}
 use lib.ListN.{length, drop}
 use Rattle.literals.specs.Patterns.{patternRest}
 use Rattle.literals.specs.declared.Literal.{Literal}
-use Rattle.literals.proofs.PatternLaws.{pattern-past, pattern-quiet, pattern-newline, pattern-stray, pattern-taken, pattern-backslash, pattern-class, pattern-close, pattern-more}
+use Rattle.literals.proofs.PatternLaws.{pattern-past, pattern-passed, pattern-newline, pattern-stray, pattern-taken, pattern-backslash, pattern-class, pattern-close, pattern-more}
 use Rattle.literals.proofs.patterns.pattern_rest.Statement.{statement}
 use Rattle.literals.proofs.patterns.pattern_rest.Tie as tie
 
@@ -27,16 +27,19 @@ shared-slice-read-b c = search needs
 code-requires : tie.Need-code-requires Inv-loop μ-loop
 code-requires c κs = c .before .before .before .before .before .pre
 
-add-i : tie.Need-add-i Inv-loop μ-loop
-add-i c = search needs
+add-run-end : tie.Need-add-run-end Inv-loop μ-loop
+add-run-end c = search needs
+
+run-end-requires : tie.Need-run-end-requires Inv-loop μ-loop
+run-end-requires c κs = search needs
 
 loop-less : tie.Need-loop-less Inv-loop μ-loop
 loop-less c = search needs
 
 loop-again : tie.Need-loop-again Inv-loop μ-loop
 loop-again c =
-    let l = c .before .before .before .before in
-    l .loop .inv ∙ pattern-quiet _ _ _ (omega arith) (omega arith) _ _
+    let l = c .before .before .before .before .before in
+    l .loop .inv ∙ pattern-passed _ _ _ (omega arith) (omega arith) _ _ _ (c .run-end .ensures)
 
 returns : tie.Need-returns Inv-loop μ-loop
 returns c =
@@ -48,8 +51,8 @@ returns-2 c =
     let l = c .before .before .before .before .before .before in
     sym (l .loop .inv ∙ pattern-stray _ _ _ (omega arith) _ _ (omega arith))
 
-add-i-2 : tie.Need-add-i-2 Inv-loop μ-loop
-add-i-2 c = search needs
+add-i : tie.Need-add-i Inv-loop μ-loop
+add-i c = search needs
 
 loop-less-2 : tie.Need-loop-less-2 Inv-loop μ-loop
 loop-less-2 c = search needs
@@ -59,8 +62,8 @@ loop-again-2 c =
     let l = c .before .before .before .before .before .before .before in
     rw (c .if4 .taken) at (l .loop .inv) ∙ pattern-taken _ _ _ (omega arith) (omega arith) _
 
-add-i-3 : tie.Need-add-i-3 Inv-loop μ-loop
-add-i-3 c = search needs
+add-i-2 : tie.Need-add-i-2 Inv-loop μ-loop
+add-i-2 c = search needs
 
 loop-less-3 : tie.Need-loop-less-3 Inv-loop μ-loop
 loop-less-3 c = search needs
@@ -70,8 +73,8 @@ loop-again-3 c =
     let l = c .before .before .before .before .before .before .before .before in
     rw (c .before .if4 .left) at (l .loop .inv) ∙ pattern-backslash _ _ _ (omega arith) (omega arith) _ (omega arith)
 
-add-i-4 : tie.Need-add-i-4 Inv-loop μ-loop
-add-i-4 c = search needs
+add-i-3 : tie.Need-add-i-3 Inv-loop μ-loop
+add-i-3 c = search needs
 
 loop-less-4 : tie.Need-loop-less-4 Inv-loop μ-loop
 loop-less-4 c = search needs
@@ -97,8 +100,8 @@ returns-3 c =
     ∙ pattern-close _ _ _ (omega arith) (omega arith) (omega arith) (omega arith)
     ∙ ap Literal.Ends (sym (c .name-end .ensures)))
 
-add-i-5 : tie.Need-add-i-5 Inv-loop μ-loop
-add-i-5 c = search needs
+add-i-4 : tie.Need-add-i-4 Inv-loop μ-loop
+add-i-4 c = search needs
 
 loop-less-5 : tie.Need-loop-less-5 Inv-loop μ-loop
 loop-less-5 c = search needs
@@ -122,24 +125,25 @@ pattern-rest-spec =
     loop-holds
     shared-slice-read-b
     code-requires
-    add-i
+    add-run-end
+    run-end-requires
     loop-less
     loop-again
     returns
     returns-2
-    add-i-2
+    add-i
     loop-less-2
     loop-again-2
-    add-i-3
+    add-i-2
     loop-less-3
     loop-again-3
-    add-i-4
+    add-i-3
     loop-less-4
     loop-again-4
     add-name-end
     name-end-requires
     returns-3
-    add-i-5
+    add-i-4
     loop-less-5
     loop-again-5
     returns-4)

@@ -1,0 +1,16 @@
+-- `precedence` is that of the table of operators, test for test.
+use borrow.Author.Tests.{ne-eqb}
+use Rattle.controls.proofs.precedence.Statement.{statement}
+use Rattle.controls.proofs.precedence.Tie as tie
+
+returns : tie.Need-returns
+returns c = rw (c .if1 .taken)
+
+returns-2 : tie.Need-returns-2
+returns-2 c = rw (c .if2 .taken)
+
+returns-3 : tie.Need-returns-3
+returns-3 c = simp (ne-eqb _ 10 (c .before .if1 .left), ne-eqb _ 11 (c .if2 .left))
+
+pub precedence-spec : {M : Type 1} → statement M
+precedence-spec = tie.close (tie.spec returns returns-2 returns-3)

@@ -1,2 +1,0 @@
--- How code and proofs hold what the definitions speak of.
-pub mod Written
