@@ -209,8 +209,5 @@ module _ (s : List ℕ) (place : ℕ) where
     pub divide-found : (e : Element) → elementAt s place (stating false name) ≡ Next.Found e → Divide e
     divide-found e f = rw f at (slash-divides name met)
 
-    pub divide-fault : (number at : ℕ) → elementAt s place (stating false name) ≡ Next.Fault number at → (number ≡ barredSign) × (getD s (at + 1) 0 ≡ byte "=")
-    divide-fault number at f = rw f at (slash-divides name met)
-
     pub pattern-found : (e : Element) → elementAt s place (stating true name) ≡ Next.Found e → e .kind ≡ patternKind
     pattern-found e f = rw f at (slash-opens name met)

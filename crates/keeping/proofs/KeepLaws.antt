@@ -14,7 +14,7 @@ use Rattle.storing.proofs.StoreLaws.{store-leaf, store-opener, store-closer, cl
 use Rattle.spacing.specs.Respaced.{addElement, addCloser}
 use Rattle.spacing.specs.Machinery.Over.{Puts}
 use Rattle.spacing.proofs.WriteLaws.{write-leaf, write-opener, write-closer}
-use Rattle.keeping.specs.Machinery.Keeping.{Lent, lent, tagOf, Keeps, MayTake, MayAdd, MayClose, withLeaf, withOpener, Adds, Closing}
+use Rattle.keeping.specs.Machinery.Keeping.{Lent, lent, tagOf, Keeps, MayTake, MayKeep, MayKeepEnd, withLeaf, withOpener, KeepsTree, KeepsEnd}
 
 -- what is kept, either way
 module _ (bytes : List ℕ) (was is : Lent) (room : ℕ) (state : State) (at place : ℕ) (levels : Levels) where
@@ -37,7 +37,7 @@ module _ (bytes : List ℕ) (was is : Lent) (room : ℕ) (state : State) (at pla
 -- where a text is spaced
 module _ (bytes trees output trees' output' : List ℕ) (state : State) (at : ℕ) (e : Element) (to : ℕ) (some : e .first < e .end) (kept : length output' ≡ length output) where
   pub leaf-spaced : (spaced : Bool) → spaced ≡ true → to + e .first ≤ at + e .end + 1 → Puts (λ w. addElement bytes w (e .first) (e .end) (e .newline)) output output' at to
-      → Adds spaced bytes trees output trees' output' state at e (withLeaf e) to
+      → KeepsTree spaced bytes trees output trees' output' state at e (withLeaf e) to
   unfolding Keeps
   leaf-spaced true z few put =
       λ was stack after room place levels next near same keeps free represented.
@@ -46,7 +46,7 @@ module _ (bytes trees output trees' output' : List ℕ) (state : State) (at : �
 
   pub opener-spaced : (spaced : Bool) → spaced ≡ true → (kind : ℕ) → to + e .first ≤ at + (e .first + 1) + 1
       → Puts (λ w. addElement bytes w (e .first) (e .first + 1) (e .newline)) output output' at to
-      → Adds spaced bytes trees output trees' output' state at e (withOpener kind e) to
+      → KeepsTree spaced bytes trees output trees' output' state at e (withOpener kind e) to
   unfolding Keeps
   opener-spaced true z kind few put =
       λ was stack after room place levels next near same keeps free represented.
@@ -54,7 +54,7 @@ module _ (bytes trees output trees' output' : List ℕ) (state : State) (at : �
   opener-spaced false z kind few put = absurd (true≢false (sym z))
 
   pub closer-spaced : (spaced : Bool) → spaced ≡ true → (opener : ℕ) → to + (e .end - 1) ≤ at + e .end + 1 → Puts (λ w. addCloser bytes w (e .end - 1) (e .end)) output output' at to
-      → Closing spaced bytes trees output trees' output' state at opener e to
+      → KeepsEnd spaced bytes trees output trees' output' state at opener e to
   unfolding Keeps
   closer-spaced true z opener few put =
       λ was stack after room place levels outer next near same keeps closes represented.
@@ -65,7 +65,7 @@ module _ (bytes trees output trees' output' : List ℕ) (state : State) (at : �
 module _ (bytes trees output trees' output' : List ℕ) (state : State) (at : ℕ) (e : Element) (to : ℕ) where
   pub leaf-stored : (spaced : Bool) → spaced ≡ false
       → trees' ≡ take (treeWidth * state .records) trees ++ (treeRecord (e .kind) (e .first) (e .end) 1 (e .newline) ++ drop (treeWidth * state .records + treeWidth) trees)
-      → Adds spaced bytes trees output trees' output' state at e (withLeaf e) to
+      → KeepsTree spaced bytes trees output trees' output' state at e (withLeaf e) to
   unfolding Keeps
   leaf-stored true z p = absurd (true≢false z)
   leaf-stored false z p =
@@ -74,7 +74,7 @@ module _ (bytes trees output trees' output' : List ℕ) (state : State) (at : �
 
   pub opener-stored : (spaced : Bool) → spaced ≡ false → (kind : ℕ)
       → trees' ≡ take (treeWidth * state .records) trees ++ (treeRecord kind (e .first) 0 0 (e .newline) ++ drop (treeWidth * state .records + treeWidth) trees)
-      → Adds spaced bytes trees output trees' output' state at e (withOpener kind e) to
+      → KeepsTree spaced bytes trees output trees' output' state at e (withOpener kind e) to
   unfolding Keeps
   opener-stored true z kind p = absurd (true≢false z)
   opener-stored false z kind p =
@@ -83,7 +83,7 @@ module _ (bytes trees output trees' output' : List ℕ) (state : State) (at : �
 
   pub closer-stored : (spaced : Bool) → spaced ≡ false → (opener : ℕ)
       → trees' ≡ set (set trees (treeWidth * opener + 2) (e .end)) (treeWidth * opener + 3) (state .records - opener)
-      → Closing spaced bytes trees output trees' output' state at opener e to
+      → KeepsEnd spaced bytes trees output trees' output' state at opener e to
   unfolding Keeps
   closer-stored true z opener p = absurd (true≢false z)
   closer-stored false z opener p =
@@ -97,12 +97,12 @@ module _ (bytes trees output : List ℕ) (state : State) (at : ℕ) (e : Element
   spaced-few true z stack room may = let k = may .keeps in omega (arith, k .few, may .near)
   spaced-few false z stack room may = absurd (true≢false (sym z))
 
-  pub stored-fits : (spaced : Bool) → spaced ≡ false → MayAdd spaced bytes trees output state at e → treeWidth * state .records + treeWidth ≤ length trees
+  pub stored-fits : (spaced : Bool) → spaced ≡ false → MayKeep spaced bytes trees output state at e → treeWidth * state .records + treeWidth ≤ length trees
   unfolding Keeps
   stored-fits true z add = absurd (true≢false z)
   stored-fits false z add = let h = add .may .keeps in omega (arith, h .room-fits, h .length-is, add .more-room)
 
-  pub opener-before : (spaced : Bool) → spaced ≡ false → (opener : ℕ) → MayClose spaced bytes trees output state at opener e
+  pub opener-before : (spaced : Bool) → spaced ≡ false → (opener : ℕ) → MayKeepEnd spaced bytes trees output state at opener e
       → (opener < state .records) × (treeWidth * opener + treeWidth ≤ length trees)
   unfolding Keeps
   opener-before true z opener c = absurd (true≢false z)

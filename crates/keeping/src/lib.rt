@@ -1,6 +1,6 @@
 // What is kept of an element: its record in the table or, where the text is spaced, its bytes in the output. Each answers the count of
 // bytes written.
-ghost use Rattle.keeping.specs.Machinery.Keeping.{MayAdd, MayClose, withLeaf, withOpener, Adds, Closing};
+ghost use Rattle.keeping.specs.Machinery.Keeping.{MayKeep, MayKeepEnd, withLeaf, withOpener, KeepsTree, KeepsEnd};
 use elements::Element;
 use prefix::State;
 use tables::TreeRecord;
@@ -15,8 +15,8 @@ pub fn keep_leaf(
     at: usize,
     e: Element,
 ) -> usize
-    requires { ⌜ MayAdd spaced (now text) (now trees) (now output) state at e ⌝ }
-    ensures { λ r. ⌜ Adds spaced (now (text .entry)) (now (trees .entry)) (now (output .entry)) (now (trees .exit)) (now (output .exit)) state at e (withLeaf e) r ⌝ }
+    requires { ⌜ MayKeep spaced (now text) (now trees) (now output) state at e ⌝ }
+    ensures { λ r. ⌜ KeepsTree spaced (now (text .entry)) (now (trees .entry)) (now (output .entry)) (now (trees .exit)) (now (output .exit)) state at e (withLeaf e) r ⌝ }
 {
     if spaced {
         return spacing::put_element(text, output, at, e.first, e.end, e.newline);
@@ -37,8 +37,8 @@ pub fn keep_opener(
     kind: u32,
     e: Element,
 ) -> usize
-    requires { ⌜ MayAdd spaced (now text) (now trees) (now output) state at e ⌝ }
-    ensures { λ r. ⌜ Adds spaced (now (text .entry)) (now (trees .entry)) (now (output .entry)) (now (trees .exit)) (now (output .exit)) state at e (withOpener kind e) r ⌝ }
+    requires { ⌜ MayKeep spaced (now text) (now trees) (now output) state at e ⌝ }
+    ensures { λ r. ⌜ KeepsTree spaced (now (text .entry)) (now (trees .entry)) (now (output .entry)) (now (trees .exit)) (now (output .exit)) state at e (withOpener kind e) r ⌝ }
 {
     if spaced {
         return spacing::put_element(text, output, at, e.first, e.first + 1, e.newline);
@@ -59,8 +59,8 @@ pub fn keep_closer(
     opener: u32,
     e: Element,
 ) -> usize
-    requires { ⌜ MayClose spaced (now text) (now trees) (now output) state at opener e ⌝ }
-    ensures { λ r. ⌜ Closing spaced (now (text .entry)) (now (trees .entry)) (now (output .entry)) (now (trees .exit)) (now (output .exit)) state at opener e r ⌝ }
+    requires { ⌜ MayKeepEnd spaced (now text) (now trees) (now output) state at opener e ⌝ }
+    ensures { λ r. ⌜ KeepsEnd spaced (now (text .entry)) (now (trees .entry)) (now (output .entry)) (now (trees .exit)) (now (output .exit)) state at opener e r ⌝ }
 {
     if spaced {
         return spacing::put_closer(text, output, at, e.end - 1, e.end);

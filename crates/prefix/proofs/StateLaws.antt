@@ -64,38 +64,37 @@ module _ (tag : Levels → ℕ → ℕ) (stack : List ℕ) (state : State) (leve
         fits = h .fits;
       }
 
-  module _ (limits : Limits) (e : Element) where
-    module _ (kind : ℕ) where
-      pub open-deep : (after : List ℕ) → limits .groups ≤ state .depth → Follows (limits .room) tag after e levels (Advanced.Stopped deep (e .first)) (openGroup limits levels kind e)
-      open-deep after full = rw (le-leb (limits .groups) (depth levels) (omega (arith, h .depth-is))) stopped
+  module _ (limits : Limits) (e : Element) (kind : ℕ) where
+    pub open-deep : (after : List ℕ) → limits .groups ≤ state .depth → Follows (limits .room) tag after e levels (Advanced.Stopped deep (e .first)) (openGroup limits levels kind e)
+    open-deep after full = rw (le-leb (limits .groups) (depth levels) (omega (arith, h .depth-is))) stopped
 
-      pub open-full : (after : List ℕ) → state .depth < limits .groups → limits .room ≤ state .records
-          → Follows (limits .room) tag after e levels (Advanced.Stopped treesFull (e .first)) (openGroup limits levels kind e)
-      open-full after shallow full =
-          rw (lt-leb (limits .groups) (depth levels) (omega (arith, h .depth-is)), le-leb (limits .room) (countSoFar levels) (omega (arith, h .records-is))) stopped
+    pub open-full : (after : List ℕ) → state .depth < limits .groups → limits .room ≤ state .records
+        → Follows (limits .room) tag after e levels (Advanced.Stopped treesFull (e .first)) (openGroup limits levels kind e)
+    open-full after shallow full =
+        rw (lt-leb (limits .groups) (depth levels) (omega (arith, h .depth-is)), le-leb (limits .room) (countSoFar levels) (omega (arith, h .records-is))) stopped
 
-      pub open-done : (m level : ℕ) → m ≡ tag levels (e .first) → level ≡ levelIn kind → state .depth < limits .groups → state .records < limits .room → limits .groups ≡ length stack / 2
-          → Follows (limits .room) tag (set (set stack (2 * state .depth) (state .level)) (2 * state .depth + 1) m) e levels
-          (Advanced.Opened kind (record { level = level; depth = state .depth + 1; records = state .records + 1 }))
-          (openGroup limits levels kind e)
-      unfolding levelCode summary backwards count
-      open-done m level marked in-kind shallow some groups =
-          let i = 2 * state .depth in
-          let lower : List ℕ = set stack i (state .level) in
-          let same : 2 * depth levels ≡ i = omega (arith, h .depth-is) in
-          rw (lt-leb (limits .groups) (depth levels) (omega (arith, h .depth-is)), lt-leb (limits .room) (countSoFar levels) (omega (arith, h .records-is)))
-          (group-opened {kind = kind} {state = record { level = level; depth = state .depth + 1; records = state .records + 1 }} (omega (arith, h .records-is))
-          (record {
-            level-is = in-kind ∙ level-in kind;
-            depth-is = omega (arith, h .depth-is);
-            records-is = omega (arith, h .records-is);
-            stacked = (
-              rw same (getD-set-other lower (i + 1) i m 0 (omega arith) ∙ getD-set-same stack i (state .level) 0 (omega arith)) ∙ h .level-is,
-              rw same (getD-set-same lower (i + 1) m 0 (rw (length-set stack i (state .level)) (omega arith))) ∙ marked,
-              stack-set tag lower (i + 1) m levels (omega arith) (stack-set tag stack i (state .level) levels (omega arith) (h .stacked)),
-            );
-            fits = rw (length-set lower (i + 1) m, length-set stack i (state .level)) (omega arith);
-          }))
+    pub open-done : (m level : ℕ) → m ≡ tag levels (e .first) → level ≡ levelIn kind → state .depth < limits .groups → state .records < limits .room → limits .groups ≡ length stack / 2
+        → Follows (limits .room) tag (set (set stack (2 * state .depth) (state .level)) (2 * state .depth + 1) m) e levels
+        (Advanced.Opened kind (record { level = level; depth = state .depth + 1; records = state .records + 1 }))
+        (openGroup limits levels kind e)
+    unfolding levelCode summary backwards count
+    open-done m level marked in-kind shallow some groups =
+        let i = 2 * state .depth in
+        let lower : List ℕ = set stack i (state .level) in
+        let same : 2 * depth levels ≡ i = omega (arith, h .depth-is) in
+        rw (lt-leb (limits .groups) (depth levels) (omega (arith, h .depth-is)), lt-leb (limits .room) (countSoFar levels) (omega (arith, h .records-is)))
+        (group-opened {kind = kind} {state = record { level = level; depth = state .depth + 1; records = state .records + 1 }} (omega (arith, h .records-is))
+        (record {
+          level-is = in-kind ∙ level-in kind;
+          depth-is = omega (arith, h .depth-is);
+          records-is = omega (arith, h .records-is);
+          stacked = (
+            rw same (getD-set-other lower (i + 1) i m 0 (omega arith) ∙ getD-set-same stack i (state .level) 0 (omega arith)) ∙ h .level-is,
+            rw same (getD-set-same lower (i + 1) m 0 (rw (length-set stack i (state .level)) (omega arith))) ∙ marked,
+            stack-set tag lower (i + 1) m levels (omega arith) (stack-set tag stack i (state .level) levels (omega arith) (h .stacked)),
+          );
+          fits = rw (length-set lower (i + 1) m, length-set stack i (state .level)) (omega arith);
+        }))
 
 pub close-none : (tag : Levels → ℕ → ℕ) (stack : List ℕ) (state : State) (levels : Levels) → Represents tag stack state levels → (room : ℕ) (e : Element) → state .depth ≡ 0
     → Follows room tag stack e levels (Advanced.Stopped wrongCloser (e .first)) (closeGroup levels e)

@@ -128,7 +128,7 @@ by-name : (b : ℕ) → nameByte b ≡ ltb 4 (codeOf b)
 unfolding nameByte codeOf turning illegal lineEnd blank letter digit
 by-name = by-code nameByte (ltb 4) tt tt (λ b h. rw (past-letter b h, past-digit b h))
 
-by-letter : (b : ℕ) → letter b ≡ eqb (codeOf b) 5
+pub by-letter : (b : ℕ) → letter b ≡ eqb (codeOf b) 5
 unfolding codeOf turning illegal lineEnd blank letter digit
 by-letter = by-code letter (λ k. eqb k 5) tt tt past-letter
 
@@ -136,11 +136,11 @@ pub by-digit : (b : ℕ) → digit b ≡ eqb (codeOf b) 6
 unfolding codeOf turning illegal lineEnd blank letter digit
 by-digit = by-code digit (λ k. eqb k 6) tt tt past-digit
 
-by-blank : (b : ℕ) → blank b ≡ eqb (codeOf b) 4
+pub by-blank : (b : ℕ) → blank b ≡ eqb (codeOf b) 4
 unfolding codeOf turning illegal lineEnd blank letter digit
 by-blank = by-code blank (λ k. eqb k 4) tt tt past-blank
 
--- what a code tells of its class
+-- what the code tells of name bytes
 module _ (b : ℕ) where
   pub code-name : 4 < codeOf b → nameByte b ≡ true
   code-name h = by-name b ∙ lt-ltb _ _ h
@@ -148,23 +148,13 @@ module _ (b : ℕ) where
   pub code-no-name : codeOf b ≤ 4 → nameByte b ≡ false
   code-no-name h = by-name b ∙ le-ltb _ _ h
 
-  pub code-letter : codeOf b ≡ 5 → letter b ≡ true
-  code-letter e = by-letter b ∙ eq-eqb _ _ e
+-- what the code tells of a class that has a code of its own
+module _ {class : ℕ → Bool} {k : ℕ} (by : (b : ℕ) → class b ≡ eqb (codeOf b) k) (b : ℕ) where
+  pub coded-in : codeOf b ≡ k → class b ≡ true
+  coded-in e = by b ∙ eq-eqb (codeOf b) k e
 
-  pub code-no-letter : (codeOf b ≡ 5 → ⊥) → letter b ≡ false
-  code-no-letter n = by-letter b ∙ ne-eqb _ _ n
-
-  pub code-digit : codeOf b ≡ 6 → digit b ≡ true
-  code-digit e = by-digit b ∙ eq-eqb _ _ e
-
-  pub code-no-digit : (codeOf b ≡ 6 → ⊥) → digit b ≡ false
-  code-no-digit n = by-digit b ∙ ne-eqb _ _ n
-
-  pub code-blank : codeOf b ≡ 4 → blank b ≡ true
-  code-blank e = by-blank b ∙ eq-eqb _ _ e
-
-  pub code-no-blank : (codeOf b ≡ 4 → ⊥) → blank b ≡ false
-  code-no-blank n = by-blank b ∙ ne-eqb _ _ n
+  pub coded-out : (codeOf b ≡ k → ⊥) → class b ≡ false
+  coded-out n = by b ∙ ne-eqb (codeOf b) k n
 
 -- a byte whose code is over 2 is no turning byte
 pub code-apart : (b x : ℕ) → 2 < codeOf b → turning x ≡ true → b ≡ x → ⊥

@@ -20,7 +20,7 @@ use Rattle.storing.specs.Records.{records}
 use Rattle.spacing.specs.Respaced.{addTrees}
 use Rattle.spacing.proofs.OverLaws.{over-nothing}
 use Rattle.keeping.specs.Machinery.Keeping.{Lent, tagOf, Keeps, MayTake}
-use Rattle.turns.specs.Machinery.Turns.{limitsFor, Turned, goes-on, ends, MayRun, Runs, ran, halted}
+use Rattle.turns.specs.Machinery.Turns.{limitsFor, Turned, goes-on, ends, MayRead, Runs, ran, halted}
 use Rattle.turns.specs.declared.ReadOn.{ReadOn}
 use Rattle.turns.specs.declared.Taken.{Taken}
 
@@ -41,7 +41,7 @@ pub record Loop (spaced : Bool) (bytes : List ℕ) (was is : Lent) (room : ℕ) 
   pub here : At spaced bytes was is room state at place
 
 module _ (bytes : List ℕ) (was : Lent) (room : ℕ) where
-  start-keeps : (spaced : Bool) (state : State) → MayRun spaced bytes (was .trees) (was .stack) room → Represents (tagOf spaced) (was .stack) state (wholeText none)
+  start-keeps : (spaced : Bool) (state : State) → MayRead spaced bytes (was .trees) (was .stack) room → Represents (tagOf spaced) (was .stack) state (wholeText none)
       → Keeps spaced bytes was was room state 0 0 (wholeText none)
   unfolding Keeps records count addTrees
   start-keeps true state may represented =
@@ -50,7 +50,7 @@ module _ (bytes : List ℕ) (was : Lent) (room : ℕ) where
       record
       { represented = represented; cells-are = refl; some = omega arith; room-fits = may .room-fits refl; room-small = may .room-small; length-is = refl; stack-is = may .stack-is }
 
-  pub start-at : (spaced : Bool) (state : State) → MayRun spaced bytes (was .trees) (was .stack) room → Represents (tagOf spaced) (was .stack) state (wholeText none)
+  pub start-at : (spaced : Bool) (state : State) → MayRead spaced bytes (was .trees) (was .stack) room → Represents (tagOf spaced) (was .stack) state (wholeText none)
       → At spaced bytes was was room state 0 0
   unfolding reading
   start-at spaced state may represented =
@@ -76,7 +76,7 @@ module _ (bytes : List ℕ) (was : Lent) (room : ℕ) where
       placed : Placed bytes place e
       placed = found-placed bytes place stated e found
 
-      pub may-take : MayRun spaced bytes (was .trees) (was .stack) room → MayTake spaced bytes is room state at e
+      pub may-take : MayRead spaced bytes (was .trees) (was .stack) room → MayTake spaced bytes is room state at e
       may-take may =
           record {
             was = was;

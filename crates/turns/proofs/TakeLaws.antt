@@ -13,7 +13,7 @@ use Rattle.prefix.specs.Machinery.Represents.{Represents, Follows, group-opened
 use Rattle.prefix.specs.declared.State.{State}
 use Rattle.prefix.specs.declared.Advanced.{Advanced}
 use Rattle.prefix.proofs.StepLaws.{step-leaf, step-delimiter}
-use Rattle.keeping.specs.Machinery.Keeping.{Lent, lent, tagOf, Keeps, MayTake, MayAdd, MayClose, withLeaf, withOpener, Adds, Closing}
+use Rattle.keeping.specs.Machinery.Keeping.{Lent, lent, tagOf, Keeps, MayTake, MayKeep, MayKeepEnd, withLeaf, withOpener, KeepsTree, KeepsEnd}
 use Rattle.keeping.proofs.KeepLaws.{keeps-represented, keeps-stack, tag-is}
 use Rattle.turns.specs.Machinery.Turns.{limitsFor, Turned, goes-on, ends}
 use Rattle.turns.specs.declared.Taken.{Taken}
@@ -31,13 +31,13 @@ module _ (spaced : Bool) (bytes : List ℕ) (is : Lent) (room : ℕ) (state : St
       (tag-is bytes (may .was) is room state at (may .place) (may .levels) spaced (e .first) tag opener index (may .keeps))
 
   pub may-open : {kind : ℕ} {next : State} {y : Step} → Follows room (tagOf spaced) after e (may .levels) (Advanced.Opened kind next) y
-      → MayAdd spaced bytes (is .trees) (is .output) state at e
+      → MayKeep spaced bytes (is .trees) (is .output) state at e
   may-open f =
       let r = keeps-represented bytes (may .was) is room state at (may .place) (may .levels) spaced (may .keeps) in
       record { stack = is .stack; room = room; may = may; more-room = omega (arith, r .records-is, opened-room f) }
 
   pub may-close : {opener : ℕ} {next : State} {y : Step} → Follows room (tagOf spaced) after e (may .levels) (Advanced.Closed opener next) y
-      → MayClose spaced bytes (is .trees) (is .output) state at opener e
+      → MayKeepEnd spaced bytes (is .trees) (is .output) state at opener e
   may-close (group-closed {after = outer} c represented) = record { stack = is .stack; room = room; may = may; outer = outer; closes = c }
 
 -- what taking an element comes to
@@ -50,7 +50,7 @@ module _ (spaced : Bool) (bytes : List ℕ) (was is : Lent) (room : ℕ) (state 
   leaf-full k full = rw (step-leaf (limitsFor room) levels e k, le-leb room (countSoFar levels) (omega (arith, held .records-is))) ends
 
   pub leaf-taken : (e .kind ≡ 0 → ⊥) → state .records < room → (trees output : List ℕ) (next : State) (to : ℕ)
-      → AddsLeaf state e next → Adds spaced bytes (is .trees) (is .output) trees output state at e (withLeaf e) to
+      → AddsLeaf state e next → KeepsTree spaced bytes (is .trees) (is .output) trees output state at e (withLeaf e) to
       → Turned spaced bytes was (lent trees output (is .stack)) room (e .end) (Taken.More next to) (step (limitsFor room) levels e)
   leaf-taken k free trees output next to added adds =
       let some : countSoFar levels < room = omega (arith, held .records-is) in
@@ -65,12 +65,12 @@ module _ (spaced : Bool) (bytes : List ℕ) (was is : Lent) (room : ℕ) (state 
 
   module _ (after : List ℕ) (same : length after ≡ length (is .stack)) (trees output : List ℕ) (to : ℕ) where
     pub opened-taken : {kind : ℕ} {next : State} {y : Step} → Follows room (tagOf spaced) after e levels (Advanced.Opened kind next) y
-        → Adds spaced bytes (is .trees) (is .output) trees output state at e (withOpener kind e) to
+        → KeepsTree spaced bytes (is .trees) (is .output) trees output state at e (withOpener kind e) to
         → Turned spaced bytes was (lent trees output after) room (e .end) (Taken.More next to) y
     opened-taken (group-opened {state = next} some represented) adds = goes-on (adds was (is .stack) after room place levels next near same keeps some represented)
 
     pub closed-taken : {opener : ℕ} {next : State} {y : Step} → Follows room (tagOf spaced) after e levels (Advanced.Closed opener next) y
-        → Closing spaced bytes (is .trees) (is .output) trees output state at opener e to
+        → KeepsEnd spaced bytes (is .trees) (is .output) trees output state at opener e to
         → Turned spaced bytes was (lent trees output after) room (e .end) (Taken.More next to) y
     closed-taken (group-closed {state = next} {after = outer} c represented) closing =
         goes-on (closing was (is .stack) after room place levels outer next near same keeps c represented)

@@ -6,7 +6,7 @@ ghost use mathlib.Core.List.{List};
 ghost use Prim.Native.Nat.{ℕ, _<_, _^_};
 ghost use Rattle.text.specs.Machinery.Codes.{byteCodes};
 ghost use Rattle.keeping.specs.Machinery.Keeping.{lent, MayTake};
-ghost use Rattle.turns.specs.Machinery.Turns.{Takes, MayRun, Runs};
+ghost use Rattle.turns.specs.Machinery.Turns.{Takes, MayRead, Runs};
 use elements::Element;
 use elements::Next;
 use prefix::Advanced;
@@ -93,7 +93,7 @@ fn take_delimiter(
 }
 
 // Takes an element.
-fn take(
+fn take_element(
     text: &[u8],
     trees: &mut [u32],
     output: &mut [u8],
@@ -123,7 +123,7 @@ pub fn read_on(
     room: usize,
     spaced: bool,
 ) -> ReadOn
-    requires { ⌜ (now codes ≡ byteCodes) × MayRun spaced (now text) (now trees) (now stack) room ⌝ }
+    requires { ⌜ (now codes ≡ byteCodes) × MayRead spaced (now text) (now trees) (now stack) room ⌝ }
     ensures { λ r. ⌜ Runs spaced (now (text .entry)) (lent (now (trees .entry)) (now (output .entry)) (now (stack .entry))) (lent (now (trees .exit)) (now (output .exit)) (now (stack .exit))) room r ⌝ }
 {
     let mut state = prefix::start();
@@ -140,7 +140,7 @@ pub fn read_on(
                 return ReadOn::Stop(number, fault);
             }
             Next::Found(e) => {
-                let taken = take(text, trees, output, stack, room, spaced, state, at, e);
+                let taken = take_element(text, trees, output, stack, room, spaced, state, at, e);
                 match taken {
                     Taken::More(after, to) => {
                         state = after;

@@ -4,7 +4,7 @@ use mathlib.Core.List.{List, [], _∷_}
 use Prim.Native.Nat.{ℕ, _+_, _-_, _*_, _≤_, _<_}
 use native.Mathlib.Omega.{arith}
 use lib.ListN.{length, getD}
-use Rattle.tables.specs.Records.{mostTrees, mostSyntax}
+use Rattle.tables.specs.Records.{mostTrees}
 use Rattle.grammar.specs.Syntax.{Syntax, nil, snoc, size}
 use Rattle.grammar.specs.Machinery.Machine.{Pending, pending}
 use Rattle.controls.specs.Machinery.Written.{putSyntax}
@@ -75,12 +75,6 @@ module _ {table : List ℕ} {first : ℕ} {done : Syntax} {ps : List Pending} {o
   -- what putting a record and letting a part wait ask for
   pub start-le : Holds table first done ps operand l stack cells → l .start ≤ l .count
   start-le h = omega (arith, h .counts)
-
-  pub start-most : Holds table first done ps operand l stack cells → l .start ≤ mostTrees
-  start-most h = omega (arith, h .counts, h .few)
-
-  pub count-less : Holds table first done ps operand l stack cells → l .count < mostSyntax
-  count-less h = omega (arith, h .few)
 
   pub floor-le : Holds table first done ps operand l stack cells → l .floor ≤ l .top
   floor-le h = stacked-up (h .stacked)

@@ -11,7 +11,6 @@ use Rattle.grammar.specs.Machinery.Machine.{Pending, pending}
 use Rattle.controls.specs.Machinery.Written.{putRecord, putSyntax}
 use Rattle.waiting.specs.Machinery.Waiting.{width, lefts, Stacked, bare, above, Holds, stackWith, waitingOne, madeOne}
 use Rattle.waiting.specs.declared.Level.{Level}
-use Rattle.waiting.proofs.HoldLaws.{alone-held}
 
 -- one part more leaves the stack as long, and as it was below
 pub stack-long : (stack : List ℕ) (top kind mark start : ℕ) → length (stackWith stack top kind mark start) ≡ length stack
@@ -55,11 +54,6 @@ module _ {table : List ℕ} {first : ℕ} {done : Syntax} {ps : List Pending} {l
       let a : first + size (lefts done ps) + size operand + 0 ≡ first + size (lefts done ps) + size operand = omega arith in
       let b : size operand + 0 + 1 ≡ size operand + 1 = omega arith in
       made-of kind mark h room (omega arith) (rw (a, b))
-
-  -- the same where it is the last of one
-  pub made-one : {value : Syntax} (kind mark : ℕ) → Holds table first done ps (snoc nil value) l stack cells → l .count + l .top < mostTrees
-      → Holds table first done ps (node kind mark value nil) (madeOne l) stack (putRecord cells (l .count) kind mark (l .count - l .start + 1))
-  made-one kind mark h room = made-held kind mark (alone-held h) room
 
   -- and with two parts
   pub made-both : {left right : Syntax} (kind mark : ℕ) → Holds table first done ps (snoc left right) l stack cells → l .count + l .top < mostTrees

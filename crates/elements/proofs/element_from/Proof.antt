@@ -2,7 +2,7 @@
 use borrow.Author.Needs.{needs}
 use native.Mathlib.Omega.{arith}
 use mathlib.Core.Path.{sym, ap, _∙_}
-use Rattle.text.proofs.CodeLaws.{code-letter, code-no-letter, code-digit, code-no-digit}
+use Rattle.text.proofs.CodeLaws.{by-letter, by-digit, coded-in, coded-out}
 use Rattle.elements.specs.Elements.{literalElement}
 use Rattle.elements.proofs.ElementLaws.{from-past, from-letter, from-digit, from-quote, from-pattern, from-dot, from-sign}
 use Rattle.elements.proofs.element_from.Statement.{statement}
@@ -22,7 +22,7 @@ name-element-requires c κs = (c .before .before .before .before .before .before
 
 returns-2 : tie.Need-returns-2
 returns-2 c =
-    c .name-element .ensures ∙ sym (from-letter _ _ _ _ (omega arith) (code-letter _ (omega arith)))
+    c .name-element .ensures ∙ sym (from-letter _ _ _ _ (omega arith) (coded-in by-letter _ (omega arith)))
 
 number-at-requires : tie.Need-number-at-requires
 number-at-requires c κs = c .before .before .before .before .before .before .before .pre
@@ -33,7 +33,7 @@ literal-element-requires c κs = search needs
 returns-3 : tie.Need-returns-3
 returns-3 c =
     c .literal-element .ensures ∙ ap (literalElement _ _ _) (c .before .number-at .ensures)
-    ∙ sym (from-digit _ _ _ _ (omega arith) (code-no-letter _ (omega arith)) (code-digit _ (omega arith)))
+    ∙ sym (from-digit _ _ _ _ (omega arith) (coded-out by-letter _ (omega arith)) (coded-in by-digit _ (omega arith)))
 
 is-quote-requires : tie.Need-is-quote-requires
 is-quote-requires c κs = search needs
@@ -50,7 +50,7 @@ literal-element-requires-2 c κs = search needs
 returns-4 : tie.Need-returns-4
 returns-4 c =
     c .literal-element2 .ensures ∙ ap (literalElement _ _ _) (c .before .string-rest .ensures)
-    ∙ sym (from-quote _ _ _ _ (omega arith) (code-no-letter _ (omega arith)) (code-no-digit _ (omega arith)) (sym (c .before .before .before .is-quote .ensures) ∙ c .before .before .if4 .taken))
+    ∙ sym (from-quote _ _ _ _ (omega arith) (coded-out by-letter _ (omega arith)) (coded-out by-digit _ (omega arith)) (sym (c .before .before .before .is-quote .ensures) ∙ c .before .before .if4 .taken))
 
 is-pattern-slash-requires : tie.Need-is-pattern-slash-requires
 is-pattern-slash-requires c κs = search needs
@@ -68,7 +68,7 @@ returns-5 : tie.Need-returns-5
 returns-5 c =
     let q = sym (c .before .before .before .before .before .is-quote .ensures) ∙ c .before .before .before .before .if4 .left in
     c .literal-element3 .ensures ∙ ap (literalElement _ _ _) (c .before .pattern-rest .ensures)
-    ∙ sym (from-pattern _ _ _ _ (omega arith) (code-no-letter _ (omega arith)) (code-no-digit _ (omega arith)) q (sym (c .before .before .before .is-pattern-slash .ensures) ∙ c .before .before .if5 .taken))
+    ∙ sym (from-pattern _ _ _ _ (omega arith) (coded-out by-letter _ (omega arith)) (coded-out by-digit _ (omega arith)) q (sym (c .before .before .before .is-pattern-slash .ensures) ∙ c .before .before .if5 .taken))
 
 is-dot-before-digit-requires : tie.Need-is-dot-before-digit-requires
 is-dot-before-digit-requires c κs = (c .before .before .before .before .before .before .before .before .before .before .before .pre, omega arith)
@@ -77,7 +77,7 @@ returns-6 : tie.Need-returns-6
 returns-6 c =
     let q = sym (c .before .before .before .before .before .is-quote .ensures) ∙ c .before .before .before .before .if4 .left in
     let p = sym (c .before .before .before .is-pattern-slash .ensures) ∙ c .before .before .if5 .left in
-    sym (from-dot _ _ _ _ (omega arith) (code-no-letter _ (omega arith)) (code-no-digit _ (omega arith)) q p (sym (c .before .is-dot-before-digit .ensures) ∙ c .if6 .taken))
+    sym (from-dot _ _ _ _ (omega arith) (coded-out by-letter _ (omega arith)) (coded-out by-digit _ (omega arith)) q p (sym (c .before .is-dot-before-digit .ensures) ∙ c .if6 .taken))
 
 sign-element-requires : tie.Need-sign-element-requires
 sign-element-requires c κs = omega arith
@@ -87,7 +87,7 @@ returns-7 c =
     let q = sym (c .before .before .before .before .before .before .is-quote .ensures) ∙ c .before .before .before .before .before .if4 .left in
     let p = sym (c .before .before .before .before .is-pattern-slash .ensures) ∙ c .before .before .before .if5 .left in
     c .sign-element .ensures
-    ∙ sym (from-sign _ _ _ _ (omega arith) (code-no-letter _ (omega arith)) (code-no-digit _ (omega arith)) q p (sym (c .before .before .is-dot-before-digit .ensures) ∙ c .before .if6 .left))
+    ∙ sym (from-sign _ _ _ _ (omega arith) (coded-out by-letter _ (omega arith)) (coded-out by-digit _ (omega arith)) q p (sym (c .before .before .is-dot-before-digit .ensures) ∙ c .before .if6 .left))
 
 pub element-from-spec : {M : Type 1} → statement M
 element-from-spec =

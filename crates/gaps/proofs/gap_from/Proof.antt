@@ -6,7 +6,7 @@ use mathlib.Core.Bool.{false}
 use Prim.Native.Nat.{_-_}
 use lib.ListN.{length, drop}
 use Rattle.gaps.specs.Gaps.{gap}
-use Rattle.text.proofs.CodeLaws.{code-line-end, code-no-line-end, code-blank, code-no-blank}
+use Rattle.text.proofs.CodeLaws.{code-line-end, code-no-line-end, by-blank, coded-in, coded-out}
 use Rattle.gaps.proofs.GapLaws.{gap-past, gap-space, gap-over-slash, gap-blank, gap-line-end, gap-other, gap-no-comment, gap-comment, gap-fault}
 use Rattle.gaps.proofs.gap_from.Statement.{statement}
 use Rattle.gaps.proofs.gap_from.Tie as tie
@@ -51,7 +51,7 @@ loop-less-2 c = search needs
 loop-again-2 : tie.Need-loop-again-2 Inv-loop μ-loop
 loop-again-2 c =
     let l = c .before .before .before .before .before .before in
-    l .loop .inv ∙ gap-blank _ _ _ (omega arith) (code-blank _ (omega arith))
+    l .loop .inv ∙ gap-blank _ _ _ (omega arith) (coded-in by-blank _ (omega arith))
 
 add-i-3 : tie.Need-add-i-3 Inv-loop μ-loop
 add-i-3 c = search needs
@@ -70,7 +70,7 @@ returns-2 c =
     sym
     (l .loop .inv
     ∙ gap-other _ _ _ (omega arith)
-    (code-no-blank _ (omega arith))
+    (coded-out by-blank _ (omega arith))
     (code-no-line-end _ (omega arith))
     (c .if5 .taken))
 

@@ -45,14 +45,14 @@ pub record MayTake (spaced : Bool) (bytes : List ℕ) (is : Lent) (room : ℕ) (
   pub room-small : room ≤ mostTrees
 
 -- the same, with room for a record more
-pub record MayAdd (spaced : Bool) (bytes trees output : List ℕ) (state : State) (at : ℕ) (e : Element) : Type 0 where
+pub record MayKeep (spaced : Bool) (bytes trees output : List ℕ) (state : State) (at : ℕ) (e : Element) : Type 0 where
   pub stack : List ℕ
   pub room : ℕ
   pub may : MayTake spaced bytes (lent trees output stack) room state at e
   pub more-room : state .records < room
 
 -- the same, where the innermost group is closed
-pub record MayClose (spaced : Bool) (bytes trees output : List ℕ) (state : State) (at opener : ℕ) (e : Element) : Type 0 where
+pub record MayKeepEnd (spaced : Bool) (bytes trees output : List ℕ) (state : State) (at opener : ℕ) (e : Element) : Type 0 where
   pub stack : List ℕ
   pub room : ℕ
   pub may : MayTake spaced bytes (lent trees output stack) room state at e
@@ -60,8 +60,8 @@ pub record MayClose (spaced : Bool) (bytes trees output : List ℕ) (state : Sta
   pub closes : Closes (tagOf spaced) e opener (may .levels) outer
 
 -- what keeping a tree more promises, of whatever is kept before it and of every state that then holds the levels: it is kept
-abbrev pub Adds : Bool → List ℕ → List ℕ → List ℕ → List ℕ → List ℕ → State → ℕ → Element → (Levels → Levels) → ℕ → Type 0
-Adds spaced bytes trees output trees' output' state at e then to =
+abbrev pub KeepsTree : Bool → List ℕ → List ℕ → List ℕ → List ℕ → List ℕ → State → ℕ → Element → (Levels → Levels) → ℕ → Type 0
+KeepsTree spaced bytes trees output trees' output' state at e then to =
     (was : Lent) (stack after : List ℕ) (room place : ℕ) (levels : Levels) (next : State) → place ≤ e .first → length after ≡ length stack
     → Keeps spaced bytes was (lent trees output stack) room state at place levels → countSoFar levels < room → Represents (tagOf spaced) after next (then levels)
     → Keeps spaced bytes was (lent trees' output' after) room next to (e .end) (then levels)
@@ -74,8 +74,8 @@ abbrev pub withOpener : ℕ → Element → Levels → Levels
 withOpener kind e levels = inside levels kind (e .first) (e .newline) none
 
 -- the same of a group that closes
-abbrev pub Closing : Bool → List ℕ → List ℕ → List ℕ → List ℕ → List ℕ → State → ℕ → ℕ → Element → ℕ → Type 0
-Closing spaced bytes trees output trees' output' state at opener e to =
+abbrev pub KeepsEnd : Bool → List ℕ → List ℕ → List ℕ → List ℕ → List ℕ → State → ℕ → ℕ → Element → ℕ → Type 0
+KeepsEnd spaced bytes trees output trees' output' state at opener e to =
     (was : Lent) (stack after : List ℕ) (room place : ℕ) (levels outer : Levels) (next : State) → place ≤ e .first → length after ≡ length stack
     → Keeps spaced bytes was (lent trees output stack) room state at place levels → Closes (tagOf spaced) e opener levels outer → Represents (tagOf spaced) after next outer
     → Keeps spaced bytes was (lent trees' output' after) room next to (e .end) outer

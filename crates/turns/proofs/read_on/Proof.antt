@@ -70,8 +70,8 @@ returns-2 c =
 enum-known-next-2 : tie.Need-enum-known-next-2 Inv-loop μ-loop
 enum-known-next-2 c = search needs
 
-take-requires : tie.Need-take-requires Inv-loop μ-loop
-take-requires c κs =
+take-element-requires : tie.Need-take-element-requires Inv-loop μ-loop
+take-element-requires c κs =
     let here = c .before .before .before .before .before .before .before .before .loop .inv .here in
     let rule = c .before .before .before .before .before .before .before .stated-by .ensures .1 _ _ (here .levels) (keeps-represented _ _ _ _ _ _ _ (here .levels) _ (here .keeps)) in
     may-take _ _ _ _ _ _ _ _ here _ rule _ (sym (c .before .before .before .before .before .before .element-by .ensures .0) ∙ c .before .before .before .before .next2 .given .1) (c .before .before .before .before .before .before .before .before .before .before .before .before .before .before .before .pre .1)
@@ -95,7 +95,7 @@ loop-again c =
       trees-length = c .before .before .before .before .before .before .before .before .trees .given ∙ loop .trees-length;
       output-length = c .before .before .before .before .before .before .output .given ∙ loop .output-length;
       stack-length = c .before .before .before .before .stack .given ∙ loop .stack-length;
-      here = at-more _ _ _ _ _ _ _ _ here _ rule _ found _ _ _ (rw (c .before .taken .given .1) at (c .before .before .before .before .before .before .before .before .before .take .ensures _ _ (here .levels) (placed .from) (here .keeps)));
+      here = at-more _ _ _ _ _ _ _ _ here _ rule _ found _ _ _ (rw (c .before .taken .given .1) at (c .before .before .before .before .before .before .before .before .before .take-element .ensures _ _ (here .levels) (placed .from) (here .keeps)));
     }
 
 enum-known-taken-2 : tie.Need-enum-known-taken-2 Inv-loop μ-loop
@@ -116,7 +116,7 @@ returns-3 c =
     let rule = c .before .before .before .before .before .before .before .before .before .before .before .before .before .before .before .before .before .stated-by .ensures .1 _ _ (here .levels) (keeps-represented _ _ _ _ _ _ _ (here .levels) _ (here .keeps)) in
     let found = sym (c .before .before .before .before .before .before .before .before .before .before .before .before .before .before .before .before .element-by .ensures .0) ∙ c .before .before .before .before .before .before .before .before .before .before .before .before .before .before .next2 .given .1 in
     let placed = found-placed _ _ _ _ found in
-    at-stop _ _ _ _ _ _ _ _ here _ rule _ found _ _ _ (rw (c .before .taken2 .given .1) at (c .before .before .before .before .before .before .before .before .before .take .ensures _ _ (here .levels) (placed .from) (here .keeps)))
+    at-stop _ _ _ _ _ _ _ _ here _ rule _ found _ _ _ (rw (c .before .taken2 .given .1) at (c .before .before .before .before .before .before .before .before .before .take-element .ensures _ _ (here .levels) (placed .from) (here .keeps)))
 
 pub read-on-spec : {M : Type 1} → statement M
 read-on-spec =
@@ -139,7 +139,7 @@ read-on-spec =
     same-length-6
     returns-2
     enum-known-next-2
-    take-requires
+    take-element-requires
     enum-known-taken
     loop-less
     loop-again

@@ -31,7 +31,7 @@ Takes spaced bytes is after room state at e taken =
     → Turned spaced bytes was after room (e .end) taken (step (limitsFor room) levels e)
 
 -- what a reading asks: a text that is not long, room that the table has where its records are kept, and the stack of 100 groups
-pub record MayRun (spaced : Bool) (bytes trees stack : List ℕ) (room : ℕ) : Type 0 where
+pub record MayRead (spaced : Bool) (bytes trees stack : List ℕ) (room : ℕ) : Type 0 where
   pub short : length bytes ≤ mostBytes
   pub stack-is : length stack ≡ 200
   pub room-small : room ≤ mostTrees

@@ -1,7 +1,7 @@
 -- By whether the element is a delimiter.
 use borrow.Author.Needs.{needs}
-use Rattle.turns.proofs.take.Statement.{statement}
-use Rattle.turns.proofs.take.Tie as tie
+use Rattle.turns.proofs.take_element.Statement.{statement}
+use Rattle.turns.proofs.take_element.Tie as tie
 
 take-leaf-requires : tie.Need-take-leaf-requires
 take-leaf-requires c κs = (_, c .before .before .before .before .before .before .before .before .pre)
@@ -30,8 +30,8 @@ same-length-5 c = search needs
 returns-2 : tie.Need-returns-2
 returns-2 c = c .before .before .before .before .before .before .take-delimiter .ensures (c .before .before .before .before .before .before .before .before .before .before .if1 .left)
 
-pub take-spec : {M : Type 1} → statement M
-take-spec =
+pub take-element-spec : {M : Type 1} → statement M
+take-element-spec =
     tie.close
     (tie.spec
     take-leaf-requires
