@@ -3,9 +3,9 @@
  * A slice is a pointer, never null and aligned for its elements, and their number. The text and the lent tables or the output
  * must not overlap. A call keeps nothing, allocates nothing and takes at most 192 KiB of stack (measured).
  *
- * Each call answers the count where the text is accepted, and number * 2^32 + place where it is refused; the number is from 1 to 15, so
- * that an answer below 2^32 is a count. A refusal zeroes every cell of each lent table and output; on acceptance what stands behind
- * the count is as it was. */
+ * Each call answers the count where the text is accepted, and number * 2^32 + place where it is refused; the number is from 1 to 15 (8 no
+ * longer occurs), so that an answer below 2^32 is a count. A refusal zeroes every cell of each lent table and output; on acceptance what stands behind
+ * the last record of a table, or the last byte written, is as it was. */
 #ifndef BULDREKSO_H
 #define BULDREKSO_H
 
@@ -24,6 +24,8 @@ extern "C" {
 #define BULDREKSO_SYNTAX_WIDTH 3
 #define BULDREKSO_SYNTAX_MOST 16385
 #define BULDREKSO_RESPACED_MOST (2 * BULDREKSO_MOST_BYTES + 1)
+
+/* Kinds of records from 1 to 13 for trees and 1 to 73 for syntax: docs/KINDS.md lists them. */
 
 /* Tree records: kind, first byte, byte after the last, records in it with itself, 1 if a line end lies before it. The count is theirs. */
 uint64_t buldrekso_read(const uint8_t *text, size_t text_len, uint32_t *trees, size_t trees_len);

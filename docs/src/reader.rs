@@ -21,6 +21,10 @@ const PARENTHESES: u32 = 7;
 const OBJECT: u32 = 8;
 const BLOCK: u32 = 9;
 const BRACKETS: u32 = 10;
+/// `++` or `--` before its operand, and after it; a `:` that answers a `?`.
+const BEFORE: u32 = 11;
+const AFTER: u32 = 12;
+const ANSWER: u32 = 13;
 
 // Numbers of refusals.
 const LONG: u32 = 1;
@@ -30,7 +34,6 @@ const OPEN_PATTERN: u32 = 4;
 const OPEN_COMMENT: u32 = 5;
 const BAD_NUMBER: u32 = 6;
 const BARRED_WORD: u32 = 7;
-const BARRED_SIGN: u32 = 8;
 const DEEP: u32 = 9;
 const WRONG_CLOSER: u32 = 10;
 const UNCLOSED: u32 = 11;
@@ -148,10 +151,15 @@ enum Start {
     Number,
     String,
     Slash,
-    Sign,
+    Semicolon,
+    Comma,
+    Colon,
+    Question,
+    Dot,
+    /// Any other sign: an operator.
+    Operator,
     Opener,
     Closer,
-    BarredSign,
 }
 
 static STARTS: [Start; 256] = {
@@ -164,10 +172,14 @@ static STARTS: [Start; 256] = {
             b'0'..=b'9' => Start::Number,
             b'\'' | b'"' => Start::String,
             b'/' => Start::Slash,
-            b';' | b',' | b':' | b'.' | b'=' | b'+' => Start::Sign,
+            b';' => Start::Semicolon,
+            b',' => Start::Comma,
+            b':' => Start::Colon,
+            b'?' => Start::Question,
+            b'.' => Start::Dot,
+            b'=' | b'+' | b'-' | b'*' | b'%' | b'<' | b'>' | b'!' | b'&' | b'|' | b'^' | b'~' => Start::Operator,
             b'(' | b'[' | b'{' => Start::Opener,
             b')' | b']' | b'}' => Start::Closer,
-            b'<' | b'>' | b'!' | b'-' | b'*' | b'%' | b'&' | b'|' | b'^' | b'~' | b'?' => Start::BarredSign,
             _ => Start::Nothing,
         };
         index += 1;
@@ -175,137 +187,115 @@ static STARTS: [Start; 256] = {
     starts
 };
 
-// A level is one number, so that the level after a tree is found with hardly a branch. Its low half is what the trees so far make of the next element; after
-// an operand it is 0.
+// A level is one number, so that the level after a tree is found with hardly a branch. Its lowest 16 bits are what the trees so far make of the next
+// element; after an operand they are 0.
+type Level = u64;
+
 /// A slash opens a regular expression.
-const PATTERN: u32 = 1;
+const PATTERN: Level = 1;
 /// A `{` opens an object: on the same line, and after a line end.
-const OBJECT_ON_SAME_LINE: u32 = 2;
-const OBJECTS: u32 = 2 | 4;
+const OBJECT_ON_SAME_LINE: Level = 2;
+const OBJECTS: Level = 2 | 4;
 /// A reserved word is a name.
-const WORD_IS_NAME: u32 = 8;
+const WORD_IS_NAME: Level = 8;
 /// Last is `function`, in a statement's place or in an operand's; two bits further up its name, and two further its `( )`.
-const STATEMENT_FUNCTION: u32 = 16;
-const OPERAND_FUNCTION: u32 = 32;
-const FUNCTION: u32 = STATEMENT_FUNCTION | OPERAND_FUNCTION;
-const FUNCTION_NAME: u32 = FUNCTION << 2;
-const OPERAND_FUNCTION_PARENTHESES: u32 = OPERAND_FUNCTION << 4;
+const STATEMENT_FUNCTION: Level = 16;
+const OPERAND_FUNCTION: Level = 32;
+const FUNCTION: Level = STATEMENT_FUNCTION | OPERAND_FUNCTION;
+const FUNCTION_NAME: Level = FUNCTION << 2;
+const OPERAND_FUNCTION_PARENTHESES: Level = OPERAND_FUNCTION << 4;
 /// Last is `if`.
-const IF: u32 = 1024;
+const IF: Level = 1024;
+/// The bits after an operator.
+const OPERATOR: Level = PATTERN | OBJECTS;
 
-// Its high half is of the group: the bits for its first element, and its closer.
-const GROUP: u32 = 0xffff_0000;
+// The next 16 bits are of the group: the bits for its first element, and its closer. Above them is the number of `?`s that no `:` has answered.
+const ALL_BUT_NEXT: Level = !0xffff;
+const GROUP: Level = 0xffff_0000;
+const QUESTION: Level = 1 << 32;
 
-const fn group(first: u32, closer: u8) -> u32 {
-    (closer as u32) << 24 | first << 16 | first
+const fn group(first: Level, closer: u8) -> Level {
+    (closer as Level) << 24 | first << 16 | first
 }
 
-const LEVEL_IN_WHOLE_TEXT: u32 = group(PATTERN, 0);
-const LEVEL_IN_BLOCK: u32 = group(PATTERN, b'}');
-const LEVEL_IN_OBJECT: u32 = group(PATTERN | OBJECTS | WORD_IS_NAME, b'}');
-const LEVEL_IN_PARENTHESES: u32 = group(PATTERN | OBJECTS, b')');
-const LEVEL_IN_BRACKETS: u32 = group(PATTERN | OBJECTS, b']');
+const LEVEL_IN_WHOLE_TEXT: Level = group(PATTERN, 0);
+const LEVEL_IN_BLOCK: Level = group(PATTERN, b'}');
+const LEVEL_IN_OBJECT: Level = group(OPERATOR | WORD_IS_NAME, b'}');
+const LEVEL_IN_PARENTHESES: Level = group(OPERATOR, b')');
+const LEVEL_IN_BRACKETS: Level = group(OPERATOR, b']');
 
 /// Whether a `{` opens an object, 1 or 0.
 #[inline(always)]
-fn opens_object(level: u32, newline: u32) -> u32 {
+fn opens_object(level: Level, newline: u32) -> Level {
     level >> (1 + newline) & 1
 }
 
 // The bits after a tree.
 #[inline(always)]
-fn after_name(level: u32) -> u32 {
+fn after_name(level: Level) -> Level {
     (level & FUNCTION) << 2
 }
 
 #[inline(always)]
-fn after_parentheses(level: u32) -> u32 {
+fn after_parentheses(level: Level) -> Level {
     (level & FUNCTION) << 4 | (level & FUNCTION_NAME) << 2 | level / IF & PATTERN
 }
 
 #[inline(always)]
-fn after_block(level: u32) -> u32 {
+fn after_block(level: Level) -> Level {
     PATTERN & !(level / OPERAND_FUNCTION_PARENTHESES)
 }
 
-/// What a sign does: the bits after it, those for the group's first element that hold again, and the bytes that may not follow.
-#[derive(Clone, Copy)]
-struct AfterSign {
-    bits: u8,
-    again: u8,
-    barred: u8,
+/// The kind of `++` or `--`, and the bits after it.
+#[inline(always)]
+fn increment(level: Level, newline: u32) -> (u32, Level) {
+    if level & PATTERN != 0 || newline != 0 {
+        (BEFORE, OPERATOR)
+    } else {
+        (AFTER, 0)
+    }
 }
 
-const DIGIT: u8 = 1;
-const EQUALS: u8 = 2;
-const PLUS: u8 = 4;
-
-static AFTER_SIGN: [AfterSign; 256] = {
-    const NONE: AfterSign = AfterSign { bits: PATTERN as u8, again: 0, barred: 0 };
-    const OPERATOR: AfterSign = AfterSign { bits: (PATTERN | OBJECTS) as u8, ..NONE };
-    let mut after = [NONE; 256];
-    after[b':' as usize].again = OBJECTS as u8;
-    after[b',' as usize] = AfterSign { again: WORD_IS_NAME as u8, ..OPERATOR };
-    after[b'.' as usize] = AfterSign { bits: (PATTERN | WORD_IS_NAME) as u8, again: 0, barred: DIGIT };
-    after[b'=' as usize] = AfterSign { barred: EQUALS, ..OPERATOR };
-    after[b'+' as usize] = AfterSign { barred: EQUALS | PLUS, ..OPERATOR };
-    after[b'/' as usize] = AfterSign { barred: EQUALS, ..OPERATOR };
-    after
+/// Bytes that a sign of more than one has behind the first.
+static LENGTHENS: [bool; 256] = {
+    let mut lengthens = [false; 256];
+    let longer = b"=+-<>&|";
+    let mut index = 0;
+    while index < longer.len() {
+        lengthens[longer[index] as usize] = true;
+        index += 1;
+    }
+    lengthens
 };
 
-static FOLLOWS: [u8; 256] = {
-    let mut follows = [0; 256];
-    let mut digit = b'0';
-    while digit <= b'9' {
-        follows[digit as usize] = DIGIT;
-        digit += 1;
+/// The length of the longest sign at a place where an operator starts.
+#[inline(never)]
+fn operator_length(text: &[u8], at: u32) -> u32 {
+    let rest = &text[at as usize..];
+    match rest {
+        [b'>', b'>', b'>', b'=', ..] => 4,
+        [b'>', b'>', b'>' | b'=', ..] | [b'<', b'<', b'=', ..] | [b'=' | b'!', b'=', b'=', ..] => 3,
+        [b'<' | b'>' | b'=' | b'!' | b'+' | b'-' | b'*' | b'%' | b'&' | b'|' | b'^' | b'/', b'=', ..] => 2,
+        [b'+', b'+', ..] | [b'-', b'-', ..] | [b'<', b'<', ..] | [b'>', b'>', ..] | [b'&', b'&', ..] | [b'|', b'|', ..] => 2,
+        _ => 1,
     }
-    follows[b'=' as usize] = EQUALS;
-    follows[b'+' as usize] = PLUS;
-    follows
-};
-
-/// The level after the sign at a place.
-#[inline(always)]
-fn after_sign(text: &[u8], at: u32, byte: u8, level: u32) -> Result<u32, Fault> {
-    let after = AFTER_SIGN[byte as usize];
-    let next = byte_after(text, at).unwrap_or(0);
-    if FOLLOWS[next as usize] & after.barred != 0 {
-        return Err((if byte == b'.' { BAD_NUMBER } else { BARRED_SIGN }, at));
-    }
-    Ok(level & GROUP | u32::from(after.bits) | level >> 16 & u32::from(after.again))
 }
 
 // Reserved words. All but one have at most eight letters, and are told by these as one number.
-const RETURN_LETTERS: u64 = letters(b"return");
-const FUNCTION_LETTERS: u64 = letters(b"function");
-const IF_LETTERS: u64 = letters(b"if");
 const LONGEST_WORD: &[u8] = b"instanceof";
 
-// Those that are refused, but for the longest.
-const BARRED: [&[u8]; 32] = [
-    b"break", b"case", b"catch", b"class", b"const", b"continue", b"debugger", b"default", b"delete", b"do", b"else", b"enum", b"export", b"extends",
-    b"false", b"finally", b"for", b"import", b"in", b"new", b"null", b"super", b"switch", b"this", b"throw", b"true", b"try", b"typeof", b"var", b"void",
-    b"while", b"with",
+const WORDS: [&[u8]; 36] = [
+    b"break", b"case", b"catch", b"class", b"const", b"continue", b"debugger", b"default", b"delete", b"do", b"else", b"enum", b"export", b"extends", b"false",
+    b"finally", b"for", b"function", b"if", b"import", b"in", LONGEST_WORD, b"new", b"null", b"return", b"super", b"switch", b"this", b"throw", b"true", b"try",
+    b"typeof", b"var", b"void", b"while", b"with",
 ];
-
-static BARRED_LETTERS: [u64; BARRED.len()] = {
-    let mut words = [0; BARRED.len()];
-    let mut index = 0;
-    while index < BARRED.len() {
-        words[index] = letters(BARRED[index]);
-        index += 1;
-    }
-    words
-};
 
 /// The lengths of the words that start with a letter, one bit each, by the letter's low five bits.
 static WORD_LENGTHS: [u32; 32] = {
-    let others: [&[u8]; 4] = [b"return", b"function", b"if", LONGEST_WORD];
     let mut lengths = [0; 32];
     let mut index = 0;
-    while index < BARRED.len() + others.len() {
-        let word = if index < BARRED.len() { BARRED[index] } else { others[index - BARRED.len()] };
+    while index < WORDS.len() {
+        let word = WORDS[index];
         lengths[(word[0] & 31) as usize] |= 1 << word.len();
         index += 1;
     }
@@ -331,18 +321,33 @@ fn letters_of(text: &[u8], first: u32, end: u32) -> u64 {
     }
 }
 
+// The words that are taken, and those that are refused.
+const RETURN_LETTERS: u64 = letters(b"return");
+const FUNCTION_LETTERS: u64 = letters(b"function");
+const IF_LETTERS: u64 = letters(b"if");
+const OPERATORS: [u64; 5] = [letters(b"delete"), letters(b"in"), letters(b"new"), letters(b"typeof"), letters(b"void")];
+const VALUES: [u64; 4] = [letters(b"false"), letters(b"null"), letters(b"this"), letters(b"true")];
+
+static BARRED: [u64; 23] = [
+    letters(b"break"), letters(b"case"), letters(b"catch"), letters(b"class"), letters(b"const"), letters(b"continue"), letters(b"debugger"), letters(b"default"),
+    letters(b"do"), letters(b"else"), letters(b"enum"), letters(b"export"), letters(b"extends"), letters(b"finally"), letters(b"for"), letters(b"import"),
+    letters(b"super"), letters(b"switch"), letters(b"throw"), letters(b"try"), letters(b"var"), letters(b"while"), letters(b"with"),
+];
+
 /// The kind of what may be a word, where words are no names, and the bits after it.
 #[inline(always)]
-fn word_or_name(text: &[u8], first: u32, end: u32, level: u32, newline: u32) -> Result<(u32, u32), Fault> {
+fn word_or_name(text: &[u8], first: u32, end: u32, level: Level, newline: u32) -> Result<(u32, Level), Fault> {
     if end - first > 8 {
-        let barred = text[first as usize..end as usize] == *LONGEST_WORD;
-        return if barred { Err((BARRED_WORD, first)) } else { Ok((NAME, after_name(level))) };
+        let word = text[first as usize..end as usize] == *LONGEST_WORD;
+        return Ok(if word { (WORD, OPERATOR) } else { (NAME, after_name(level)) });
     }
     match letters_of(text, first, end) {
         RETURN_LETTERS => Ok((WORD, PATTERN | OBJECT_ON_SAME_LINE)),
         FUNCTION_LETTERS => Ok((WORD, PATTERN | STATEMENT_FUNCTION << opens_object(level, newline))),
         IF_LETTERS => Ok((WORD, PATTERN | IF)),
-        letters if BARRED_LETTERS.contains(&letters) => Err((BARRED_WORD, first)),
+        letters if OPERATORS.contains(&letters) => Ok((WORD, OPERATOR)),
+        letters if VALUES.contains(&letters) => Ok((WORD, 0)),
+        letters if BARRED.contains(&letters) => Err((BARRED_WORD, first)),
         _ => Ok((NAME, after_name(level))),
     }
 }
@@ -419,17 +424,48 @@ fn block_comment_end(text: &[u8], first: u32) -> Result<(u32, u32), Fault> {
     }
 }
 
+#[inline(always)]
+fn digits_end(text: &[u8], mut at: u32) -> u32 {
+    while byte_at(text, at).is_some_and(|byte| byte.is_ascii_digit()) {
+        at += 1;
+    }
+    at
+}
+
 /// The place behind a number.
 #[inline(always)]
 fn number_end(text: &[u8], first: u32, byte: u8) -> Result<u32, Fault> {
-    let mut at = first + 1;
-    if byte != b'0' {
-        while byte_at(text, at).is_some_and(|byte| byte.is_ascii_digit()) {
-            at += 1;
+    let at = if byte == b'0' { first + 1 } else { digits_end(text, first + 1) };
+    match byte_at(text, at) {
+        Some(byte) if passed_over(byte, IN_NAME) || byte == b'.' => longer_number_end(text, first, at),
+        _ => Ok(at),
+    }
+}
+
+/// The place behind a number whose first digits end before a place.
+#[inline(never)]
+fn longer_number_end(text: &[u8], first: u32, digits: u32) -> Result<u32, Fault> {
+    let mut at = digits;
+    match text[first as usize..] {
+        [b'0', b'x' | b'X', byte, ..] if byte.is_ascii_hexdigit() => {
+            at = first + 2;
+            while byte_at(text, at).is_some_and(|byte| byte.is_ascii_hexdigit()) {
+                at += 1;
+            }
+        }
+        _ => {
+            if byte_at(text, at) == Some(b'.') {
+                at = digits_end(text, at + 1);
+            }
+            match text[at as usize..] {
+                [b'e' | b'E', b'0'..=b'9', ..] => at = digits_end(text, at + 1),
+                [b'e' | b'E', b'+' | b'-', b'0'..=b'9', ..] => at = digits_end(text, at + 2),
+                _ => {}
+            }
         }
     }
     match byte_at(text, at) {
-        Some(byte) if passed_over(byte, IN_NAME) || byte == b'.' => Err((BAD_NUMBER, first)),
+        Some(byte) if passed_over(byte, IN_NAME) => Err((BAD_NUMBER, first)),
         _ => Ok(at),
     }
 }
@@ -438,7 +474,7 @@ fn number_end(text: &[u8], first: u32, byte: u8) -> Result<u32, Fault> {
 #[derive(Clone, Copy)]
 struct Open {
     record: u32,
-    after: u32,
+    after: Level,
 }
 
 /// The reading, with what was stored left in the records where it is refused.
@@ -464,23 +500,23 @@ fn fill(text: &[u8], records: &mut [Record]) -> Result<u32, Fault> {
             Start::Name => {
                 at = run_end(text, at + 1, IN_NAME);
                 // Few names have the first letter and the length of a word.
-                let (found, after) = if WORD_LENGTHS[(byte & 31) as usize].wrapping_shr(at - first) & !(level / WORD_IS_NAME) & 1 != 0 {
+                let (found, after) = if WORD_LENGTHS[(byte & 31) as usize].wrapping_shr(at - first) & !(level / WORD_IS_NAME) as u32 & 1 != 0 {
                     word_or_name(text, first, at, level, newline)?
                 } else {
                     (NAME, after_name(level))
                 };
                 kind = found;
-                level = level & GROUP | after;
+                level = level & ALL_BUT_NEXT | after;
             }
             Start::Number => {
                 at = number_end(text, first, byte)?;
                 kind = NUMBER;
-                level &= GROUP;
+                level &= ALL_BUT_NEXT;
             }
             Start::String => {
                 at = string_end(text, first, byte)?;
                 kind = STRING;
-                level &= GROUP;
+                level &= ALL_BUT_NEXT;
             }
             Start::Slash => match byte_after(text, at) {
                 Some(b'/') => {
@@ -499,21 +535,66 @@ fn fill(text: &[u8], records: &mut [Record]) -> Result<u32, Fault> {
                 _ if level & PATTERN != 0 => {
                     at = pattern_end(text, first)?;
                     kind = REGULAR_EXPRESSION;
-                    level &= GROUP;
+                    level &= ALL_BUT_NEXT;
                 }
-                _ => {
-                    level = after_sign(text, at, byte, level)?;
-                    at += 1;
+                next => {
+                    level = level & ALL_BUT_NEXT | OPERATOR;
+                    at += if next == Some(b'=') { 2 } else { 1 };
                     kind = SIGN;
                 }
             },
-            Start::Sign => {
-                level = after_sign(text, at, byte, level)?;
+            Start::Semicolon => {
+                // Open `?`s are forgotten.
+                level = level & GROUP | PATTERN;
                 at += 1;
                 kind = SIGN;
             }
+            Start::Comma => {
+                level = level & ALL_BUT_NEXT | level >> 16 & WORD_IS_NAME | OPERATOR;
+                at += 1;
+                kind = SIGN;
+            }
+            Start::Colon => {
+                at += 1;
+                if level >= QUESTION {
+                    level = (level - QUESTION) & ALL_BUT_NEXT | OPERATOR;
+                    kind = ANSWER;
+                } else {
+                    level = level & ALL_BUT_NEXT | level >> 16 & OBJECTS | PATTERN;
+                    kind = SIGN;
+                }
+            }
+            Start::Question => {
+                level = (level + QUESTION) & ALL_BUT_NEXT | OPERATOR;
+                at += 1;
+                kind = SIGN;
+            }
+            Start::Dot => {
+                if byte_after(text, at).is_some_and(|next| next.is_ascii_digit()) {
+                    at = longer_number_end(text, first, first)?;
+                    kind = NUMBER;
+                    level &= ALL_BUT_NEXT;
+                } else {
+                    level = level & ALL_BUT_NEXT | PATTERN | WORD_IS_NAME;
+                    at += 1;
+                    kind = SIGN;
+                }
+            }
+            Start::Operator => {
+                let next = byte_after(text, at).unwrap_or(0);
+                let (found, after) = if !LENGTHENS[next as usize] {
+                    at += 1;
+                    (SIGN, OPERATOR)
+                } else {
+                    at += operator_length(text, at);
+                    let doubled = at - first == 2 && next == byte && (byte == b'+' || byte == b'-');
+                    if doubled { increment(level, newline) } else { (SIGN, OPERATOR) }
+                };
+                kind = found;
+                level = level & ALL_BUT_NEXT | after;
+            }
             Start::Closer => {
-                if level >> 24 != u32::from(byte) {
+                if (level >> 24) as u8 != byte {
                     return Err((WRONG_CLOSER, at));
                 }
                 depth -= 1;
@@ -538,13 +619,12 @@ fn fill(text: &[u8], records: &mut [Record]) -> Result<u32, Fault> {
                     _ => (BLOCK, LEVEL_IN_BLOCK, after_block(level)),
                 };
                 // The level after the group is known here. What its record lacks is written at its closer.
-                groups[depth % groups.len()] = Open { record: count, after: level & GROUP | after };
+                groups[depth % groups.len()] = Open { record: count, after: level & ALL_BUT_NEXT | after };
                 depth += 1;
                 at += 1;
                 kind = found;
                 level = inside;
             }
-            Start::BarredSign => return Err((BARRED_SIGN, at)),
             Start::Nothing => return Err((STRAY, at)),
         }
         let Some(record) = records.get_mut(count as usize) else {

@@ -1,5 +1,5 @@
-//! Elements, as document 01 states them: blanks and comments, then the element that stands there under a slash choice. A reserved word
-//! is cut as a word; what it is in its place (document 02, U1 and U2) is asked afterwards.
+//! Elements, as document 01 states them, with the numbers and signs of document 02, U4: blanks and comments, then the element that stands there under a
+//! slash choice. A reserved word is cut as a word; what it is in its place (document 02, U1 and U2) is asked afterwards.
 
 /// A refusal: number and place.
 pub type Fault = (u32, usize);
@@ -10,24 +10,10 @@ pub enum Class {
     Number,
     Text,
     Pattern,
-    Divide,
-    Plus,
-    Assign,
-    Colon,
-    Semicolon,
-    Dot,
-    OpenParen,
-    CloseParen,
-    OpenBrace,
-    CloseBrace,
-    OpenBracket,
-    CloseBracket,
-    Comma,
-    Return,
-    Function,
-    If,
-    /// A reserved word that is not taken here.
-    BarredWord,
+    /// A sign or a delimiter, by its spelling.
+    Sign(&'static str),
+    /// A reserved word, by its spelling.
+    Word(&'static str),
     /// A reserved word that is a name.
     WordAsName,
 }
@@ -43,47 +29,41 @@ pub struct Element {
 
 impl Element {
     pub fn is_closer(self) -> bool {
-        matches!(self.class, Class::CloseParen | Class::CloseBrace | Class::CloseBracket)
-    }
-
-    /// Kind of the tree record of an element that is no delimiter.
-    pub fn kind(self) -> u32 {
-        match self.class {
-            Class::Name | Class::WordAsName => 1,
-            Class::Return | Class::Function | Class::If => 2,
-            Class::Number => 3,
-            Class::Text => 4,
-            Class::Pattern => 5,
-            _ => 6,
-        }
+        matches!(self.class, Class::Sign(")" | "}" | "]"))
     }
 
     /// What the element may be: a reserved word may be a name, and one that is not taken can be nothing else.
     pub fn readings(self) -> Vec<Element> {
         let name = Element { class: Class::WordAsName, ..self };
         match self.class {
-            Class::Return | Class::Function | Class::If => vec![self, name],
-            Class::BarredWord => vec![name],
+            Class::Word(word) if is_taken(word) => vec![self, name],
+            Class::Word(_) => vec![name],
             _ => vec![self],
         }
     }
 }
 
 /// The 36 reserved words: keywords, future reserved words, `null` and the truth values.
-const WORDS: &str = "break case catch continue debugger default delete do else finally for function if in instanceof new return switch this \
-                     throw try typeof var void while with class const enum export extends import super null true false";
+pub const WORDS: [&str; 36] = [
+    "break", "case", "catch", "continue", "debugger", "default", "delete", "do", "else", "finally", "for", "function", "if", "in", "instanceof", "new", "return",
+    "switch", "this", "throw", "try", "typeof", "var", "void", "while", "with", "class", "const", "enum", "export", "extends", "import", "super", "null", "true",
+    "false",
+];
+
+/// The words that are operators, and those that are values.
+pub const WORD_OPERATORS: [&str; 6] = ["delete", "void", "typeof", "new", "in", "instanceof"];
+pub const VALUE_WORDS: [&str; 4] = ["this", "null", "true", "false"];
+
+/// Is a reserved word taken where it is no name?
+pub fn is_taken(word: &str) -> bool {
+    matches!(word, "return" | "function" | "if") || WORD_OPERATORS.contains(&word) || VALUE_WORDS.contains(&word)
+}
 
 /// The 48 signs: punctuators and the two that divide.
-const SIGNS: &str = "{ } ( ) [ ] . ; , < > <= >= == != === !== + - * % ++ -- << >> >>> & | ^ ! ~ && || ? : = += -= *= %= <<= >>= >>>= &= |= \
-                     ^= / /=";
-
-pub fn words() -> Vec<&'static str> {
-    WORDS.split_ascii_whitespace().collect()
-}
-
-pub fn signs() -> Vec<&'static str> {
-    SIGNS.split_ascii_whitespace().collect()
-}
+pub const SIGNS: [&str; 48] = [
+    "{", "}", "(", ")", "[", "]", ".", ";", ",", "<", ">", "<=", ">=", "==", "!=", "===", "!==", "+", "-", "*", "%", "++", "--", "<<", ">>", ">>>", "&", "|", "^",
+    "!", "~", "&&", "||", "?", ":", "=", "+=", "-=", "*=", "%=", "<<=", ">>=", ">>>=", "&=", "|=", "^=", "/", "/=",
+];
 
 fn is_blank(byte: u8) -> bool {
     matches!(byte, 0x09 | 0x0b | 0x0c | 0x20)
@@ -203,8 +183,43 @@ fn pattern_end(text: &[u8], first: usize) -> Result<usize, Fault> {
     Ok(at)
 }
 
+/// Place behind the digits from `at` on that pass a test.
+fn digits_end(text: &[u8], mut at: usize, is_digit: fn(&u8) -> bool) -> usize {
+    while text.get(at).is_some_and(is_digit) {
+        at += 1;
+    }
+    at
+}
+
+/// Place behind the exponent at `at`, if one stands there: ExponentPart of ES5.1 7.8.3.
+fn exponent_end(text: &[u8], at: usize) -> Option<usize> {
+    if !matches!(byte(text, at), Some(b'e' | b'E')) {
+        return None;
+    }
+    let digits = if matches!(byte(text, at + 1), Some(b'+' | b'-')) { at + 2 } else { at + 1 };
+    let end = digits_end(text, digits, u8::is_ascii_digit);
+    (end > digits).then_some(end)
+}
+
+/// Place behind the longest NumericLiteral of ES5.1 7.8.3 that starts with a digit, or with a dot and a digit; the byte behind it must be neither digit nor
+/// name byte.
+fn number_end(text: &[u8], first: usize) -> Result<usize, Fault> {
+    let hexadecimal = digits_end(text, first + 2, u8::is_ascii_hexdigit);
+    let end = if text[first] == b'0' && matches!(byte(text, first + 1), Some(b'x' | b'X')) && hexadecimal > first + 2 {
+        hexadecimal
+    } else {
+        let integer = if text[first] == b'0' { first + 1 } else { digits_end(text, first, u8::is_ascii_digit) };
+        let decimal = if byte(text, integer) == Some(b'.') { digits_end(text, integer + 1, u8::is_ascii_digit) } else { integer };
+        exponent_end(text, decimal).unwrap_or(decimal)
+    };
+    match byte(text, end) {
+        Some(b) if is_name_byte(b) => Err((6, first)),
+        _ => Ok(end),
+    }
+}
+
 fn longest_sign(text: &[u8], at: usize) -> Option<&'static str> {
-    signs().into_iter().filter(|sign| text[at..].starts_with(sign.as_bytes())).max_by_key(|sign| sign.len())
+    SIGNS.into_iter().filter(|sign| text[at..].starts_with(sign.as_bytes())).max_by_key(|sign| sign.len())
 }
 
 /// Is a slash met at `at`, a place behind a gap?
@@ -218,29 +233,13 @@ pub fn element(text: &[u8], first: usize, line: bool, pattern: bool) -> Result<E
     let start = text[first];
     if is_name_start(start) {
         let end = (first..text.len()).find(|&at| !is_name_byte(text[at])).unwrap_or(text.len());
-        let name = &text[first..end];
-        return match name {
-            b"return" => made(Class::Return, end),
-            b"function" => made(Class::Function, end),
-            b"if" => made(Class::If, end),
-            _ if words().iter().any(|word| word.as_bytes() == name) => made(Class::BarredWord, end),
-            _ => made(Class::Name, end),
+        return match WORDS.into_iter().find(|word| word.as_bytes() == &text[first..end]) {
+            Some(word) => made(Class::Word(word), end),
+            None => made(Class::Name, end),
         };
     }
-    if start.is_ascii_digit() {
-        let mut end = first + 1;
-        if start != b'0' {
-            while byte(text, end).is_some_and(|b| b.is_ascii_digit()) {
-                end += 1;
-            }
-        }
-        return match byte(text, end) {
-            Some(b) if is_name_byte(b) || b == b'.' => Err((6, first)),
-            _ => made(Class::Number, end),
-        };
-    }
-    if start == b'.' && byte(text, first + 1).is_some_and(|b| b.is_ascii_digit()) {
-        return Err((6, first));
+    if start.is_ascii_digit() || (start == b'.' && byte(text, first + 1).is_some_and(|b| b.is_ascii_digit())) {
+        return made(Class::Number, number_end(text, first)?);
     }
     if start == b'\'' || start == b'"' {
         return made(Class::Text, string_end(text, first)?);
@@ -248,22 +247,8 @@ pub fn element(text: &[u8], first: usize, line: bool, pattern: bool) -> Result<E
     if start == b'/' && pattern {
         return made(Class::Pattern, pattern_end(text, first)?);
     }
-    let class = match longest_sign(text, first) {
-        None => return Err((2, first)),
-        Some("/") => Class::Divide,
-        Some("+") => Class::Plus,
-        Some("=") => Class::Assign,
-        Some(":") => Class::Colon,
-        Some(";") => Class::Semicolon,
-        Some(".") => Class::Dot,
-        Some("(") => Class::OpenParen,
-        Some(")") => Class::CloseParen,
-        Some("{") => Class::OpenBrace,
-        Some("}") => Class::CloseBrace,
-        Some("[") => Class::OpenBracket,
-        Some("]") => Class::CloseBracket,
-        Some(",") => Class::Comma,
-        Some(_) => return Err((8, first)),
-    };
-    made(class, first + 1)
+    match longest_sign(text, first) {
+        Some(sign) => made(Class::Sign(sign), first + sign.len()),
+        None => Err((2, first)),
+    }
 }

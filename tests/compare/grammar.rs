@@ -1,5 +1,6 @@
-//! The grammar of document 01 as rules (with document 02, U1 and U2, lists as ES5.1 has them), and a recogniser that keeps every way in which the elements so far can be the
-//! beginning of a program (Earley's). So `first element with which the elements so far begin no program` is found by its definition.
+//! The grammar as rules: document 01's, with the lists of document 02, U2, and the expressions of ES5.1 chapter 11 (U4) as that writes them; and a recogniser that
+//! keeps every way in which the elements so far can be the beginning of a program (Earley's). So `first element with which the elements so far begin no program` is
+//! found by its definition.
 
 use crate::elements::{Class, Element};
 use std::collections::HashMap;
@@ -14,59 +15,114 @@ enum Symbol {
     StartsNoDeclaration,
 }
 
-const RULES: &[&str] = &[
-    "Program: Body",
-    "Body:",
-    "Body: Body Statement",
-    "Body: Body Named",
-    "Statements:",
-    "Statements: Statements Statement",
-    "Statement: { Statements }",
-    "Statement: <starts-no-declaration> Assign ;",
-    "Statement: if ( Assign ) Statement",
-    "Statement: return ;",
-    "Statement: return <same-line> Assign ;",
-    "Statement: name : Statement",
-    "Named: function name Function",
-    "Function: ( ) { Body }",
-    "Function: ( Names ) { Body }",
-    "Names: name",
-    "Names: Names , name",
-    "Assign: Binary",
-    "Assign: Chain = Assign",
-    "Binary: Product",
-    "Binary: Binary + Product",
-    "Product: Chain",
-    "Product: Product / Chain",
-    "Chain: Start",
-    "Chain: Chain ( )",
-    "Chain: Chain ( Arguments )",
-    "Chain: Chain [ Assign ]",
-    "Chain: Chain . name",
-    "Chain: Chain . word",
-    "Start: name",
-    "Start: number",
-    "Start: string",
-    "Start: pattern",
-    "Start: { }",
-    "Start: { Properties }",
-    "Start: { Properties , }",
-    "Start: [ Elision ]",
-    "Start: [ Elements ]",
-    "Start: [ Elements , Elision ]",
-    "Start: ( Assign )",
-    "Start: Named",
-    "Start: function Function",
-    "Arguments: Assign",
-    "Arguments: Arguments , Assign",
-    "Properties: Property",
-    "Properties: Properties , Property",
-    "Property: name : Assign",
-    "Property: word : Assign",
-    "Elements: Elision Assign",
-    "Elements: Elements , Elision Assign",
-    "Elision:",
-    "Elision: Elision ,",
+/// A part, and its forms; an empty form is written as `<nothing>`.
+const RULES: &[(&str, &[&str])] = &[
+    ("Program", &["Body"]),
+    ("Body", &["<nothing>", "Body Statement", "Body Declaration"]),
+    ("Statements", &["<nothing>", "Statements Statement"]),
+    (
+        "Statement",
+        &[
+            "{ Statements }",
+            "<starts-no-declaration> Expression ;",
+            "if ( Expression ) Statement",
+            "return ;",
+            "return <same-line> Expression ;",
+            "name : Statement",
+        ],
+    ),
+    ("Declaration", &["function name Function"]),
+    ("Function", &["( ) { Body }", "( Names ) { Body }"]),
+    ("Names", &["name", "Names , name"]),
+    ("PrimaryExpression", &["this", "name", "Literal", "Array", "Object", "( Expression )"]),
+    ("Literal", &["null", "true", "false", "number", "string", "pattern"]),
+    ("Array", &["[ Elision ]", "[ Elements ]", "[ Elements , Elision ]"]),
+    ("Elements", &["Elision AssignmentExpression", "Elements , Elision AssignmentExpression"]),
+    ("Elision", &["<nothing>", "Elision ,"]),
+    ("Object", &["{ }", "{ Properties }", "{ Properties , }"]),
+    ("Properties", &["Property", "Properties , Property"]),
+    ("Property", &["IdentifierName : AssignmentExpression"]),
+    ("IdentifierName", &["name", "word"]),
+    ("FunctionExpression", &["function name Function", "function Function"]),
+    (
+        "MemberExpression",
+        &["PrimaryExpression", "FunctionExpression", "MemberExpression [ Expression ]", "MemberExpression . IdentifierName", "new MemberExpression Arguments"],
+    ),
+    ("NewExpression", &["MemberExpression", "new NewExpression"]),
+    (
+        "CallExpression",
+        &["MemberExpression Arguments", "CallExpression Arguments", "CallExpression [ Expression ]", "CallExpression . IdentifierName"],
+    ),
+    ("Arguments", &["( )", "( ArgumentList )"]),
+    ("ArgumentList", &["AssignmentExpression", "ArgumentList , AssignmentExpression"]),
+    ("LeftHandSideExpression", &["NewExpression", "CallExpression"]),
+    (
+        "PostfixExpression",
+        &["LeftHandSideExpression", "LeftHandSideExpression <same-line> ++", "LeftHandSideExpression <same-line> --"],
+    ),
+    (
+        "UnaryExpression",
+        &[
+            "PostfixExpression",
+            "delete UnaryExpression",
+            "void UnaryExpression",
+            "typeof UnaryExpression",
+            "++ UnaryExpression",
+            "-- UnaryExpression",
+            "+ UnaryExpression",
+            "- UnaryExpression",
+            "~ UnaryExpression",
+            "! UnaryExpression",
+        ],
+    ),
+    (
+        "MultiplicativeExpression",
+        &[
+            "UnaryExpression",
+            "MultiplicativeExpression * UnaryExpression",
+            "MultiplicativeExpression / UnaryExpression",
+            "MultiplicativeExpression % UnaryExpression",
+        ],
+    ),
+    (
+        "AdditiveExpression",
+        &["MultiplicativeExpression", "AdditiveExpression + MultiplicativeExpression", "AdditiveExpression - MultiplicativeExpression"],
+    ),
+    (
+        "ShiftExpression",
+        &["AdditiveExpression", "ShiftExpression << AdditiveExpression", "ShiftExpression >> AdditiveExpression", "ShiftExpression >>> AdditiveExpression"],
+    ),
+    (
+        "RelationalExpression",
+        &[
+            "ShiftExpression",
+            "RelationalExpression < ShiftExpression",
+            "RelationalExpression > ShiftExpression",
+            "RelationalExpression <= ShiftExpression",
+            "RelationalExpression >= ShiftExpression",
+            "RelationalExpression instanceof ShiftExpression",
+            "RelationalExpression in ShiftExpression",
+        ],
+    ),
+    (
+        "EqualityExpression",
+        &[
+            "RelationalExpression",
+            "EqualityExpression == RelationalExpression",
+            "EqualityExpression != RelationalExpression",
+            "EqualityExpression === RelationalExpression",
+            "EqualityExpression !== RelationalExpression",
+        ],
+    ),
+    ("BitwiseANDExpression", &["EqualityExpression", "BitwiseANDExpression & EqualityExpression"]),
+    ("BitwiseXORExpression", &["BitwiseANDExpression", "BitwiseXORExpression ^ BitwiseANDExpression"]),
+    ("BitwiseORExpression", &["BitwiseXORExpression", "BitwiseORExpression | BitwiseXORExpression"]),
+    ("LogicalANDExpression", &["BitwiseORExpression", "LogicalANDExpression && BitwiseORExpression"]),
+    ("LogicalORExpression", &["LogicalANDExpression", "LogicalORExpression || LogicalANDExpression"]),
+    ("ConditionalExpression", &["LogicalORExpression", "LogicalORExpression ? AssignmentExpression : AssignmentExpression"]),
+    ("AssignmentExpression", &["ConditionalExpression", "LeftHandSideExpression AssignmentOperator AssignmentExpression"]),
+    ("AssignmentOperator", &["=", "*=", "/=", "%=", "+=", "-=", "<<=", ">>=", ">>>=", "&=", "^=", "|="]),
+    ("Expression", &["AssignmentExpression", "Expression , AssignmentExpression"]),
 ];
 
 struct Rule {
@@ -99,47 +155,30 @@ pub enum Verdict {
     Dead(usize),
 }
 
-fn terminal(word: &str) -> Option<Symbol> {
-    Some(Symbol::Element(match word {
-        "name" => Class::Name,
-        "word" => Class::WordAsName,
-        "number" => Class::Number,
-        "string" => Class::Text,
-        "pattern" => Class::Pattern,
-        "/" => Class::Divide,
-        "+" => Class::Plus,
-        "=" => Class::Assign,
-        ":" => Class::Colon,
-        ";" => Class::Semicolon,
-        "." => Class::Dot,
-        "(" => Class::OpenParen,
-        ")" => Class::CloseParen,
-        "{" => Class::OpenBrace,
-        "}" => Class::CloseBrace,
-        "[" => Class::OpenBracket,
-        "]" => Class::CloseBracket,
-        "," => Class::Comma,
-        "return" => Class::Return,
-        "function" => Class::Function,
-        "if" => Class::If,
-        "<same-line>" => return Some(Symbol::SameLine),
-        "<starts-no-declaration>" => return Some(Symbol::StartsNoDeclaration),
-        _ => return None,
-    }))
+fn symbol(word: &'static str, parts: &HashMap<&str, usize>) -> Symbol {
+    match word {
+        "<same-line>" => Symbol::SameLine,
+        "<starts-no-declaration>" => Symbol::StartsNoDeclaration,
+        "name" => Symbol::Element(Class::Name),
+        "word" => Symbol::Element(Class::WordAsName),
+        "number" => Symbol::Element(Class::Number),
+        "string" => Symbol::Element(Class::Text),
+        "pattern" => Symbol::Element(Class::Pattern),
+        _ if parts.contains_key(word) => Symbol::Part(parts[word]),
+        _ if word.as_bytes()[0].is_ascii_lowercase() => Symbol::Element(Class::Word(word)),
+        _ => Symbol::Element(Class::Sign(word)),
+    }
 }
 
 impl Grammar {
     pub fn new() -> Self {
-        let mut parts: HashMap<&str, usize> = HashMap::new();
+        let parts: HashMap<&str, usize> = RULES.iter().enumerate().map(|(index, (part, _))| (*part, index)).collect();
         let mut rules = Vec::new();
-        for text in RULES {
-            let (head, body) = text.split_once(':').expect("a rule");
-            let mut part = |name: &'static str| {
-                let next = parts.len();
-                *parts.entry(name).or_insert(next)
-            };
-            let symbols = body.split_whitespace().map(|word| terminal(word).unwrap_or_else(|| Symbol::Part(part(word)))).collect();
-            rules.push(Rule { part: part(head), symbols });
+        for (part, forms) in RULES {
+            for form in *forms {
+                let words = form.split(' ').filter(|word| *word != "<nothing>");
+                rules.push(Rule { part: parts[part], symbols: words.map(|word| symbol(word, &parts)).collect() });
+            }
         }
         let mut of_part = vec![Vec::new(); parts.len()];
         let mut empty = vec![false; parts.len()];
@@ -152,8 +191,7 @@ impl Grammar {
             states.extend((0..=rule.symbols.len()).map(|dot| (index, dot)));
         }
         // `Program: Body` is empty where `Body` is; nothing else has only parts that may be empty.
-        let program = rules[0].part;
-        empty[program] = true;
+        empty[rules[0].part] = true;
         Grammar { rules, of_part, empty, start, states }
     }
 
@@ -166,7 +204,8 @@ impl Grammar {
     pub fn verdict(&self, elements: &[Element]) -> Verdict {
         let width = elements.len() + 1;
         let mut seen = vec![0u32; self.states.len() * width];
-        let mut sets: Vec<Vec<Item>> = Vec::with_capacity(width);
+        // The items of each set that wait for a part, by part.
+        let mut waiting: Vec<Vec<(usize, Item)>> = Vec::with_capacity(width);
         let mut current: Vec<Item> = Vec::new();
         let program = self.rules[0].part;
         for &rule in &self.of_part[program] {
@@ -178,6 +217,8 @@ impl Grammar {
                 seen[item.state * width + item.origin] = stamp;
             }
             let next_element = elements.get(at);
+            let mut predicted = vec![false; self.of_part.len()];
+            let mut wait: Vec<(usize, Item)> = Vec::new();
             let mut done = 0;
             while done < current.len() {
                 let item = current[done];
@@ -191,32 +232,29 @@ impl Grammar {
                 };
                 match self.next(item.state) {
                     Some(Symbol::Element(_)) => {}
-                    Some(Symbol::SameLine) => {
-                        if next_element.is_none_or(|element| !element.line) {
-                            add(&mut current, item.state + 1, item.origin);
-                        }
-                    }
-                    Some(Symbol::StartsNoDeclaration) => {
-                        if next_element.is_none_or(|element| !matches!(element.class, Class::OpenBrace | Class::Function)) {
+                    Some(symbol @ (Symbol::SameLine | Symbol::StartsNoDeclaration)) => {
+                        if allowed(symbol, next_element) {
                             add(&mut current, item.state + 1, item.origin);
                         }
                     }
                     Some(Symbol::Part(part)) => {
-                        for &rule in &self.of_part[part] {
-                            add(&mut current, self.start[rule], at);
+                        wait.push((part, item));
+                        if !std::mem::replace(&mut predicted[part], true) {
+                            for &rule in &self.of_part[part] {
+                                add(&mut current, self.start[rule], at);
+                            }
                         }
                         if self.empty[part] {
                             add(&mut current, item.state + 1, item.origin);
                         }
                     }
+                    // What is empty is passed over where it is waited for.
+                    None if item.origin == at => {}
                     None => {
                         let part = self.rules[self.states[item.state].0].part;
-                        let waiting = if item.origin == at { current.len() } else { sets[item.origin].len() };
-                        for index in 0..waiting {
-                            let other = if item.origin == at { current[index] } else { sets[item.origin][index] };
-                            if self.next(other.state) == Some(Symbol::Part(part)) {
-                                add(&mut current, other.state + 1, other.origin);
-                            }
+                        let from = waiting[item.origin].partition_point(|other| other.0 < part);
+                        for (_, other) in waiting[item.origin][from..].iter().take_while(|other| other.0 == part) {
+                            add(&mut current, other.state + 1, other.origin);
                         }
                     }
                 }
@@ -233,8 +271,79 @@ impl Grammar {
             if taken.is_empty() {
                 return Verdict::Dead(at);
             }
-            sets.push(std::mem::replace(&mut current, taken));
+            wait.sort_by_key(|(part, _)| *part);
+            waiting.push(wait);
+            current = taken;
         }
         unreachable!("the last round returns")
+    }
+
+    /// In how many ways the rules lead from a program to these elements.
+    pub fn derivations(&self, elements: &[Element]) -> u64 {
+        Ways { grammar: self, elements, known: HashMap::new() }.of_part(self.rules[0].part, 0, elements.len())
+    }
+}
+
+fn allowed(condition: Symbol, next: Option<&Element>) -> bool {
+    match condition {
+        Symbol::SameLine => next.is_none_or(|element| !element.line),
+        _ => next.is_none_or(|element| !matches!(element.class, Class::Sign("{") | Class::Word("function"))),
+    }
+}
+
+/// Counts the ways in which parts, and the beginnings of rules, are the elements from one place to before another.
+struct Ways<'a> {
+    grammar: &'a Grammar,
+    elements: &'a [Element],
+    known: HashMap<(usize, usize, usize), u64>,
+}
+
+impl Ways<'_> {
+    fn may_be_empty(&self, symbol: Symbol) -> bool {
+        match symbol {
+            Symbol::Element(_) => false,
+            Symbol::Part(part) => self.grammar.empty[part],
+            Symbol::SameLine | Symbol::StartsNoDeclaration => true,
+        }
+    }
+
+    fn of_part(&mut self, part: usize, from: usize, to: usize) -> u64 {
+        if from == to && !self.grammar.empty[part] {
+            return 0;
+        }
+        let grammar = self.grammar;
+        grammar.of_part[part].iter().map(|&rule| self.of_state(grammar.start[rule] + grammar.rules[rule].symbols.len(), from, to)).sum()
+    }
+
+    /// Of a rule's symbols before the dot.
+    fn of_state(&mut self, state: usize, from: usize, to: usize) -> u64 {
+        let (rule, dot) = self.grammar.states[state];
+        if dot == 0 {
+            return u64::from(from == to);
+        }
+        if let Some(&count) = self.known.get(&(state, from, to)) {
+            return count;
+        }
+        let count = match self.grammar.rules[rule].symbols[dot - 1] {
+            Symbol::Element(class) if to > from && self.elements[to - 1].class == class => self.of_state(state - 1, from, to - 1),
+            Symbol::Element(_) => 0,
+            Symbol::Part(part) => {
+                // What is not empty has an element, so that what stands on the other side of it is shorter.
+                let first = from + self.grammar.rules[rule].symbols[..dot - 1].iter().filter(|symbol| !self.may_be_empty(**symbol)).count();
+                let end = if self.grammar.empty[part] { to + 1 } else { to };
+                let mut sum = 0;
+                for middle in first..end {
+                    let right = self.of_part(part, middle, to);
+                    if right > 0 {
+                        sum += right * self.of_state(state - 1, from, middle);
+                    }
+                }
+                sum
+            }
+            condition if allowed(condition, self.elements.get(to)) => self.of_state(state - 1, from, to),
+            _ => 0,
+        };
+        self.known.insert((state, from, to), count);
+        count
     }
 }

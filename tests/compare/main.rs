@@ -1,4 +1,4 @@
-//! Compares the static library's calls, and the yardstick's reading, with an implementation of document 01 of its own, cell by cell, over many
+//! Compares the static library's calls, and the yardstick's reading, with an implementation of the documents of its own, cell by cell, over many
 //! texts.
 
 mod elements;
@@ -6,6 +6,7 @@ mod grammar;
 mod reading;
 mod syntax;
 mod texts;
+mod walks;
 #[path = "../../docs/src/reader.rs"]
 mod yardstick;
 
@@ -15,7 +16,9 @@ use reading::{reading, respaced, Reading};
 use std::process::ExitCode;
 use texts::Random;
 
+#[cfg(any(read, respace, parse))]
 extern "C" {
+    #[cfg(read)]
     fn buldrekso_read(text: *const u8, text_len: usize, trees: *mut u32, trees_len: usize) -> u64;
     #[cfg(respace)]
     fn buldrekso_respace(text: *const u8, text_len: usize, output: *mut u8, output_len: usize) -> u64;
@@ -26,6 +29,8 @@ extern "C" {
 const MOST_SYNTAX: usize = 16_385;
 /// Up to so many elements the recogniser decides where a text begins no program; past it, the descent alone.
 const RECOGNISED: usize = 3_000;
+/// Up to so many elements the derivations of a program are counted.
+const COUNTED: usize = 24;
 /// Cells behind each lent slice, which no call may touch.
 const GUARD: usize = 8;
 /// Stack with which every text parses.
@@ -111,8 +116,13 @@ impl Comparison {
         let answer = packed(expected.map(|reading| reading.trees.len()));
         let right = after(&before, lent, written.as_deref());
         // The call asks nothing of its caller; the slices say what it may touch.
-        let library = |text: &[u8], cells: &mut [u32]| unsafe { buldrekso_read(text.as_ptr(), text.len(), cells.as_mut_ptr(), cells.len()) };
-        let readers: [(&str, fn(&[u8], &mut [u32]) -> u64); 2] = [("read", library), ("the yardstick", yardstick::read)];
+        #[cfg(read)]
+        let library: fn(&[u8], &mut [u32]) -> u64 = |text, cells| unsafe { buldrekso_read(text.as_ptr(), text.len(), cells.as_mut_ptr(), cells.len()) };
+        let readers: &[(&str, fn(&[u8], &mut [u32]) -> u64)] = &[
+            #[cfg(read)]
+            ("read", library),
+            ("the yardstick", yardstick::read),
+        ];
         for (name, read) in readers {
             let mut cells = before.clone();
             let got = read(text, &mut cells[..lent]);
@@ -171,7 +181,7 @@ impl Comparison {
         let descent = syntax::syntax_tree(elements);
         let place = |index: usize| elements.get(index).map_or(text.len(), |element| element.first);
         if elements.len() > RECOGNISED {
-            return descent.map_err(place);
+            return descent.map(|tree| tree.records).map_err(place);
         }
         let recognised = match self.grammar.verdict(elements) {
             Verdict::Program => None,
@@ -181,7 +191,35 @@ impl Comparison {
         if descent.as_ref().err().copied() != recognised {
             self.difference(text, &format!("the comparison's own: descent {:?}, recogniser {recognised:?}", descent.as_ref().err()));
         }
-        descent.map_err(place)
+        descent.map(|tree| tree.records).map_err(place)
+    }
+
+    /// A program's kinds of trees are those that its derivation has, which is the only one, and no two records share a mark.
+    fn kinds(&mut self, text: &[u8], reading: &Reading) {
+        let Ok(syntax::Tree { records, answers }) = syntax::syntax_tree(&reading.elements) else {
+            return;
+        };
+        let mut marked = vec![0; reading.trees.len() + 1];
+        for &[kind, mark, _] in &records {
+            if std::mem::replace(&mut marked[mark as usize], kind) != 0 {
+                self.difference(text, &format!("the comparison's own: two records share the mark {mark}"));
+            }
+        }
+        for (index, tree) in reading.trees.iter().enumerate() {
+            let right = match (tree[0], marked[index]) {
+                (reading::OBJECT, kind) => kind == 5,
+                (reading::BEFORE, kind) => kind == 34 || kind == 35,
+                (reading::AFTER, kind) => kind == 29 || kind == 30,
+                (reading::ANSWER, kind) => kind == 0 && answers.contains(&(index as u32)),
+                (_, kind) => !matches!(kind, 5 | 29 | 30 | 34 | 35) && !answers.contains(&(index as u32)),
+            };
+            if !right {
+                self.difference(text, &format!("the comparison's own: the tree {index} has another kind in the derivation"));
+            }
+        }
+        if reading.elements.len() <= COUNTED && self.grammar.derivations(&reading.elements) != 1 {
+            self.difference(text, "the comparison's own: a program has more than one derivation");
+        }
     }
 
     /// The choices with which the text is a program: none, or the reading's alone.
@@ -236,6 +274,9 @@ impl Comparison {
         };
         let is_program = read.is_ok() && syntax.is_ok();
         self.programs += u64::from(is_program);
+        if let (Ok(reading), true) = (&read, is_program) {
+            self.kinds(text, reading);
+        }
         if text.len() < 200 && text.iter().filter(|&&byte| byte == b'/').count() <= 8 {
             self.agreement(text, &read, is_program);
         }
@@ -279,21 +320,38 @@ impl Comparison {
         }
     }
 
-    /// Every sequence of at most so many pieces, joined directly and by a blank.
-    fn sequences(&mut self, most: usize) {
-        for count in 0..=most {
-            for number in 0..texts::PIECES.len().pow(count as u32) {
-                let mut rest = number;
-                let mut chosen = Vec::new();
-                for _ in 0..count {
-                    chosen.push(texts::PIECES[rest % texts::PIECES.len()]);
-                    rest /= texts::PIECES.len();
+    /// Every text of at most so many bytes over each of the small alphabets.
+    fn short_texts(&mut self) {
+        for (bytes, most) in texts::ALPHABETS {
+            for count in 0..=*most {
+                for number in 0..bytes.len().pow(count as u32) {
+                    let text: Vec<u8> = digits(number, count, bytes.len()).map(|digit| bytes.as_bytes()[digit]).collect();
+                    self.text(&text, false);
                 }
+            }
+        }
+    }
+
+    /// Every sequence of at most so many pieces, joined directly and by a blank.
+    fn sequences(&mut self, pieces: &[&str], most: usize) {
+        for count in 0..=most {
+            for number in 0..pieces.len().pow(count as u32) {
+                let chosen: Vec<&str> = digits(number, count, pieces.len()).map(|digit| pieces[digit]).collect();
                 self.text(chosen.concat().as_bytes(), count <= 2);
                 if count > 1 {
                     self.text(chosen.join(" ").as_bytes(), false);
                 }
             }
+        }
+    }
+
+    fn walks(&mut self, number: usize) {
+        for _ in 0..number {
+            let size = 1 + self.random.below(30);
+            let mut text = walks::walk(&mut self.random, size);
+            self.text(&text, false);
+            texts::damage(&mut self.random, &mut text);
+            self.text(&text, false);
         }
     }
 
@@ -338,19 +396,13 @@ impl Comparison {
         }
     }
 
-    fn words_after_dots(&mut self) {
-        for text in texts::words_after_dots() {
+    fn tables(&mut self) {
+        for text in [texts::words_after_dots(), texts::words_in_braces(), texts::operators(), texts::neighbours()].concat() {
             self.text(&text, false);
         }
     }
 
-    fn words_in_braces(&mut self) {
-        for text in texts::words_in_braces() {
-            self.text(&text, false);
-        }
-    }
-
-    /// The implementation here against the readings that document 01 gives, and document 02 for U1.
+    /// The implementation here against the readings that document 01 gives, and document 02 for U1 and U4.
     fn readings(&mut self) {
         type Case = (&'static str, Answer, Answer);
         let cases: &[Case] = &[
@@ -370,8 +422,8 @@ impl Comparison {
             ("a=/[/]/;", Ok(4), Ok(5)),
             ("a/)/;", Err((10, 2)), Err((10, 2))),
             ("a=/=/;", Ok(4), Ok(5)),
-            ("a/=b;", Err((8, 1)), Err((8, 1))),
-            ("a++b", Err((8, 1)), Err((8, 1))),
+            ("a/=b;", Ok(4), Ok(5)),
+            ("a++b", Ok(3), Err((13, 3))),
             ("a//b", Ok(1), Err((13, 4))),
             ("({", Err((11, 1)), Err((11, 1))),
             ("({)", Err((10, 2)), Err((10, 2))),
@@ -380,6 +432,15 @@ impl Comparison {
             ("a.if(b)/c/;", Ok(9), Err((13, 10))),
             ("a.if(b)/c/d;", Ok(10), Ok(10)),
             ("a = {b: /)/} / c;", Ok(9), Ok(8)),
+            ("this/a/b;", Ok(6), Ok(7)),
+            ("a\n++b;", Ok(4), Err((13, 2))),
+            ("++-a;", Ok(4), Ok(5)),
+            ("a?{}/b/c:d;", Ok(10), Ok(10)),
+            ("new{}/a;", Ok(5), Ok(6)),
+            ("new a.b(c).d;", Ok(9), Ok(7)),
+            ("a,b,c;", Ok(6), Ok(7)),
+            ("1..a;", Ok(4), Ok(4)),
+            ("08", Err((6, 0)), Err((6, 0))),
         ];
         for &(text, trees, records) in cases {
             let text = text.as_bytes();
@@ -389,7 +450,7 @@ impl Comparison {
                 Err(fault) => Err(*fault),
             };
             if read.map(|reading| reading.trees.len()) != trees || parsed != records {
-                self.difference(text, "the comparison's own: a reading of document 01");
+                self.difference(text, "the comparison's own: a reading of the documents");
             }
             self.text(text, true);
         }
@@ -410,6 +471,15 @@ impl Comparison {
     }
 }
 
+/// The digits of a number in a base, the lowest first.
+fn digits(number: usize, count: usize, base: usize) -> impl Iterator<Item = usize> {
+    (0..count).scan(number, move |rest, _| {
+        let digit = *rest % base;
+        *rest /= base;
+        Some(digit)
+    })
+}
+
 fn first<T: PartialEq + std::fmt::Debug>(right: &[T], cells: &[T]) -> String {
     match (0..right.len()).find(|&index| right[index] != cells[index]) {
         Some(index) => format!("cell {index} should be {:?} and is {:?}", right[index], cells[index]),
@@ -418,13 +488,14 @@ fn first<T: PartialEq + std::fmt::Debug>(right: &[T], cells: &[T]) -> String {
 }
 
 fn compare(number: usize) -> bool {
-    assert_eq!((elements::words().len(), elements::signs().len()), (36, 48));
     let mut comparison = Comparison { grammar: Grammar::new(), random: Random(1), texts: 0, programs: 0, calls: 0, differences: 0 };
     comparison.readings();
     comparison.limits();
-    comparison.words_after_dots();
-    comparison.words_in_braces();
-    comparison.sequences(4);
+    comparison.tables();
+    comparison.short_texts();
+    comparison.sequences(texts::PIECES, 4);
+    comparison.sequences(texts::OPERATORS, 4);
+    comparison.walks(number / 4);
     comparison.random_texts(number);
     comparison.long_texts(number / 2000);
     #[cfg(parse)]

@@ -1,15 +1,25 @@
-//! Reading and respacing, as document 01 states them: the prefix rule, tree records, refusals 1 to 12 and 15. With document 02, U1 and U2.
+//! Reading and respacing, as document 01 states them: the prefix rule, tree records, refusals 1 to 12 and 15. With document 02, U1, U2 and U4.
 
-use crate::elements::{element, gap, Class, Element, Fault};
+use crate::elements::{element, gap, is_taken, Class, Element, Fault, VALUE_WORDS, WORD_OPERATORS};
 
 pub const LONGEST_TEXT: usize = 262_144;
 pub const MOST_TREES: usize = 16_384;
 pub const DEEPEST: usize = 100;
 
+const NAME: u32 = 1;
+const WORD: u32 = 2;
+const NUMBER: u32 = 3;
+const STRING: u32 = 4;
+const PATTERN: u32 = 5;
+const SIGN: u32 = 6;
 pub const PARENTHESES: u32 = 7;
 pub const OBJECT: u32 = 8;
 pub const BLOCK: u32 = 9;
 pub const BRACKETS: u32 = 10;
+/// `++` or `--` before its operand, and after it; a `:` that answers a `?`.
+pub const BEFORE: u32 = 11;
+pub const AFTER: u32 = 12;
+pub const ANSWER: u32 = 13;
 
 pub type Tree = [u32; 5];
 
@@ -19,69 +29,125 @@ pub struct Reading {
     pub elements: Vec<Element>,
 }
 
+/// A tree of a level: its index among all, its kind, and the class of its first element.
+#[derive(Clone, Copy)]
+struct Before {
+    index: usize,
+    kind: u32,
+    class: Class,
+}
+
 /// A level: the inside of a group, or the whole text (which has no opener).
 struct Level {
     opener: Option<usize>,
     expression: bool,
     object: bool,
-    /// Indices of its trees so far, and the class of each one's first element.
-    trees: Vec<(usize, Class)>,
+    /// Its trees so far, and how many `?` among them no `:` has answered.
+    trees: Vec<Before>,
+    unanswered: usize,
 }
 
 impl Level {
-    fn class(&self, back: usize) -> Option<Class> {
-        self.trees.len().checked_sub(back).map(|at| self.trees[at].1)
+    fn new(opener: Option<usize>, kind: u32) -> Self {
+        Level { opener, expression: kind != BLOCK, object: kind == OBJECT, trees: Vec::new(), unanswered: 0 }
+    }
+
+    /// The tree so many back; the last is one back.
+    fn tree(&self, back: usize) -> Option<Before> {
+        self.trees.len().checked_sub(back).map(|at| self.trees[at])
+    }
+
+    fn kind(&self, back: usize) -> Option<u32> {
+        self.tree(back).map(|tree| tree.kind)
+    }
+
+    /// Is the tree so many back a certain reserved word?
+    fn is_word(&self, back: usize, word: &'static str) -> bool {
+        self.tree(back).is_some_and(|tree| tree.class == Class::Word(word))
     }
 
     /// Would a `{` after the first `count` trees open an object?
     fn opens_object(&self, count: usize, line: bool) -> bool {
-        match count.checked_sub(1).map(|last| self.trees[last].1) {
-            None => self.expression,
-            Some(Class::Divide | Class::Plus | Class::Assign | Class::Comma) => true,
-            Some(Class::Colon) => self.expression,
-            Some(Class::Return) => !line,
+        let Some(last) = count.checked_sub(1).map(|last| self.trees[last]) else {
+            return self.expression;
+        };
+        match (last.kind, last.class) {
+            (WORD, Class::Word("return")) => !line,
+            (WORD, Class::Word(word)) => WORD_OPERATORS.contains(&word),
+            (SIGN, Class::Sign(":")) => self.expression,
+            (SIGN, Class::Sign("." | ";")) => false,
+            (SIGN | BEFORE | ANSWER, _) => true,
             _ => false,
         }
     }
 
     /// Does a `/` here open a regular expression?
     fn opens_pattern(&self, trees: &[Tree]) -> bool {
-        use Class::*;
-        if self.class(2) == Some(OpenParen) && self.class(1) == Some(OpenBrace) {
-            let function = match (self.class(4), self.class(3)) {
-                (Some(Function), Some(Name)) => Some(self.trees.len() - 4),
-                (_, Some(Function)) => Some(self.trees.len() - 3),
-                _ => None,
+        if self.kind(2) == Some(PARENTHESES) && self.kind(1) == Some(BLOCK) {
+            let back = match self.kind(3) {
+                Some(NAME) if self.is_word(4, "function") => 4,
+                _ if self.is_word(3, "function") => 3,
+                _ => 0,
             };
-            if let Some(function) = function {
-                let line = trees[self.trees[function].0][4] == 1;
+            if back > 0 {
+                let function = self.trees.len() - back;
+                let line = trees[self.trees[function].index][4] == 1;
                 return !self.opens_object(function, line);
             }
         }
-        match self.class(1) {
-            None => true,
-            Some(Divide | Plus | Assign | Colon | Semicolon | Dot | Comma) => true,
-            Some(Return | Function | If) => true,
-            Some(OpenParen) => self.class(2) == Some(If),
-            Some(OpenBrace) => trees[self.trees[self.trees.len() - 1].0][0] == BLOCK,
-            Some(Name | WordAsName | Number | Text | Pattern | OpenBracket) => false,
-            Some(CloseParen | CloseBrace | CloseBracket | BarredWord) => unreachable!("no tree"),
+        let Some(last) = self.tree(1) else {
+            return true;
+        };
+        match (last.kind, last.class) {
+            (WORD, Class::Word(word)) => !VALUE_WORDS.contains(&word),
+            (PARENTHESES, _) => self.is_word(2, "if"),
+            (SIGN | BEFORE | ANSWER | BLOCK, _) => true,
+            _ => false,
         }
     }
 
     /// What an element is here: a reserved word whose last tree is a dot, and one that stands first or after a comma in an object brace, becomes a
     /// name; elsewhere one that is not taken is refused.
     fn settled(&self, found: Element) -> Result<Element, Fault> {
-        let named = match self.class(1) {
-            Some(Class::Dot) => true,
-            Some(Class::Comma) | None => self.object,
+        let named = match self.tree(1).map(|last| last.class) {
+            Some(Class::Sign(".")) => true,
+            Some(Class::Sign(",")) | None => self.object,
             _ => false,
         };
         match found.class {
-            Class::Return | Class::Function | Class::If | Class::BarredWord if named => Ok(Element { class: Class::WordAsName, ..found }),
-            Class::BarredWord => Err((7, found.first)),
+            Class::Word(_) if named => Ok(Element { class: Class::WordAsName, ..found }),
+            Class::Word(word) if !is_taken(word) => Err((7, found.first)),
             _ => Ok(found),
         }
+    }
+
+    /// The kind that an element's tree has here; an opener's is that of its group.
+    fn kind_of(&self, found: Element, pattern: bool) -> u32 {
+        match found.class {
+            Class::Name | Class::WordAsName => NAME,
+            Class::Word(_) => WORD,
+            Class::Number => NUMBER,
+            Class::Text => STRING,
+            Class::Pattern => PATTERN,
+            Class::Sign("(") => PARENTHESES,
+            Class::Sign("[") => BRACKETS,
+            Class::Sign("{") if self.opens_object(self.trees.len(), found.line) => OBJECT,
+            Class::Sign("{") => BLOCK,
+            Class::Sign("++" | "--") if pattern || found.line => BEFORE,
+            Class::Sign("++" | "--") => AFTER,
+            Class::Sign(":") if self.unanswered > 0 => ANSWER,
+            Class::Sign(_) => SIGN,
+        }
+    }
+
+    fn add(&mut self, tree: Before) {
+        self.unanswered = match tree.class {
+            Class::Sign("?") => self.unanswered + 1,
+            Class::Sign(":") => self.unanswered.saturating_sub(1),
+            Class::Sign(";") => 0,
+            _ => self.unanswered,
+        };
+        self.trees.push(tree);
     }
 }
 
@@ -93,7 +159,8 @@ pub fn reading(text: &[u8], room: usize) -> Result<Reading, Fault> {
     let room = room.min(MOST_TREES);
     let mut trees: Vec<Tree> = Vec::new();
     let mut elements = Vec::new();
-    let mut levels = vec![Level { opener: None, expression: false, object: false, trees: Vec::new() }];
+    // The whole text is a statement level, as the inside of a block is.
+    let mut levels = vec![Level::new(None, BLOCK)];
     let mut from = 0;
     loop {
         let depth = levels.len() - 1;
@@ -105,50 +172,41 @@ pub fn reading(text: &[u8], room: usize) -> Result<Reading, Fault> {
                 None => Ok(Reading { trees, elements }),
             };
         }
-        let found = level.settled(element(text, at, line, level.opens_pattern(&trees))?)?;
+        let pattern = level.opens_pattern(&trees);
+        let found = level.settled(element(text, at, line, pattern)?)?;
         from = found.end;
-        match found.class {
-            Class::CloseParen | Class::CloseBrace | Class::CloseBracket => {
-                let kinds: &[u32] = match found.class {
-                    Class::CloseParen => &[PARENTHESES],
-                    Class::CloseBracket => &[BRACKETS],
-                    _ => &[OBJECT, BLOCK],
-                };
-                match level.opener {
-                    Some(opener) if kinds.contains(&trees[opener][0]) => {
-                        trees[opener][2] = found.end as u32;
-                        trees[opener][3] = (trees.len() - opener) as u32;
-                        levels.pop();
-                    }
-                    _ => return Err((10, at)),
-                }
-            }
-            Class::OpenParen | Class::OpenBrace | Class::OpenBracket => {
-                if depth == DEEPEST {
-                    return Err((9, at));
-                }
-                if trees.len() == room {
-                    return Err((12, at));
-                }
-                let kind = match found.class {
-                    Class::OpenParen => PARENTHESES,
-                    Class::OpenBracket => BRACKETS,
-                    _ if level.opens_object(level.trees.len(), line) => OBJECT,
-                    _ => BLOCK,
-                };
-                level.trees.push((trees.len(), found.class));
-                levels.push(Level { opener: Some(trees.len()), expression: kind != BLOCK, object: kind == OBJECT, trees: Vec::new() });
-                trees.push([kind, at as u32, 0, 0, line as u32]);
-            }
-            _ => {
-                if trees.len() == room {
-                    return Err((12, at));
-                }
-                level.trees.push((trees.len(), found.class));
-                trees.push([found.kind(), at as u32, found.end as u32, 1, line as u32]);
-            }
-        }
         elements.push(found);
+        if found.is_closer() {
+            let kinds: &[u32] = match found.class {
+                Class::Sign(")") => &[PARENTHESES],
+                Class::Sign("]") => &[BRACKETS],
+                _ => &[OBJECT, BLOCK],
+            };
+            match level.opener {
+                Some(opener) if kinds.contains(&trees[opener][0]) => {
+                    trees[opener][2] = found.end as u32;
+                    trees[opener][3] = (trees.len() - opener) as u32;
+                    levels.pop();
+                }
+                _ => return Err((10, at)),
+            }
+            continue;
+        }
+        let (index, kind) = (trees.len(), level.kind_of(found, pattern));
+        let group = matches!(found.class, Class::Sign("(" | "{" | "["));
+        if group && depth == DEEPEST {
+            return Err((9, at));
+        }
+        if index == room {
+            return Err((12, at));
+        }
+        level.add(Before { index, kind, class: found.class });
+        if group {
+            levels.push(Level::new(Some(index), kind));
+            trees.push([kind, at as u32, 0, 0, line as u32]);
+        } else {
+            trees.push([kind, at as u32, found.end as u32, 1, line as u32]);
+        }
     }
 }
 

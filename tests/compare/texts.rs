@@ -1,6 +1,6 @@
 //! Texts to compare over: a fixed sequence of random numbers, programs made from the grammar, damage, and texts near each limit.
 
-use crate::elements::words;
+use crate::elements::{element, gap, SIGNS, WORDS};
 use crate::reading::{DEEPEST, LONGEST_TEXT, MOST_TREES};
 
 /// SplitMix64: the same numbers on every run.
@@ -19,11 +19,11 @@ impl Random {
         (self.next() % bound as u64) as usize
     }
 
-    fn one_in(&mut self, bound: usize) -> bool {
+    pub fn one_in(&mut self, bound: usize) -> bool {
         self.below(bound) == 0
     }
 
-    fn of(&mut self, choices: &[&'static str]) -> &'static str {
+    pub fn of(&mut self, choices: &[&'static str]) -> &'static str {
         choices[self.below(choices.len())]
     }
 }
@@ -33,22 +33,36 @@ pub const PIECES: &[&str] = &[
     "a", "1", "'s'", "/", "/a/", "+", "=", ":", ";", ".", ",", "(", ")", "{", "}", "[", "]", "return", "function", "if", "while", "\n", "/*c*/", "//c\n",
 ];
 
+/// The pieces of operators, likewise.
+pub const OPERATORS: &[&str] = &["a", ";", "/", "/a/", "(", ")", "{", "}", ":", ",", "?", "++", "-", "!", "*", "&&", "=", "-=", "new", "delete", "in", "this", "if", "\n"];
+
+/// Bytes of which every text of at most so many is compared.
+pub const ALPHABETS: &[(&str, usize)] = &[("a+-/?:{}();", 5), ("a!=/;,", 6), ("0.5ex", 6), ("a+/;\n", 6), ("a?:/{};", 6), ("<>=a&|", 5), ("1.e+-a", 6)];
+
 /// Pieces for longer random sequences: the same, and whole phrases.
 const PHRASES: &[&str] = &[
     "a", "b", "1", "0", "'s'", "\"/\"", "/", "/", "/a/", "/[/]/g", "+", "=", ":", ";", ";", ".", "(", ")", "{", "}", "return", "function", "if", "\n",
     "\r", "\t", "/*c*/", "/*\n*/", "//c\n", "if(a)", "function f(x){}", "function f(x){", "{}", "(a)", "{a:1}", "{a:", "a:", "x=", "a;", ".b", "return;",
     "return a;", "while", "++", "/=", ".5", "1.", "'", "#", "\u{7f}", ".if", ".return", ".function", ".while", "a.if(b)", ".\nclass", "./*c*/if(b)", ".//c\nin",
     ",", ",", "[", "]", "[a]", "[,]", "(a,b)", "()", "function(){}", "function(a,b){", "{a:1,b:2,}", "{if:a,", ",in:b", ",{}", "[a,,b,]", ",/a/",
+    "++", "--", "++a", "a++", "\n++", "!", "~", "-", "*", "%", "<", ">>>", "<=", "===", "&&", "||", "|", "^", "?", "?", ":", "? a :", "?{}", ":{}", "++{}", "+=", "/=", ">>>=", "this", "null",
+    "true", "false", "new", "new a", "new a(b)", "delete", "void", "typeof", " in ", " instanceof ", "typeof{}", "in{}", "this{}", "0x1F", "1.5e-3", ".5", "5.", "1..a", "0x", "1e", "08", "3in",
 ];
 
 const NAMES: &[&str] = &["a", "b", "f", "$", "_x1", "ifx", "returns", "x", "nulls", "i"];
-const NUMBERS: &[&str] = &["0", "1", "10", "907"];
+const NUMBERS: &[&str] = &["0", "1", "10", "907", "0.5", ".5", "5.", "1e3", "2.5E+10", ".25e-1", "0x1F", "0Xfe", "0.", "0e0", "3.e1"];
+const VALUES: &[&str] = &["this", "null", "true", "false"];
+const PREFIX_OPERATORS: &[&str] = &["delete", "void", "typeof", "++", "--", "+", "-", "~", "!"];
+const BINARY_OPERATORS: &[&str] = &[
+    "/", "/", "/", "+", "*", "%", "-", "<<", ">>", ">>>", "<", ">", "<=", ">=", "instanceof", "in", "==", "!=", "===", "!==", "&", "^", "|", "&&", "||",
+];
+const ASSIGNMENT_OPERATORS: &[&str] = &["=", "=", "*=", "/=", "/=", "%=", "+=", "-=", "<<=", ">>=", ">>>=", "&=", "^=", "|="];
 const STRINGS: &[&str] = &["'s'", "\"q\\\"\"", "'\\''", "''", "'//'", "\"}\"", "'/*'", "\"\\\\\"", "'\t'"];
 const PATTERNS: &[&str] = &["/a/", "/[/]/g", "/=/", "/\\//i", "/)/", "/{/", "/[\\]/]/", "/]/", "/'/", "/ /", "/[[]/0$"];
 const GAPS: &[&str] = &["", "", "", "", "", " ", " ", "\n", "\t", "/*c*/", "/*\n*/", "//c\n", "\r\n", " // '\r", "\u{b}\u{c}"];
 const GAPS_WITHOUT_LINE_END: &[&str] = &["", "", " ", "\t", "/*c*/", "/***/"];
 
-/// A random program: its elements, with what follows the word `return` on its line told apart.
+/// A random program: its elements, with those told apart before which no line end may stand.
 struct Maker<'a> {
     random: &'a mut Random,
     budget: isize,
@@ -107,7 +121,7 @@ impl Maker<'_> {
             4 | 5 => {
                 self.put(&["return"]);
                 self.same_line.push(self.elements.len());
-                self.assign(false);
+                self.expression(false);
                 self.put(&[";"]);
             }
             6 => {
@@ -116,7 +130,7 @@ impl Maker<'_> {
                 self.statement();
             }
             _ => {
-                self.assign(true);
+                self.expression(true);
                 self.put(&[";"]);
             }
         }
@@ -160,7 +174,7 @@ impl Maker<'_> {
     fn index(&mut self) {
         self.put(&["["]);
         self.open += 1;
-        self.assign(false);
+        self.expression(false);
         self.open -= 1;
         self.put(&["]"]);
     }
@@ -186,7 +200,7 @@ impl Maker<'_> {
         self.open += 1;
         let count = self.random.below(4);
         for index in 0..count {
-            let name = if self.random.one_in(3) { self.random.of(&words()) } else { self.random.of(NAMES) };
+            let name = if self.random.one_in(3) { self.random.of(&WORDS) } else { self.random.of(NAMES) };
             self.put(&[name, ":"]);
             self.assign(false);
             if index + 1 < count || self.random.one_in(4) {
@@ -200,27 +214,73 @@ impl Maker<'_> {
     fn parentheses(&mut self) {
         self.put(&["("]);
         self.open += 1;
-        self.assign(false);
+        self.expression(false);
         self.open -= 1;
         self.put(&[")"]);
     }
 
-    fn assign(&mut self, statement: bool) {
-        self.chain(statement);
-        if !self.small() && self.random.one_in(4) {
-            self.put(&["="]);
-            return self.assign(false);
-        }
-        while !self.small() && self.random.one_in(3) {
-            let sign = self.random.of(&["/", "+"]);
-            self.put(&[sign]);
-            self.chain(false);
+    fn expression(&mut self, statement: bool) {
+        self.assign(statement);
+        while !self.small() && self.random.one_in(8) {
+            self.put(&[","]);
+            self.assign(false);
         }
     }
 
+    fn assign(&mut self, statement: bool) {
+        if !self.small() && self.random.one_in(4) {
+            self.target(statement);
+            let sign = self.random.of(ASSIGNMENT_OPERATORS);
+            self.put(&[sign]);
+            return self.assign(false);
+        }
+        self.binary(statement);
+        if !self.small() && self.random.one_in(6) {
+            self.put(&["?"]);
+            self.assign(false);
+            self.put(&[":"]);
+            self.assign(false);
+        }
+    }
+
+    fn binary(&mut self, statement: bool) {
+        self.unary(statement);
+        while !self.small() && self.random.one_in(3) {
+            let sign = self.random.of(BINARY_OPERATORS);
+            self.put(&[sign]);
+            self.unary(false);
+        }
+    }
+
+    fn unary(&mut self, statement: bool) {
+        if !self.small() && self.random.one_in(6) {
+            let sign = self.random.of(PREFIX_OPERATORS);
+            self.put(&[sign]);
+            return self.unary(false);
+        }
+        self.target(statement);
+        if self.random.one_in(8) {
+            self.same_line.push(self.elements.len());
+            let sign = self.random.of(&["++", "--"]);
+            self.put(&[sign]);
+        }
+    }
+
+    fn target(&mut self, statement: bool) {
+        if !self.small() && self.random.one_in(10) {
+            self.put(&["new"]);
+            return self.target(false);
+        }
+        self.chain(statement);
+    }
+
     fn chain(&mut self, statement: bool) {
-        let choice = if self.small() { 0 } else { self.random.below(12) };
+        let choice = if self.small() { 0 } else { self.random.below(13) };
         match choice {
+            12 => {
+                let value = self.random.of(VALUES);
+                self.put(&[value]);
+            }
             4 => {
                 let number = self.random.of(NUMBERS);
                 self.put(&[number]);
@@ -251,7 +311,7 @@ impl Maker<'_> {
                 0 => self.arguments(),
                 1 => self.index(),
                 _ => {
-                    let name = if self.random.one_in(3) { self.random.of(&words()) } else { self.random.of(NAMES) };
+                    let name = if self.random.one_in(3) { self.random.of(&WORDS) } else { self.random.of(NAMES) };
                     self.put(&[".", name]);
                 }
             }
@@ -259,17 +319,15 @@ impl Maker<'_> {
     }
 }
 
-fn is_name_byte(byte: u8) -> bool {
-    byte.is_ascii_alphanumeric() || byte == b'$' || byte == b'_'
-}
-
-/// Must a blank part these, so that each is cut as it stands?
-fn parted(before: &str, after: &str) -> bool {
-    let (Some(&last), Some(&first)) = (before.as_bytes().last(), after.as_bytes().first()) else {
+/// Must a blank part an element from what follows, so that it is cut as it stands?
+pub fn parted(before: &str, after: &str) -> bool {
+    if before.is_empty() || after.is_empty() {
         return false;
-    };
-    let number = before.as_bytes()[0].is_ascii_digit();
-    (is_name_byte(last) && is_name_byte(first)) || (before == "/" && first == b'/') || (number && first == b'.')
+    }
+    let joined = [before, after].concat();
+    let pattern = before.len() > 1 && before.starts_with('/') && before != "/=";
+    let cut = gap(joined.as_bytes(), 0) == Ok((0, false)) && element(joined.as_bytes(), 0, false, pattern).is_ok_and(|found| found.end == before.len());
+    !cut
 }
 
 /// A program of about so many elements, with gaps between them.
@@ -277,14 +335,19 @@ pub fn program(random: &mut Random, size: usize) -> Vec<u8> {
     let mut maker = Maker { random, budget: size as isize, open: 0, elements: Vec::new(), same_line: Vec::new() };
     maker.program();
     let Maker { elements, same_line, .. } = maker;
+    spelled(random, &elements, &same_line)
+}
+
+/// Elements as a text, with gaps between them; no line end stands before those whose indices `same_line` has, in order.
+pub fn spelled(random: &mut Random, elements: &[&str], same_line: &[usize]) -> Vec<u8> {
     let tight = random.one_in(3);
     let mut text = String::new();
     let mut before = "";
     for (index, element) in elements.iter().enumerate() {
-        let gap = match same_line.contains(&index) {
+        let gap = match same_line.binary_search(&index) {
             _ if tight => "",
-            true => random.of(GAPS_WITHOUT_LINE_END),
-            false => random.of(GAPS),
+            Ok(_) => random.of(GAPS_WITHOUT_LINE_END),
+            Err(_) => random.of(GAPS),
         };
         let after = if gap.is_empty() { element } else { gap };
         if parted(before, after) {
@@ -306,10 +369,10 @@ pub fn program(random: &mut Random, size: usize) -> Vec<u8> {
 
 /// Damages a text in one place.
 pub fn damage(random: &mut Random, text: &mut Vec<u8>) {
-    const BYTES: &[u8] = b"a1'\"/+=:;.(){}\n\r \\[]*#_0\t\0\x7f\xc3,,[]<if";
+    const BYTES: &[u8] = b"a1'\"/+=:;.(){}\n\r \\[]*#_0\t\0\x7f\xc3,,[]<if?:-!&|^~%>ex";
     let byte = BYTES[random.below(BYTES.len())];
     let at = random.below(text.len() + 1);
-    match random.below(8) {
+    match random.below(9) {
         0 if at < text.len() => text[at] = byte,
         1 if at < text.len() => {
             text.remove(at);
@@ -321,12 +384,16 @@ pub fn damage(random: &mut Random, text: &mut Vec<u8>) {
             text.drain(at..end);
         }
         5 => {
-            let (gap, word) = (random.of(GAPS), random.of(&words()));
+            let (gap, word) = (random.of(GAPS), random.of(&WORDS));
             text.splice(at..at, [".", gap, word].concat().bytes());
         }
         6 => {
-            let word = random.of(&words());
+            let word = random.of(&WORDS);
             text.splice(at..at, word.bytes());
+        }
+        7 => {
+            let sign = random.of(&SIGNS);
+            text.splice(at..at, sign.bytes());
         }
         _ => {
             let piece = PHRASES[random.below(PHRASES.len())];
@@ -375,7 +442,7 @@ pub fn words_after_dots() -> Vec<Vec<u8>> {
         ("", ":a;"),
     ];
     let mut texts = Vec::new();
-    for word in words() {
+    for word in WORDS {
         for (before, after) in FORMS {
             for gap in ["", " ", "\n", "/*c*/", "/*\n*/", "//c\n"] {
                 texts.push([before, gap, word, after].concat().into_bytes());
@@ -409,7 +476,7 @@ pub fn words_in_braces() -> Vec<Vec<u8>> {
         ("f({a:b},{c:d,", ":e});"),
     ];
     let mut texts = Vec::new();
-    for word in words() {
+    for word in WORDS {
         for (before, after) in FORMS {
             for gap in ["", "\n", "/*c*/", "//c\n"] {
                 texts.push([before, gap, word, after].concat().into_bytes());
@@ -419,9 +486,95 @@ pub fn words_in_braces() -> Vec<Vec<u8>> {
     texts
 }
 
+/// Each sign and each taken word before and behind slashes, braces, `++` and `:`, with each gap.
+pub fn operators() -> Vec<Vec<u8>> {
+    const FORMS: &[(&str, &str)] = &[
+        ("a", "b/c/d;"),
+        ("a", "/b/;"),
+        ("a", "/b/c;"),
+        ("", "/b/;"),
+        ("", "/b/c;"),
+        ("", "a;"),
+        ("a/b", "c;"),
+        ("/b/", "a;"),
+        ("/b/g", "/c/d;"),
+        ("a", "{}/b/;"),
+        ("a", "{}/b/c;"),
+        ("x=a", "{}/b/;"),
+        ("x=a", "{}/b/c;"),
+        ("x=", "{}/b/;"),
+        ("x=", "{}/b/c;"),
+        ("(", "{}/b/c);"),
+        ("{", "{}/b/}"),
+        ("a", "function(){}/b/;"),
+        ("a", "function(){}/b/c;"),
+        ("x=", "function f(){}/b/c;"),
+        ("a", "++b;"),
+        ("a", "++/b/;"),
+        ("a++", "b;"),
+        ("a++", "/b/;"),
+        ("a--", ";"),
+        ("++", "a;"),
+        ("++a", "b;"),
+        ("a?b", ":c;"),
+        ("a?b:", "c;"),
+        ("a?", "b:c;"),
+        ("a?", "{}:{}/b/c;"),
+        ("a", "?b:c;"),
+        ("a", "b?c:d;"),
+        ("if(a)", "/b/;"),
+        ("if(a)", "b;"),
+        ("new", "a;"),
+        ("new a", "(b);"),
+        ("a", ",b;"),
+        ("return", "/b/;"),
+        ("a.", "/b/c;"),
+        ("x={", ":a};"),
+        ("x={a:b,", ":c};"),
+        ("f(a", "b,/c/);"),
+        ("[a", "b,/c/];"),
+        ("a[b", "/c/];"),
+        ("a;", "/b/;"),
+        ("a", "=b;"),
+        ("a", "in b;"),
+        ("a", ""),
+        ("", ""),
+    ];
+    let mut texts = Vec::new();
+    for operator in SIGNS.into_iter().chain(WORDS) {
+        for (before, after) in FORMS {
+            for (left, right) in [("", ""), (" ", " "), ("\n", ""), ("", "\n"), ("/*\n*/", " "), (" ", "//c\n")] {
+                texts.push([before, left, operator, right, after].concat().into_bytes());
+            }
+        }
+    }
+    texts
+}
+
+/// Two operators side by side, of each two.
+pub fn neighbours() -> Vec<Vec<u8>> {
+    let operators: Vec<&str> = [BINARY_OPERATORS, ASSIGNMENT_OPERATORS, &["?", ":", ",", "++", "--", "."]].concat();
+    let mut texts = Vec::new();
+    for first in &operators {
+        for second in &operators {
+            texts.push(["a ", first, " b ", second, " c;"].concat().into_bytes());
+            texts.push(["a ", first, "/b/ ", second, "/c/;"].concat().into_bytes());
+            texts.push(["a?b ", first, " c:d ", second, " e;"].concat().into_bytes());
+            texts.push(["a ", first, " b?c:d ", second, " e;"].concat().into_bytes());
+        }
+        for second in PREFIX_OPERATORS.iter().chain(&["new"]) {
+            texts.push(["a ", first, " ", second, " b;"].concat().into_bytes());
+            texts.push([second, " a ", first, " b;"].concat().into_bytes());
+            texts.push([second, "(a) ", first, "/b/;"].concat().into_bytes());
+            texts.push([second, " a++", first, " b;"].concat().into_bytes());
+        }
+    }
+    texts
+}
+
 /// Random bytes: of all, or of those that make elements.
 pub fn bytes(random: &mut Random, count: usize) -> Vec<u8> {
-    const BYTES: &[u8] = b"aab10'\"//**+=:;.,,(){}[]\\\n \rif";
+    const BYTES: &[u8] = b"aab10'\"//**+=:;.,,(){}[]\\\n \rif?-+-!&|<>^~%ex";
     let all = random.one_in(4);
     (0..count).map(|_| if all { random.next() as u8 } else { BYTES[random.below(BYTES.len())] }).collect()
 }
@@ -477,6 +630,25 @@ pub fn longest_runs() -> Vec<(&'static str, Vec<u8>)> {
         run("assignments to parentheses", "", "(a)=", 3, "a;", 2),
         run("assignments to calls", "", "a(a)=", 4, "a;", 2),
         run("assigned functions", "", "a.b=", 4, "function f(a){};", 6),
+        run("nots", "", "!", 1, "a;", 2),
+        run("minuses before", "", "- ", 1, "a;", 2),
+        run("voids", "", "void ", 1, "a;", 2),
+        run("pluses before and increments", "", "+ ++", 2, "a;", 2),
+        run("news", "", "new ", 1, "a;", 2),
+        ("news with arguments", within((MOST_TREES - 2) / 2, "", "new ", b"a", "()", ";")),
+        run("conditionals", "", "a?a:", 4, "a;", 2),
+        ("conditionals in the middle", within((MOST_TREES - 2) / 4, "", "a?", b"a", ":a", ";")),
+        run("conditionals of assignments", "", "a?a=a:a=", 8, "a;", 2),
+        run("commas", "a", ",a", 2, ";", 2),
+        run("commas in a group", "(a", ",a", 2, ");", 3),
+        run("all assignments", "", "a=a+=a>>>=", 6, "a;", 2),
+        run("increments", "", "a++;", 3, "", 0),
+        run("decrements before", "", "--a;", 3, "", 0),
+        run("rising operators", "a", "||a&&a|a^a&a==a<a<<a+a*a", 20, ";", 2),
+        run("operators of words", "a", " in a instanceof a", 4, ";", 2),
+        run("not and divides", "!a", "/!a", 3, ";", 3),
+        run("this", "this", ".this", 2, ";", 2),
+        run("numbers", ".5", "/1.e3/0x1", 4, ";", 2),
         ("parentheses", nested("x=", "(", b"a", ")", ";")),
         ("blocks within", nested("", "{", b"a;", "}", "")),
         ("objects within", nested("x=", "{a:", b"a", "}", ";")),
@@ -517,6 +689,17 @@ pub fn refused_runs() -> Vec<(&'static str, Vec<u8>)> {
         ("functions and an open function", repeated("", "function f(a){}", MOST_TREES / 5 - 1, "function f(a)")),
         ("parentheses and no operand", nested(DEEPEST, "a=(", &repeated("", "a=", (MOST_TREES - 3 * DEEPEST) / 2, ""), ")")),
         ("operators, functions and an open divide", nested(DEEPEST, "a+a/function f(a){", &repeated("", "a=", 7_740, "a+a/"), "}")),
+        ("nots and no operand", repeated("", "!", MOST_TREES, "")),
+        ("news and no operand", repeated("", "new ", MOST_TREES, "")),
+        ("news and a name behind an increment", repeated("", "new ", MOST_TREES - 3, "a++b")),
+        ("conditionals and no colon", repeated("", "a?", MOST_TREES / 2 - 1, "a;")),
+        ("conditionals and an open divide", repeated("", "a?a:", MOST_TREES / 4 - 1, "a/;")),
+        ("commas and no operand", repeated("a", ",a", MOST_TREES / 2 - 1, ",")),
+        ("assignments and a name behind an increment", repeated("", "a=a-=", MOST_TREES / 4 - 1, "a++b")),
+        ("rising operators and no operand", repeated("a", "||a&&a|a^a&a==a<a<<a+a*a", MOST_TREES / 20 - 1, "||")),
+        ("minuses and increments of nothing", repeated("", "- ++", MOST_TREES / 2, "")),
+        ("increments and an assignment to one", repeated("", "a++;", MOST_TREES / 3 - 2, "a++=a;")),
+        ("parentheses of conditionals and an open one", nested(DEEPEST, "a?(", &repeated("", "a?", (MOST_TREES - 3 * DEEPEST) / 2 - 1, "a"), ")")),
         ("functions and no statement", nested(DEEPEST - 1, "if(a)x=function f(a){", &repeated("", "if(a)", (MOST_TREES - 10 * DEEPEST) / 3, ""), "}")),
     ]
 }

@@ -1,4 +1,4 @@
--- Document 01, Refused texts, rows 2 to 8: the numbers of the faults that elements and comments have of their own. Each
+-- Document 01, Refused texts, rows 2 to 7 (document 02, U4: "8 no longer occurs"): the numbers of the faults that elements and comments have of their own. Each
 -- definition that cites one gives the row's place.
 use Prim.Native.Nat.{ℕ}
 
@@ -18,14 +18,10 @@ openPattern = 4
 abbrev pub openComment : ℕ
 openComment = 5
 
--- a number, or a dot, that is refused; place: "its first byte or the dot"
+-- document 02, U4: "6 now only when a digit or name byte follows directly"; place: its first byte
 abbrev pub badNumber : ℕ
 badNumber = 6
 
 -- "reserved word not taken here", unless it is a name (document 02, U1 and U2); place: its first byte
 abbrev pub barredWord : ℕ
 barredWord = 7
-
--- "longest sign not legal here"; place: its first byte
-abbrev pub barredSign : ℕ
-barredSign = 8

@@ -10,5 +10,3 @@ pub const OPEN_COMMENT: u32 = 5;
 pub const BAD_NUMBER: u32 = 6;
 
 pub const BARRED_WORD: u32 = 7;
-
-pub const BARRED_SIGN: u32 = 8;

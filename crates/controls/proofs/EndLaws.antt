@@ -4,11 +4,11 @@ use mathlib.Core.Bool.{Bool, true, false, _||_}
 use Prim.Native.Nat.{ℕ}
 use borrow.Author.Tests.{eqb-true}
 use lib.Dec.{T, eqb}
-use Rattle.grammar.specs.Tokens.{closeParen, closeBrace, closeBracket}
-use Rattle.grammar.specs.Machinery.Machine.{endOfText, Control, Action, fail}
+use Rattle.machine.specs.Tokens.{closeParen, closeBrace, closeBracket}
+use Rattle.machine.specs.Machinery.Machine.{endOfText, Control, Action, fail}
 use Rattle.controls.specs.declared.Step.{Step}
 use Rattle.controls.specs.declared.Step.the-variants.{Fail}
-use Rattle.grammar.specs.Machinery.Classes.{isEnd}
+use Rattle.machine.specs.Machinery.Classes.{isEnd}
 use Rattle.controls.specs.Machinery.Steps.{Means, means-end, means-fail}
 
 -- what holds of the four closers holds of each class that ends a level

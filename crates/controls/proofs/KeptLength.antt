@@ -6,7 +6,7 @@ use Prim.Native.Nat.{ℕ, _+_, _*_, _/_}
 use lib.Dec.{ltb}
 use lib.ListN.{length, set, length-set}
 use Rattle.tables.specs.Records.{syntaxWidth}
-use Rattle.grammar.specs.Syntax.{Syntax, nil, node, snoc, size}
+use Rattle.machine.specs.Syntax.{Syntax, nil, node, snoc, size}
 use Rattle.controls.specs.Machinery.Written.{putRecord, putSyntax}
 
 put-length : (table : List ℕ) (index kind mark number : ℕ) → length (putRecord table index kind mark number) ≡ length table

@@ -5,8 +5,8 @@ use Prim.Native.Nat.{ℕ, _+_, _≤_, _<_}
 use native.Mathlib.Omega.{arith}
 use borrow.Author.Tests.{eq-eqb, ne-eqb, eqb-false}
 use lib.Dec.{T, eqb, ltb, ltb→lt}
-use Rattle.grammar.specs.Grammar.{body, block}
-use Rattle.grammar.specs.Machinery.Machine.{ifNest, among, inNest, Ending, byStatement, byReturn, byParen, byBracket, byItem, finished}
+use Rattle.machine.specs.Scopes.{body, block}
+use Rattle.machine.specs.Machinery.Machine.{ifNest, among, inNest, byParen, byBracket, byColon, byItem, finished}
 use Rattle.controls.specs.Machinery.Numbers.{settingBy, itemsBy, endingBy, controlBy}
 
 -- numbers that are passed one by one
@@ -33,31 +33,20 @@ module _ (setting : ℕ) where
 module _ (ending setting : ℕ) where
   -- an expression in a group, of a list, and in a statement
   pub group-ending : (ending ≡ 0 → ⊥) → (ending ≡ 1 → ⊥)
-      → endingBy ending setting ≡ cond (eqb ending 2) byParen (cond (eqb ending 3) byBracket (byItem (itemsBy ending)))
+      → endingBy ending setting ≡ cond (eqb ending 2) byParen (cond (eqb ending 3) byBracket (cond (eqb ending 4) byColon (byItem (itemsBy ending))))
   unfolding endingBy
   group-ending a b = rw (ne-eqb ending 0 a, ne-eqb ending 1 b)
 
-  pub item-ending : 4 ≤ ending → endingBy ending setting ≡ byItem (itemsBy ending)
+  pub item-ending : 5 ≤ ending → endingBy ending setting ≡ byItem (itemsBy ending)
   unfolding endingBy
-  item-ending h = rw (ne-eqb ending 0 (λ e. omega arith), ne-eqb ending 1 (λ e. omega arith), ne-eqb ending 2 (λ e. omega arith), ne-eqb ending 3 (λ e. omega arith))
-
-  pub statement-ending : ending < 2
-      → endingBy ending setting ≡ cond (eqb ending 0) (byStatement (settingBy setting)) (byReturn (settingBy setting))
-  unfolding endingBy
-  statement-ending h = go _ (eqb ending 0) refl
-    where
-      go : (other : Ending) (b : Bool) → eqb ending 0 ≡ b
-          → cond b (byStatement (settingBy setting)) (cond (eqb ending 1) (byReturn (settingBy setting)) other)
-          ≡ cond b (byStatement (settingBy setting)) (byReturn (settingBy setting))
-      go other true e = refl
-      go other false e = let some = eqb-false ending 0 e in rw (eq-eqb ending 1 (omega (arith, some)))
+  item-ending h = rw (ne-eqb ending 0 (λ e. omega arith), ne-eqb ending 1 (λ e. omega arith), ne-eqb ending 2 (λ e. omega arith), ne-eqb ending 3 (λ e. omega arith), ne-eqb ending 4 (λ e. omega arith))
 
 module _ (place ending setting : ℕ) (flag : Bool) where
   -- no place has a number past the last
-  pub past-places : 18 ≤ place → controlBy place ending setting flag ≡ finished
+  pub past-places : 20 ≤ place → controlBy place ending setting flag ≡ finished
   unfolding controlBy
   past-places h =
-      simp (other 0 tt, other 1 tt, other 2 tt, other 3 tt, other 4 tt, other 5 tt, other 6 tt, other 7 tt, other 8 tt, other 9 tt, other 10 tt, other 11 tt, other 12 tt, other 13 tt, other 14 tt, other 15 tt, other 16 tt, other 17 tt)
+      simp (other 0 tt, other 1 tt, other 2 tt, other 3 tt, other 4 tt, other 5 tt, other 6 tt, other 7 tt, other 8 tt, other 9 tt, other 10 tt, other 11 tt, other 12 tt, other 13 tt, other 14 tt, other 15 tt, other 16 tt, other 17 tt, other 18 tt, other 19 tt)
     where
-      other : (k : ℕ) → T (ltb k 18) → eqb place k ≡ false
-      other k l = ne-eqb place k (λ e. omega (arith, ltb→lt k 18 l))
+      other : (k : ℕ) → T (ltb k 20) → eqb place k ≡ false
+      other k l = ne-eqb place k (λ e. omega (arith, ltb→lt k 20 l))

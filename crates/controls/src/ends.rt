@@ -1,11 +1,11 @@
 // Where a level may end: the rows of the machine's table at a closer, or at the text's end.
-ghost use mathlib.Core.Bool.{Bool, false};
+ghost use mathlib.Core.Bool.{false};
 ghost use mathlib.Core.Path.{_≡_};
 ghost use lib.Dec.{T};
-ghost use Rattle.grammar.specs.Machinery.Machine.{statementDue, operandDone, parameterDue, look, listCloser, row};
+ghost use Rattle.machine.specs.Machinery.Machine.{statementDue, parameterDue, look, listCloser, row};
 ghost use Rattle.controls.specs.Machinery.Numbers.{settingBy, itemsBy, endingBy, controlOf};
-ghost use Rattle.grammar.specs.Machinery.Classes.{isEnd};
-ghost use Rattle.controls.specs.Machinery.Steps.{Settled, Ends};
+ghost use Rattle.machine.specs.Machinery.Classes.{isEnd};
+ghost use Rattle.controls.specs.Machinery.Steps.{Ended, Settled, Ends};
 use crate::BLOCK;
 use crate::BODY;
 use crate::BY_ARGUMENT;
@@ -17,8 +17,9 @@ use crate::ITEM_DUE;
 use crate::OPERAND_DONE;
 use crate::PARAMETER_DUE;
 use crate::PARAMETER_NAMED;
+use crate::POSTFIX_DONE;
 use crate::STATEMENT_DUE;
-use grammar::tokens;
+use machine::tokens;
 
 // Whether a level may end at a closer, or at the text's end, where the machine stands.
 pub fn ends(at: Control, closer: u32) -> bool
@@ -27,7 +28,7 @@ pub fn ends(at: Control, closer: u32) -> bool
     let place = at.place;
     match place {
         STATEMENT_DUE => statements_end(at.setting, at.flag, closer),
-        OPERAND_DONE => expression_ends(at.ending, at.setting, closer),
+        OPERAND_DONE | POSTFIX_DONE => expression_ends(at.ending, at.setting, closer),
         ITEM_DUE => closer == list_closer(at.ending),
         PARAMETER_DUE => parameters_end(at.flag, closer),
         PARAMETER_NAMED => closer == tokens::CLOSE_PAREN,
@@ -73,8 +74,9 @@ fn parameters_end(must: bool, closer: u32) -> bool
     closer == tokens::CLOSE_PAREN
 }
 
+// A `?` that is not answered ends no level.
 fn expression_ends(ending: u32, setting: u32, closer: u32) -> bool
-    ensures { λ r. ⌜ ((target : Bool) → T (isEnd closer) → Ends closer (operandDone (endingBy ending setting) target) r (look closer (row (operandDone (endingBy ending setting) target) false))) ⌝ }
+    ensures { λ r. ⌜ ((from : Rattle.machine.specs.Machinery.Machine.Control) → Ended from (endingBy ending setting) → T (isEnd closer) → Ends closer from r (look closer (row from false))) ⌝ }
 {
     if ending == BY_PAREN {
         return closer == tokens::CLOSE_PAREN;

@@ -1,15 +1,15 @@
-// Where the token machine stands, and what it does: places and effects are named after those of grammar/specs/Machinery/Machine.antt
+// Where the token machine stands, and what it does: places and effects are named after those of machine/specs/Machinery/Machine.antt
 // where there is one, so that the two can be laid side by side; specs/Machinery/Numbers.antt ties them.
 ghost use mathlib.Core.Path.{_≡_};
-ghost use Rattle.grammar.specs.Grammar.{precedence};
-ghost use Rattle.grammar.specs.Machinery.Machine.{behindStatement};
-ghost use Rattle.grammar.specs.Machinery.Classes.{isLeaf};
+ghost use Rattle.machine.specs.Machinery.Machine.{behindStatement};
+ghost use Rattle.machine.specs.Machinery.Classes.{isLeaf};
 ghost use Rattle.controls.specs.Machinery.Numbers.{settingBy, controlBy, controlOf, insideBy};
 
+pub mod bindings;
 pub mod ends;
 pub mod records;
 
-use grammar::tokens;
+use machine::tokens;
 
 // Where the machine stands: the place in a form; what ends the expression; the setting of the statement; and whether the chain may yet
 // be assigned to, or whether a statement or a parameter must come.
@@ -29,9 +29,9 @@ pub const OPERAND_DUE: u32 = 2;
 
 pub const OPERAND_DONE: u32 = 3;
 
-pub const STATEMENT_DONE: u32 = 4;
+pub const POSTFIX_DONE: u32 = 4;
 
-pub const NAME_FIRST: u32 = 5;
+pub const MEMBER_DUE: u32 = 5;
 
 pub const IF_FIRST: u32 = 6;
 
@@ -57,6 +57,11 @@ pub const DECLARED_NAMED: u32 = 16;
 
 pub const DECLARED_PAST: u32 = 17;
 
+// At the last two something is done before a token: `frames::ready` passes all below by one test.
+pub const STATEMENT_DONE: u32 = 18;
+
+pub const NAME_FIRST: u32 = 19;
+
 // Settings of a statement: among those of a body or a block, or in a nest.
 pub const BODY: u32 = 0;
 
@@ -73,11 +78,13 @@ pub const BY_PAREN: u32 = 2;
 
 pub const BY_BRACKET: u32 = 3;
 
-pub const BY_ARGUMENT: u32 = 4;
+pub const BY_COLON: u32 = 4;
 
-pub const BY_ELEMENT: u32 = 5;
+pub const BY_ARGUMENT: u32 = 5;
 
-pub const BY_PROPERTY: u32 = 6;
+pub const BY_ELEMENT: u32 = 6;
+
+pub const BY_PROPERTY: u32 = 7;
 
 // What a token does to the level.
 pub const KEEP: u32 = 0;
@@ -103,6 +110,10 @@ pub const END_VALUE: u32 = 9;
 
 pub const END_BARE_RETURN: u32 = 10;
 
+pub const TAKE_PREFIX: u32 = 11;
+
+pub const TAKE_POSTFIX: u32 = 12;
+
 // What a group is, and does to the level around it when it closes.
 pub const TO_PARENS: u32 = 0;
 
@@ -125,12 +136,14 @@ pub const TO_ARRAY: u32 = 8;
 pub const TO_INDEX: u32 = 9;
 
 // What to do: nothing more; go on, with an effect; open a group, with where to stand behind it; open a nest, with where to stand in
-// it, and the setting around it.
+// it, and the setting around it; ask, at `?`, and be answered, at its `:`.
 pub enum Step {
     Fail,
     Goto(Control, u32),
     Push(Control, u32),
     Enter(Control, u32),
+    Ask,
+    Turn,
 }
 
 pub fn stand(place: u32, ending: u32, setting: u32, flag: bool) -> Control
@@ -171,25 +184,18 @@ pub fn inside_of(closing: u32) -> Control
     }
 }
 
-// How tight an operator binds; 0 for a class that is none.
-pub fn precedence(class: u32) -> u32
-    ensures { λ r. ⌜ r ≡ precedence class ⌝ }
-{
-    if class == tokens::DIVIDE {
-        return 2;
-    }
-    if class == tokens::PLUS {
-        return 1;
-    }
-    0
-}
-
-// Whether a token of a class is a part by itself: a name, number, string or regular expression.
+// Whether a token of a class is a part by itself: a name, number, string or regular expression, or a value word.
 pub fn is_leaf(class: u32) -> bool
     ensures { λ r. ⌜ r ≡ isLeaf class ⌝ }
 {
     if class == 0 {
         return false;
     }
-    class <= tokens::PATTERN
+    if class <= tokens::PATTERN {
+        return true;
+    }
+    if class < tokens::THIS {
+        return false;
+    }
+    class <= tokens::FALSE
 }

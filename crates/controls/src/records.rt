@@ -36,6 +36,16 @@ pub const ARRAY: u32 = 21;
 
 pub const INDEX: u32 = 22;
 
+pub const CONSTRUCT: u32 = 27;
+
+pub const INCREMENTED: u32 = 29;
+
+pub const DECREMENTED: u32 = 30;
+
+pub const POSITIVE: u32 = 36;
+
+pub const NEGATIVE: u32 = 37;
+
 // Writes the syntax record of a kind behind those so far, if it fits, and answers how many there are with it. Those from
 // `start` on are in it.
 pub fn put(syntax: &mut [u32], count: usize, kind: u32, mark: usize, start: usize) -> usize

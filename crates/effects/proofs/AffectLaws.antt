@@ -1,51 +1,72 @@
 -- The effects, by number: what the level calls for, and what it has then.
-use mathlib.Core.Path.{_≡_, refl}
-use mathlib.Core.Bool.{Bool, true, false}
+use mathlib.Core.Path.{_≡_}
+use mathlib.Core.Bool.{Bool, true, false, not, _&&_}
 use mathlib.Core.List.{List}
 use Prim.Native.Nat.{ℕ, _+_, _-_, _*_, _≤_, _<_}
 use native.Mathlib.Omega.{arith}
-use borrow.Author.Tests.{le-leb, eqb-true, eq-eqb, ne-eqb}
-use lib.Dec.{eqb}
+use borrow.Author.Tests.{eq-eqb, ne-eqb}
+use lib.Dec.{T, eqb, leb, leb→le}
 use lib.ListN.{length, getD}
+use Rattle.text.proofs.Range.{and-left, and-right}
+use Rattle.text.proofs.Members.{at, found}
 use Rattle.tables.specs.Records.{mostTrees, mostSyntax}
-use Rattle.grammar.specs.Tokens.{assign}
-use Rattle.grammar.specs.Syntax.{memberSyntax, expressionSyntax, bareReturnSyntax, fullReturnSyntax, labelSyntax}
-use Rattle.grammar.specs.Grammar.{precedence}
-use Rattle.grammar.specs.Machinery.Machine as machine
-use Rattle.grammar.specs.Machinery.Machine.{Frame, frame, threshold, keep, endBareReturn, takeOperator, Control}
+use Rattle.machine.specs.Tokens.{newWord, comma}
+use Rattle.machine.specs.Syntax.{memberSyntax, expressionSyntax, bareReturnSyntax, fullReturnSyntax, labelSyntax}
+use Rattle.machine.specs.Operators.{assignmentOperators, binaryOperators, prefixOperators, prefixKind, postfixKind}
+use Rattle.machine.specs.Machinery.Machine as machine
+use Rattle.machine.specs.Machinery.Machine.{Frame, frame, newPrecedence, tightness, threshold, keep, endBareReturn, takeOperator, takePrefix, takePostfix, Control}
 use Rattle.controls.specs.Machinery.Numbers.{effectBy}
-use Rattle.controls.specs.Machinery.Steps.{Leads, to-name, to-leaf, to-function, to-declaration, to-return, to-label, to-bare-end, to-member, to-assign, to-operator, to-end, to-return-end, to-item-end}
+use Rattle.controls.specs.Machinery.Steps.{ended-operand, Leads, to-name, to-leaf, to-function, to-declaration, to-return, to-label, to-bare-end, to-member, to-prefix, to-new, to-postfix, to-assign, to-operator, to-comma, to-end, to-return-end, to-item-end}
 use Rattle.controls.specs.Machinery.Written.{putRecord}
-use Rattle.waiting.specs.Machinery.Waiting.{width, binding, Backed, Closes, Completes, stackWith, waitingOne, madeOne, withHeld}
+use Rattle.waiting.specs.Machinery.Waiting.{width, Backed, Closes, Completes, stackWith, waitingOne, madeOne, withHeld}
 use Rattle.waiting.specs.declared.Level.{Level}
 use Rattle.waiting.proofs.HoldLaws.{backed, uppermost}
 use Rattle.waiting.proofs.OperatorLaws.{operator-small}
 use Rattle.frames.specs.Machinery.Stands.{Stands}
 use Rattle.frames.specs.Machinery.Effects.{MayAffect, Affects}
 use Rattle.frames.proofs.CarryLaws.{backOne, carried, closes-lightens, carries-made, carries-back, carries-expression}
-use Rattle.frames.proofs.EffectLaws.{return-begun, keeps, takes-leaf, takes-member, holds-name, holds-word, holds-declared, starts-return, takes-label, takes-operator, ends-expression, ends-return, ends-item, ends-bare}
+use Rattle.frames.proofs.EffectLaws.{return-begun, keeps, takes-leaf, takes-member, holds-name, holds-word, holds-declared, starts-return, takes-label, takes-prefix, takes-postfix, takes-new, takes-operator, ends-expression, ends-return, ends-item, ends-bare}
 
--- an operator binds as operators do, and its class is small
-operator-binds : (class : ℕ) → 1 ≤ precedence class → binding class ≡ precedence class + 2
-unfolding binding
-operator-binds class tight = go (eqb class assign) refl
+-- an operator binds as operators do, closes some, and has a left side; and one before its operand
+abbrev isFine : ℕ → Bool
+isFine class = (leb 1 (tightness class) && leb 1 (threshold class)) && (leb (threshold class) newPrecedence && not (eqb class newWord))
+
+record Fine (class : ℕ) : Type 0 where
+  tight : 1 ≤ tightness class
+  some : 1 ≤ threshold class
+  small : threshold class ≤ newPrecedence
+  other : class ≡ newWord → ⊥
+
+fine : (class : ℕ) → T (isFine class) → Fine class
+fine class t =
+    let a = and-left (leb 1 (tightness class) && leb 1 (threshold class)) (leb (threshold class) newPrecedence && not (eqb class newWord)) t in
+    let b = and-right (leb 1 (tightness class) && leb 1 (threshold class)) (leb (threshold class) newPrecedence && not (eqb class newWord)) t in
+    record {
+      tight = leb→le 1 (tightness class) (and-left (leb 1 (tightness class)) (leb 1 (threshold class)) a);
+      some = leb→le 1 (threshold class) (and-right (leb 1 (tightness class)) (leb 1 (threshold class)) a);
+      small = leb→le (threshold class) newPrecedence (and-left (leb (threshold class) newPrecedence) (not (eqb class newWord)) b);
+      other = λ e. differ (rw (eq-eqb class newWord e) at (and-right (leb (threshold class) newPrecedence) (not (eqb class newWord)) b));
+    }
   where
-    go : (b : Bool) → eqb class assign ≡ b → binding class ≡ precedence class + 2
-    go true e = let none : 1 ≤ precedence assign = rw (eqb-true class assign e) at tight in absurd (omega arith)
-    go false e = rw (e, le-leb 1 (precedence class) tight)
+    differ : T (not true) → ⊥
+    differ t = absurd t
 
--- how tight what waits must bind to be closed
-pub assign-tight : (class : ℕ) → class ≡ assign → 3 ≡ threshold class + 2
-assign-tight class e = rw (eq-eqb class assign e)
+operator-fine : {class : ℕ} {from to : Control} → Leads (takeOperator class) from to → Fine class
+operator-fine {class = class} (to-assign listed) = fine class (at isFine (found assignmentOperators class listed) tt)
+operator-fine {class = class} (to-operator listed ended) = fine class (at isFine (found binaryOperators class listed) tt)
+operator-fine (to-comma takes ended) = fine comma tt
 
-pub operator-tight : (class tight : ℕ) → (class ≡ assign → ⊥) → tight ≡ precedence class → tight + 2 ≡ threshold class + 2
-operator-tight class tight other e = rw (ne-eqb class assign other, e)
+prefix-tight : {kind : ℕ} {from to : Control} → Leads (takePrefix kind) from to → 1 ≤ tightness kind
+prefix-tight (to-prefix class listed due takes) =
+    leb→le 1 (tightness (prefixKind class)) (at (λ (k : ℕ). leb 1 (tightness (prefixKind k))) (found prefixOperators class listed) tt)
+prefix-tight (to-new due) = omega arith
 
 -- the effects that have a number
 pub effect-kept : (effect class : ℕ) → (effect ≡ 1 → ⊥) → (effect ≡ 2 → ⊥) → (effect ≡ 3 → ⊥) → (effect ≡ 4 → ⊥) → (effect ≡ 5 → ⊥) → (effect ≡ 6 → ⊥)
-    → (effect ≡ 7 → ⊥) → (effect ≡ 8 → ⊥) → (effect ≡ 9 → ⊥) → (effect ≡ 10 → ⊥) → effectBy effect class ≡ keep
+    → (effect ≡ 7 → ⊥) → (effect ≡ 8 → ⊥) → (effect ≡ 9 → ⊥) → (effect ≡ 10 → ⊥) → (effect ≡ 11 → ⊥) → (effect ≡ 12 → ⊥)
+    → effectBy effect class ≡ keep
 unfolding effectBy
-effect-kept effect class a b d e f g h i j k =
+effect-kept effect class a b d e f g h i j k m n =
     rw (
       ne-eqb effect 1 a,
       ne-eqb effect 2 b,
@@ -57,6 +78,8 @@ effect-kept effect class a b d e f g h i j k =
       ne-eqb effect 8 i,
       ne-eqb effect 9 j,
       ne-eqb effect 10 k,
+      ne-eqb effect 11 m,
+      ne-eqb effect 12 n,
     )
 
 module _ {l : Level} {stack cells : List ℕ} where
@@ -70,14 +93,52 @@ module _ {l : Level} {stack cells : List ℕ} where
   unfolding effectBy
   member-affects class mark e from to g nests table stack₀ first floor passed s to-member more = rw (e .0, e .1) (takes-member more mark s)
 
-  pub operator-affects : (class mark least : ℕ) {left r : Level} {after cells′ : List ℕ} → mark ≤ mostTrees → (l .top + 1) * width ≤ length stack → least ≡ threshold class + 2
-      → (left .floor ≡ l .floor) × (left .held ≡ l .held) × Closes least l stack cells left cells′
+  operator-affected : (class mark : ℕ) {from to : Control} {g : Frame} {nests : List machine.Open} {table stack₀ : List ℕ} {first floor passed : ℕ} {left : Level} {after : List ℕ}
+      → mark ≤ mostTrees → (l .top + 1) * width ≤ length stack → first + floor + passed < mostTrees
+      → (left .floor ≡ l .floor) × (left .held ≡ l .held) × Closes (threshold class + 1) l stack cells left after
+      → Leads (takeOperator class) from to → Fine class → Stands from g nests table stack₀ first floor passed l stack cells
+      → Stands to (machine.affect (takeOperator class) mark g) nests table stack₀ first floor (passed + 1) (waitingOne left)
+      (stackWith stack (left .top) class mark (left .start)) after
+  operator-affected class mark small room more closes (to-assign listed) o s =
+      takes-operator more true class mark small room (o .tight) (o .some) (o .other) (closes .0) (closes .1) (closes .2) ended-operand s
+  operator-affected class mark small room more closes (to-operator listed ended) o s =
+      takes-operator more false class mark small room (o .tight) (o .some) (o .other) (closes .0) (closes .1) (closes .2) ended s
+  operator-affected class mark small room more closes (to-comma takes ended) o s =
+      takes-operator more true class mark small room (o .tight) (o .some) (o .other) (closes .0) (closes .1) (closes .2) ended s
+
+  pub operator-affects : (class mark least : ℕ) {left r : Level} {after cells′ : List ℕ} → mark ≤ mostTrees → (l .top + 1) * width ≤ length stack → least ≡ threshold class
+      → (left .floor ≡ l .floor) × (left .held ≡ l .held) × Closes (least + 1) l stack cells left cells′
       → (r ≡ waitingOne left) × (after ≡ stackWith stack (left .top) class mark (left .start)) → Affects 3 class mark l stack cells r after cells′
-  unfolding effectBy binding
-  operator-affects class mark least small room tight closes e from to g nests table stack₀ first floor passed s to-assign more =
-      rw (e .0, e .1) (takes-operator more true assign mark small room refl (closes .0) (closes .1) (rw tight at (closes .2)) s)
-  operator-affects class mark least small room tight closes e from to g nests table stack₀ first floor passed s (to-operator some) more =
-      rw (e .0, e .1) (takes-operator more false class mark small room (operator-binds class some) (closes .0) (closes .1) (rw tight at (closes .2)) s)
+  unfolding effectBy
+  operator-affects class mark least small room tight closes e from to g nests table stack₀ first floor passed s leads more =
+      rw (e .0, e .1) (operator-affected class mark small room more (closes .0, closes .1, rw tight at (closes .2)) leads (operator-fine leads) s)
+
+  prefix-affected : (kind mark : ℕ) {from to : Control} {g : Frame} {nests : List machine.Open} {table stack₀ : List ℕ} {first floor passed : ℕ} → mark ≤ mostTrees
+      → (l .top + 1) * width ≤ length stack → first + floor + passed < mostTrees → Leads (takePrefix kind) from to → 1 ≤ tightness kind
+      → Stands from g nests table stack₀ first floor passed l stack cells
+      → Stands to (machine.affect (takePrefix kind) mark g) nests table stack₀ first floor (passed + 1) (waitingOne l) (stackWith stack (l .top) kind mark (l .start)) cells
+  prefix-affected kind mark small room more (to-prefix class listed due takes) tight s = takes-prefix more kind mark small room tight due s
+  prefix-affected kind mark small room more (to-new due) tight s = takes-new more mark small room due s
+
+  pub prefix-affects : (class mark : ℕ) {kind : ℕ} {r : Level} {after : List ℕ} → mark ≤ mostTrees → (l .top + 1) * width ≤ length stack → kind ≡ prefixKind class
+      → (r ≡ waitingOne l) × (after ≡ stackWith stack (l .top) kind mark (l .start)) → Affects 11 class mark l stack cells r after cells
+  unfolding effectBy
+  prefix-affects class mark small room is e from to g nests table stack₀ first floor passed s leads more =
+      rw (e .0, e .1, is) (prefix-affected (prefixKind class) mark small room more leads (prefix-tight leads) s)
+
+  postfix-affected : (kind mark : ℕ) {from to : Control} {g : Frame} {nests : List machine.Open} {table stack₀ : List ℕ} {first floor passed : ℕ} {left : Level} {after : List ℕ}
+      → first + floor + passed < mostTrees → (left .floor ≡ l .floor) × (left .held ≡ l .held) × Closes (newPrecedence + 1) l stack cells left after
+      → Leads (takePostfix kind) from to → Stands from g nests table stack₀ first floor passed l stack cells
+      → Stands to (machine.affect (takePostfix kind) mark g) nests table stack₀ first floor (passed + 1) (madeOne left) stack
+      (putRecord after (left .count) kind mark (left .count - left .start + 1))
+  postfix-affected kind mark more closes (to-postfix class listed) s = takes-postfix more kind mark (closes .0) (closes .1) (closes .2) s
+
+  pub postfix-affects : (class mark : ℕ) {kind : ℕ} {left r : Level} {after cells′ : List ℕ} → kind ≡ postfixKind class
+      → (left .floor ≡ l .floor) × (left .held ≡ l .held) × Closes (newPrecedence + 1) l stack cells left after
+      → (r ≡ madeOne left) × (cells′ ≡ putRecord after (left .count) kind mark (left .count - left .start + 1)) → Affects 12 class mark l stack cells r stack cells′
+  unfolding effectBy
+  postfix-affects class mark is closes e from to g nests table stack₀ first floor passed s leads more =
+      rw (e .0, e .1, is) (postfix-affected (postfixKind class) mark more closes leads s)
 
   pub label-affects : (class mark : ℕ) {r : Level} {after : List ℕ} → (l .top + 1) * width ≤ length stack
       → (r ≡ waitingOne l) × (after ≡ stackWith stack (l .top) labelSyntax (l .held) (l .start)) → Affects 4 class mark l stack cells r after cells
@@ -102,13 +163,13 @@ module _ {l : Level} {stack cells : List ℕ} where
       → (one ≡ madeOne left) × (cells′ ≡ putRecord after (left .count) expressionSyntax mark (left .count - left .start + 1)) → Completes one stack cells′ all cells″
       → Affects 8 class mark l stack cells all stack cells″
   unfolding effectBy
-  expression-affects class mark closes e completes from to g nests table stack₀ first floor passed s to-end more =
-      ends-expression more mark (closes .0) (closes .1) (closes .2) (rw (e .0, e .1) at completes) s
+  expression-affects class mark closes e completes from to g nests table stack₀ first floor passed s (to-end ended) more =
+      ends-expression more mark (closes .0) (closes .1) (closes .2) (rw (e .0, e .1) at completes) ended s
 
   pub value-affects : (class mark : ℕ) {all : Level} {cells′ : List ℕ} → Completes l stack cells all cells′ → Affects 9 class mark l stack cells all stack cells′
   unfolding effectBy
-  value-affects class mark completes from to g nests table stack₀ first floor passed s to-return-end more = ends-return more mark completes s
-  value-affects class mark completes from to g nests table stack₀ first floor passed s to-item-end more = ends-item more mark completes s
+  value-affects class mark completes from to g nests table stack₀ first floor passed s (to-return-end ended) more = ends-return more mark completes ended s
+  value-affects class mark completes from to g nests table stack₀ first floor passed s (to-item-end ended) more = ends-item more mark completes ended s
 
   pub bare-affects : (class mark m : ℕ) {one all : Level} {cells′ cells″ : List ℕ} → getD stack ((l .top - 1) * width + 1) 0 ≡ m
       → (one ≡ madeOne (backOne l)) × (cells′ ≡ putRecord cells (l .count) bareReturnSyntax m (l .count - l .count + 1)) → Completes one stack cells′ all cells″
@@ -120,9 +181,16 @@ module _ {l : Level} {stack cells : List ℕ} where
   keep-affects effect class mark e from to g nests table stack₀ first floor passed s leads more = rw e (keeps more mark (rw e at leads) s)
 
 -- what the calls in between ask for
-operator-class : {class : ℕ} {from to : Control} → Leads (takeOperator class) from to → class < 65536
-operator-class to-assign = omega arith
-operator-class {class = class} (to-operator tight) = operator-small class tight
+pub prefix-asks : {class mark kind : ℕ} {l : Level} {stack cells : List ℕ} → MayAffect 11 class mark l stack cells → kind ≡ prefixKind class
+    → ((l .top + 1) * width ≤ length stack) × (kind < 65536) × (mark ≤ mostTrees) × (l .start ≤ mostTrees)
+unfolding effectBy
+prefix-asks {class = class} may is =
+    let s = may .somewhere .stands in
+    (may .room, omega (arith, is, operator-small (prefixKind class) (prefix-tight (may .leads))), omega (arith, may .marked), omega (arith, s .holds .counts, s .holds .few))
+
+pub threshold-small : {class mark : ℕ} {l : Level} {stack cells : List ℕ} → MayAffect 3 class mark l stack cells → threshold class ≤ newPrecedence
+unfolding effectBy
+threshold-small may = operator-fine (may .leads) .small
 
 module _ {class mark : ℕ} {l r : Level} {stack cells after : List ℕ} where
   pub operator-asks : {least : ℕ} → MayAffect 3 class mark l stack cells → (r .floor ≡ l .floor) × (r .held ≡ l .held) × Closes least l stack cells r after
@@ -131,11 +199,11 @@ module _ {class mark : ℕ} {l r : Level} {stack cells after : List ℕ} where
   operator-asks may closes =
       let s = may .somewhere .stands in
       let light = closes-lightens (s .holds) (closes .0) (closes .2) in
-      (omega (arith, light, may .room), operator-class (may .leads), omega (arith, may .marked), omega (arith, light, s .holds .few))
+      (omega (arith, light, may .room), omega (arith, operator-small class (operator-fine (may .leads) .tight)), omega (arith, may .marked), omega (arith, light, s .holds .few))
 
-  pub expression-asks : {least : ℕ} → MayAffect 8 class mark l stack cells → (r .floor ≡ l .floor) × (r .held ≡ l .held) × Closes least l stack cells r after
+  pub operand-asks : {effect least : ℕ} → MayAffect effect class mark l stack cells → (r .floor ≡ l .floor) × (r .held ≡ l .held) × Closes least l stack cells r after
       → (r .start ≤ r .count) × (r .count < mostSyntax) × (mark ≤ mostTrees)
-  expression-asks may closes =
+  operand-asks may closes =
       let s = may .somewhere .stands in
       let light = closes-lightens (s .holds) (closes .0) (closes .2) in
       (light .started, omega (arith, light, s .holds .few), omega (arith, may .marked))

@@ -1,29 +1,36 @@
 // What a token does to a level.
-ghost use mathlib.Core.Path.{_≡_};
-ghost use Prim.Native.Nat.{_+_};
-ghost use Rattle.grammar.specs.Machinery.Machine.{threshold};
 ghost use Rattle.frames.specs.Machinery.Effects.{MayAffect, Affects};
+use controls::bindings;
 use controls::records;
-use grammar::tokens;
 use waiting::Level;
-
-// How tight what waits must bind to be closed by an operator.
-fn binds(class: u32) -> u32
-    ensures { λ r. ⌜ r ≡ threshold class + 2 ⌝ }
-{
-    if class == tokens::ASSIGN {
-        return 3;
-    }
-    controls::precedence(class) + 2
-}
 
 // An operator behind an operand.
 fn operated(l: Level, class: u32, mark: usize, waiting: &mut [u16], syntax: &mut [u32]) -> Level
     requires { ⌜ MayAffect 3 class mark l (now waiting) (now syntax) ⌝ }
     ensures { λ r. ⌜ Affects 3 class mark l (now (waiting .entry)) (now (syntax .entry)) r (now (waiting .exit)) (now (syntax .exit)) ⌝ }
 {
-    let left = waiting::closed(l, binds(class), waiting, syntax);
+    let least = bindings::threshold(class) + 1;
+    let left = waiting::closed(l, least, waiting, syntax);
     waiting::wait(left, class, mark, waiting)
+}
+
+// An operator before its operand, or `new`.
+fn prefixed(l: Level, class: u32, mark: usize, waiting: &mut [u16], syntax: &[u32]) -> Level
+    requires { ⌜ MayAffect 11 class mark l (now waiting) (now syntax) ⌝ }
+    ensures { λ r. ⌜ Affects 11 class mark l (now (waiting .entry)) (now (syntax .entry)) r (now (waiting .exit)) (now (syntax .entry)) ⌝ }
+{
+    let kind = bindings::prefix_kind(class);
+    waiting::wait(l, kind, mark, waiting)
+}
+
+// `++` or `--` behind an operand: what binds as `new` does is closed first.
+fn postfixed(l: Level, class: u32, mark: usize, waiting: &[u16], syntax: &mut [u32]) -> Level
+    requires { ⌜ MayAffect 12 class mark l (now waiting) (now syntax) ⌝ }
+    ensures { λ r. ⌜ Affects 12 class mark l (now (waiting .entry)) (now (syntax .entry)) r (now (waiting .entry)) (now (syntax .exit)) ⌝ }
+{
+    let whole = waiting::closed(l, 15, waiting, syntax);
+    let kind = bindings::postfix_kind(class);
+    waiting::made(whole, kind, mark, syntax)
 }
 
 // `;` behind an expression.
@@ -77,6 +84,8 @@ pub fn affect(
         controls::END_EXPRESSION => expression_ended(l, mark, waiting, syntax),
         controls::END_VALUE => waiting::completed(l, waiting, syntax),
         controls::END_BARE_RETURN => bare_return(l, waiting, syntax),
+        controls::TAKE_PREFIX => prefixed(l, class, mark, waiting, syntax),
+        controls::TAKE_POSTFIX => postfixed(l, class, mark, waiting, syntax),
         _ => l,
     }
 }

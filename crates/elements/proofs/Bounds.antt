@@ -16,7 +16,7 @@ use Rattle.signs.specs.Signs.{longestSign}
 use Rattle.signs.specs.declared.Longest.{Longest}
 use Rattle.signs.proofs.Laws.{longest-fits}
 use Rattle.gaps.specs.Gaps.{gap}
-use Rattle.literals.specs.Numbers.{numberFrom}
+use Rattle.literals.specs.Numbers.{startsNumber, numberFrom}
 use Rattle.literals.specs.Strings.{quote, stringRest}
 use Rattle.literals.specs.Patterns.{patternRest}
 use Rattle.elements.specs.Elements.{
@@ -41,7 +41,7 @@ use Rattle.elements.specs.declared.Element.{Element}
 use Rattle.elements.specs.declared.Next.{Next}
 use Rattle.elements.specs.declared.Stated.{Stated}
 use Rattle.elements.proofs.Choices.{cond-both, cond-known}
-use Rattle.elements.proofs.Extents.{Faulted, GapIn, gap-in, LiteralIn, string-in, pattern-in, number-in}
+use Rattle.elements.proofs.Extents.{Faulted, GapIn, gap-in, LiteralIn, string-in, pattern-in, number-in, starts-some}
 use Rattle.gaps.proofs.GapLaws.{gap-past}
 use Rattle.elements.proofs.ElementLaws.{from-past}
 
@@ -80,10 +80,9 @@ module _ (newline : Bool) (first hi b : ℕ) (s : List ℕ) (fits : first + 1 + 
 
   sign-in : (l : Longest) → longestSign (b ∷ s) ≡ l → NextIn newline first hi (signOrStray newline first l)
   sign-in Longest.None e = omega arith
-  sign-in (Longest.Sign number n legal) e =
-      let f = longest-fits (b ∷ s) number n legal e in
-      cond-both (NextIn newline first hi) legal
-      (cut n (f .0) (omega arith) (cond (delimiter number) delimiterKind signKind) number) (omega arith)
+  sign-in (Longest.Sign number n) e =
+      let f = longest-fits (b ∷ s) number n e in
+      cut n (f .0) (omega arith) (cond (delimiter number) delimiterKind signKind) number
 
   cons-in : (stated : Stated) → NextIn newline first hi (elementFrom stated newline first (b ∷ s))
   unfolding elementFrom
@@ -92,13 +91,13 @@ module _ (newline : Bool) (first hi b : ℕ) (s : List ℕ) (fits : first + 1 + 
       let low = first + 1 in
       let h : first < low = omega arith in
       cond-known P (letter b) (named-in (stated .name)) (λ x.
-      cond-known P (digit b) (λ d. literal-in numberKind first (omega arith) (numberFrom first (b ∷ s)) (number-in b s d first hi fits)) (λ x.
+      cond-known P (startsNumber (b ∷ s))
+      (λ d. literal-in numberKind first (omega arith) (numberFrom first (b ∷ s)) (number-in b s (starts-some (digit b) (eqb b (byte ".")) (digit (getD s 0 0)) d) first hi fits)) (λ x.
       cond-both P (quote b)
       (literal-in stringKind low (omega arith) (stringRest b first false low s) (string-in first low hi h s b low false (omega arith) fits))
       (cond-both P (stated .pattern && eqb b (byte "/"))
       (literal-in patternKind low (omega arith) (patternRest first false false low s) (pattern-in first low hi h s low false false (omega arith) fits))
-      (cond-both P (eqb b (byte ".") && digit (getD s 0 0)) (omega arith)
-      (sign-in (longestSign (b ∷ s)) refl)))))
+      (sign-in (longestSign (b ∷ s)) refl))))
 
 pub from-in : (stated : Stated) (newline : Bool) (first hi : ℕ) (s : List ℕ) → first + length s ≡ hi → NextIn newline first hi (elementFrom stated newline first s)
 unfolding elementFrom
@@ -152,5 +151,5 @@ module _ (s : List ℕ) (place : ℕ) (stated : Stated) where
     pub fault-placed : (place ≤ at) × (at < length s)
     fault-placed = let p : Faulted place (length s) number at = rw f at placed in (p .from, p .within)
 
-    pub fault-number : (2 ≤ number) × (number ≤ 8)
+    pub fault-number : (2 ≤ number) × (number ≤ 7)
     fault-number = let p : Faulted place (length s) number at = rw f at placed in (p .least, p .most)

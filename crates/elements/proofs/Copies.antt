@@ -16,8 +16,7 @@ use Rattle.words.specs.Words.{wordNumber, taken}
 use Rattle.signs.specs.Signs.{longestSign}
 use Rattle.signs.specs.declared.Longest.{Longest}
 use Rattle.signs.proofs.Laws.{longest-own}
-use Rattle.answers.specs.Faults.{badNumber}
-use Rattle.literals.specs.Numbers.{numberFrom}
+use Rattle.literals.specs.Numbers.{startsNumber, numberFrom}
 use Rattle.literals.specs.Strings.{quote, stringRest}
 use Rattle.literals.specs.Patterns.{patternRest}
 use Rattle.elements.specs.Elements.{
@@ -43,7 +42,8 @@ use Rattle.elements.specs.declared.Stated.{Stated}
 use Rattle.elements.proofs.Choices.{cond-both, cond-known, cond-follow}
 use Rattle.elements.proofs.Clashes.{no-element}
 use Rattle.elements.proofs.Bounds.{Cut, from-in}
-use Rattle.elements.proofs.Shifts.{no-digit, no-name, string-own, pattern-own, number-own}
+use Rattle.elements.proofs.Shifts.{no-digit, no-name, string-own, pattern-own, number-size, number-own}
+use Rattle.literals.proofs.NumberLaws.{dotted-two}
 
 -- an element moved to another place, and behind another gap
 abbrev pub moved : ℕ → Bool → ℕ → Element → Next
@@ -62,6 +62,10 @@ module _ (x : ℕ) (v : List ℕ) (separates : (blank x || lineEnd x) ≡ true) 
     found-own kind which end f =
         let p : record { kind = kind; which = which; first = first; end = end; newline = newline } ≡ e = cc in
         rw (← p)
+
+    literal-ends : (kind : ℕ) (l : Literal) → literalElement kind newline first l ≡ Next.Found e → l ≡ Literal.Ends (first + k)
+    literal-ends kind (Literal.Ends end) f = ap Literal.Ends (same-size kind 0 end f)
+    literal-ends kind (Literal.Fault number at) f = no-element f
 
     literal-own : (kind : ℕ) (l m : Literal) → (l ≡ Literal.Ends (first + k) → m ≡ Literal.Ends (there + k))
         → literalElement kind newline first l ≡ Next.Found e → literalElement kind lined there m ≡ moved there lined k e
@@ -91,19 +95,27 @@ module _ (x : ℕ) (v : List ℕ) (separates : (blank x || lineEnd x) ≡ true) 
       sign-own : (l : Longest) → longestSign s ≡ l → signOrStray newline first l ≡ Next.Found e
           → signOrStray lined there (longestSign (take k s ++ x ∷ v)) ≡ moved there lined k e
       sign-own Longest.None g f = no-element f
-      sign-own (Longest.Sign number n legal) g f =
+      sign-own (Longest.Sign number n) g f =
           let kind = cond (delimiter number) delimiterKind signKind in
-          let q : n ≡ k =
-          cond-both (λ z. z ≡ Next.Found e → n ≡ k) legal (λ a. omega (arith, same-size kind number (first + n) a)) no-element f in
-          let own : longestSign (take k s ++ x ∷ v) ≡ Longest.Sign number k legal = rw q at (longest-own s number n legal g x separates v) in
-          rw own (cond-follow legal (found-own kind number (first + n)) no-element f)
+          let q : n ≡ k = omega (arith, same-size kind number (first + n) f) in
+          let own : longestSign (take k s ++ x ∷ v) ≡ Longest.Sign number k = rw q at (longest-own s number n g x separates v) in
+          rw own (found-own kind number (first + n) f)
 
   -- no digit comes to stand behind a dot
-  second-own : (t : Bool) (s : List ℕ) (k : ℕ) → k ≤ length s → (t && digit (getD s 0 0)) ≡ false
-      → (t && digit (getD (take k s ++ x ∷ v) 0 0)) ≡ false
-  second-own t s zero h e = rw (no-digit x separates) (and-false t)
-  second-own t [] (suc k) h e = absurd (omega arith)
-  second-own t (b ∷ s) (suc k) h e = e
+  second-own : (d t : Bool) (s : List ℕ) (k : ℕ) → k ≤ length s → (d || (t && digit (getD s 0 0))) ≡ false
+      → (d || (t && digit (getD (take k s ++ x ∷ v) 0 0))) ≡ false
+  second-own true t s k h e = e
+  second-own false t s zero h e = rw (no-digit x separates) (and-false t)
+  second-own false t [] (suc k) h e = absurd (omega arith)
+  second-own false t (b ∷ s) (suc k) h e = e
+
+  -- and the one behind it stays
+  second-kept : (d t : Bool) (s : List ℕ) (k : ℕ) → ((t && digit (getD s 0 0)) ≡ true → 1 ≤ k) → k ≤ length s → (d || (t && digit (getD s 0 0))) ≡ true
+      → (d || (t && digit (getD (take k s ++ x ∷ v) 0 0))) ≡ true
+  second-kept true t s k o h e = refl
+  second-kept false t s zero o h e = absurd (omega (arith, o e))
+  second-kept false t [] (suc k) o h e = absurd (omega arith)
+  second-kept false t (b ∷ s) (suc k) o h e = e
 
   module _ (e : Element) (first there : ℕ) (stated : Stated) (newline lined : Bool) where
     pub from-own : (s : List ℕ) (k : ℕ) → k ≤ length s → e .end ≡ first + k → elementFrom stated newline first s ≡ Next.Found e
@@ -117,14 +129,24 @@ module _ (x : ℕ) (v : List ℕ) (separates : (blank x || lineEnd x) ≡ true) 
     from-own (b ∷ s) (suc k) h p f =
         let h₁ : k ≤ length s = omega arith in
         let rest = take k s ++ x ∷ v in
-        let dotOrSign =
-        cond (eqb b (byte ".") && digit (getD rest 0 0)) (Next.Fault badNumber there) (signOrStray lined there (longestSign (b ∷ rest))) in
+        let numberOrOther =
+        cond (startsNumber (b ∷ rest)) (literalElement numberKind lined there (numberFrom there (b ∷ rest)))
+        (cond (quote b) (literalElement stringKind lined there (stringRest b there false (there + 1) rest))
+        (cond (stated .pattern && eqb b (byte "/")) (literalElement patternKind lined there (patternRest there false false (there + 1) rest))
+        (signOrStray lined there (longestSign (b ∷ rest))))) in
         let end = first + suc k in
         let ends = there + suc k in
         cond-follow (letter b) (named-own e first there (suc k) newline lined p (b ∷ s) (stated .name))
-        (cond-follow (digit b)
+        (cond-known (λ z. z ≡ Next.Found e → numberOrOther ≡ moved there lined (suc k) e)
+        (startsNumber (b ∷ s))
+        (λ q g.
+        let l = literal-ends e first there (suc k) newline lined p numberKind (numberFrom first (b ∷ s)) g in
+        let n = number-size x v separates end ends b s k first refl l in
+        rw (second-kept (digit b) (eqb b (byte ".")) s k (λ t. omega (arith, dotted-two b s t)) h₁ q)
         (literal-own e first there (suc k) newline lined p numberKind (numberFrom first (b ∷ s)) (numberFrom there (b ∷ rest))
-        (number-own x v separates end ends b s k first there h₁ refl refl))
+        (number-own x v separates end ends b s k first there h₁ refl refl) g))
+        (λ q g.
+        rw (second-own (digit b) (eqb b (byte ".")) s k h₁ q)
         (cond-follow (quote b)
         (literal-own e first there (suc k) newline lined p stringKind
         (stringRest b first false (first + 1) s) (stringRest b there false (there + 1) rest)
@@ -133,8 +155,4 @@ module _ (x : ℕ) (v : List ℕ) (separates : (blank x || lineEnd x) ≡ true) 
         (literal-own e first there (suc k) newline lined p patternKind
         (patternRest first false false (first + 1) s) (patternRest there false false (there + 1) rest)
         (pattern-own x v separates end ends s k first there (first + 1) (there + 1) false false (omega arith) (omega arith) (omega arith)))
-        (cond-known (λ z. z ≡ Next.Found e → dotOrSign ≡ moved there lined (suc k) e)
-        (eqb b (byte ".") && digit (getD s 0 0)) (λ q. no-element)
-        (λ q g.
-        rw (second-own (eqb b (byte ".")) s k h₁ q)
-        (sign-own e first there (suc k) newline lined p (b ∷ s) (longestSign (b ∷ s)) refl g)))))) f
+        (sign-own e first there (suc k) newline lined p (b ∷ s) (longestSign (b ∷ s)) refl)) g))) f

@@ -1,20 +1,23 @@
 -- A delimiter that is found is one byte long, and `which` says which of the six it is.
-use mathlib.Core.Path.{_≡_, refl, ap, _∙_}
+use Rattle.signs.proofs.Laws.{longest-fits}
+use mathlib.Core.Path.{_≡_, refl}
 use mathlib.Core.List.{List, [], _∷_}
-use mathlib.Core.Bool.{Bool, true, false, cond, _&&_, _||_}
+use mathlib.Core.Bool.{Bool, true, false, cond, _&&_, _||_, not, or-true}
 use Prim.Native.Nat.{ℕ, _+_, _<_}
 use native.Mathlib.Omega.{arith}
-use lib.Dec.{eqb}
-use lib.ListN.{getD, take, drop}
+use lib.Dec.{eqb, T, leb, leb→le}
+use lib.ListN.{getD, take, drop, length}
 use Rattle.text.specs.Quoted.{byte}
 use Rattle.text.specs.Bytes.{letter, digit, nameByte}
-use Rattle.text.specs.Runs.{run}
+use Rattle.text.specs.Runs.{run, same}
 use Rattle.words.specs.Words.{wordNumber, taken}
-use Rattle.signs.specs.Signs.{longestSign}
+use Rattle.signs.specs.Signs.{longestSign, longestOf}
 use Rattle.signs.specs.declared.Longest.{Longest}
-use Rattle.signs.proofs.Legal.{legal-single}
+use Rattle.vocabulary.specs.Vocabulary.{spelling, signs, rowAt}
+use Rattle.vocabulary.proofs.RowLaws.{at-row}
+use Rattle.signs.proofs.Spellings.{longest-spelled}
 use Rattle.gaps.specs.Gaps.{gap}
-use Rattle.literals.specs.Numbers.{numberFrom}
+use Rattle.literals.specs.Numbers.{startsNumber, numberFrom}
 use Rattle.literals.specs.Strings.{quote, stringRest}
 use Rattle.literals.specs.Patterns.{patternRest}
 use Rattle.elements.specs.Elements.{literalElement, named, delimiter, signOrStray, elementFrom, afterGap, elementAt, delimiterKind, numberKind, stringKind, patternKind, signKind}
@@ -23,7 +26,7 @@ use Rattle.literals.specs.declared.Literal.{Literal}
 use Rattle.elements.specs.declared.Element.{Element}
 use Rattle.elements.specs.declared.Next.{Next}
 use Rattle.elements.specs.declared.Stated.{Stated}
-use Rattle.elements.proofs.Choices.{cond-both, cond-known}
+use Rattle.elements.proofs.Choices.{cond-both}
 
 abbrev OneByte : Next → Type 0
 OneByte Next.End = Unit {0}
@@ -40,12 +43,18 @@ named-byte asName newline first s =
     let word = wordNumber (take (run nameByte s) s) in
     cond-both OneByte (eqb word 0 || asName) (λ k. absurd (omega arith)) (cond-both OneByte (taken word) (λ k. absurd (omega arith)) tt)
 
+delimiter-short : (number : ℕ) → T (not (delimiter number) || leb (length (spelling (rowAt signs number))) 1)
+unfolding delimiter longestSign longestOf same
+delimiter-short number = at-row (λ n row. not (delimiter n) || leb (length (spelling row)) 1) signs tt number (rw (or-true (not (delimiter number))) tt)
+
 sign-byte : (newline : Bool) (first : ℕ) (s : List ℕ) (l : Longest) → longestSign s ≡ l → OneByte (signOrStray newline first l)
 sign-byte newline first s Longest.None e = tt
-sign-byte newline first s (Longest.Sign number n legal) e =
-    cond-known OneByte legal
-    (λ allowed k. (ap (_+_ first) (legal-single s number n (e ∙ ap (Longest.Sign number n) allowed)), only (delimiter number) refl k))
-    (λ refused. tt)
+sign-byte newline first s (Longest.Sign number n) e =
+    λ k.
+    let is = only (delimiter number) refl k in
+    let long = longest-spelled s number n e .long in
+    let short = leb→le (length (spelling (rowAt signs number))) 1 (rw is at (delimiter-short number)) in
+    (omega (arith, longest-fits s number n e .0), is)
   where
     only : (b : Bool) → delimiter number ≡ b → cond b delimiterKind signKind ≡ delimiterKind → delimiter number ≡ true
     only true d k = d
@@ -56,11 +65,10 @@ unfolding elementFrom
 from-byte stated newline first [] = tt
 from-byte stated newline first (b ∷ s) =
     cond-both OneByte (letter b) (named-byte (stated .name) newline first (b ∷ s))
-    (cond-both OneByte (digit b) (literal-byte numberKind (omega arith) newline first (numberFrom first (b ∷ s)))
+    (cond-both OneByte (startsNumber (b ∷ s)) (literal-byte numberKind (omega arith) newline first (numberFrom first (b ∷ s)))
     (cond-both OneByte (quote b) (literal-byte stringKind (omega arith) newline first (stringRest b first false (first + 1) s))
     (cond-both OneByte (stated .pattern && eqb b (byte "/")) (literal-byte patternKind (omega arith) newline first (patternRest first false false (first + 1) s))
-    (cond-both OneByte (eqb b (byte ".") && digit (getD s 0 0)) tt
-    (sign-byte newline first (b ∷ s) (longestSign (b ∷ s)) refl)))))
+    (sign-byte newline first (b ∷ s) (longestSign (b ∷ s)) refl))))
 
 after-byte : (s : List ℕ) (stated : Stated) (g : Gap) → OneByte (afterGap s stated g)
 after-byte s stated (Gap.Ends first newline) = from-byte stated newline first (drop first s)

@@ -15,7 +15,7 @@ use Rattle.text.proofs.Lists.{drop-at}
 use Rattle.words.specs.Words.{wordNumber, taken}
 use Rattle.signs.specs.Signs.{longestSign}
 use Rattle.signs.specs.declared.Longest.{Longest}
-use Rattle.answers.specs.Faults.{stray, badNumber, barredWord, barredSign}
+use Rattle.answers.specs.Faults.{stray, barredWord}
 use Rattle.literals.specs.Numbers.{numberFrom}
 use Rattle.literals.specs.Strings.{quote, stringRest}
 use Rattle.literals.specs.Patterns.{patternRest}
@@ -60,15 +60,12 @@ module _ (newline : Bool) (first : ℕ) (l : Longest) where
   pub sign-stray : l ≡ Longest.None → signOrStray newline first l ≡ Next.Fault stray first
   sign-stray e = ap (signOrStray newline first) e
 
-  module _ (number n : ℕ) (legal : Bool) (e : l ≡ Longest.Sign number n legal) where
-    pub sign-barred : legal ≡ false → signOrStray newline first l ≡ Next.Fault barredSign first
-    sign-barred f = ap (signOrStray newline first) e ∙ rw f
+  module _ (number n : ℕ) (e : l ≡ Longest.Sign number n) where
+    pub sign-delimiter : delimiter number ≡ true → signOrStray newline first l ≡ element delimiterKind number newline first (first + n)
+    sign-delimiter d = ap (signOrStray newline first) e ∙ rw d
 
-    pub sign-delimiter : legal ≡ true → delimiter number ≡ true → signOrStray newline first l ≡ element delimiterKind number newline first (first + n)
-    sign-delimiter f d = ap (signOrStray newline first) e ∙ rw (f, d)
-
-    pub sign-other : legal ≡ true → delimiter number ≡ false → signOrStray newline first l ≡ element signKind number newline first (first + n)
-    sign-other f d = ap (signOrStray newline first) e ∙ rw (f, d)
+    pub sign-other : delimiter number ≡ false → signOrStray newline first l ≡ element signKind number newline first (first + n)
+    sign-other d = ap (signOrStray newline first) e ∙ rw d
 
 -- the element whose first byte stands at i
 module _ (stated : Stated) (newline : Bool) (s : List ℕ) (i : ℕ) where
@@ -81,35 +78,33 @@ module _ (stated : Stated) (newline : Bool) (s : List ℕ) (i : ℕ) where
     second : getD (drop (i + 1) s) 0 0 ≡ getD s (i + 1) 0
     second = getD-drop (i + 1) s 0 0 ∙ rw (add-zero (i + 1))
 
+    -- a number starts here
+    abbrev numberAt : Bool
+    numberAt = digit (getD s i 0) || (eqb (getD s i 0) (byte ".") && digit (getD s (i + 1) 0))
+
     pub from-letter : letter (getD s i 0) ≡ true → elementFrom stated newline i (drop i s) ≡ named (stated .name) newline i (drop i s)
     unfolding elementFrom
     from-letter l = rw (drop-at s i h) (rw (l, elementFrom))
 
     module _ (l : letter (getD s i 0) ≡ false) where
-      pub from-digit : digit (getD s i 0) ≡ true → elementFrom stated newline i (drop i s) ≡ literalElement numberKind newline i (numberFrom i (drop i s))
+      pub from-number : numberAt ≡ true → elementFrom stated newline i (drop i s) ≡ literalElement numberKind newline i (numberFrom i (drop i s))
       unfolding elementFrom
-      from-digit d = rw (drop-at s i h) (rw (l, d, elementFrom))
+      from-number d = rw (drop-at s i h) (rw (l, second, d, elementFrom))
 
-      module _ (d : digit (getD s i 0) ≡ false) where
+      module _ (d : numberAt ≡ false) where
         pub from-quote : quote (getD s i 0) ≡ true
             → elementFrom stated newline i (drop i s) ≡ literalElement stringKind newline i (stringRest (getD s i 0) i false (i + 1) (drop (i + 1) s))
         unfolding elementFrom
-        from-quote q = rw (drop-at s i h) (rw (l, d, q, elementFrom))
+        from-quote q = rw (drop-at s i h) (rw (l, second, d, q, elementFrom))
 
         module _ (q : quote (getD s i 0) ≡ false) where
           -- a slash that opens a regular expression
           pub from-pattern : (stated .pattern && eqb (getD s i 0) (byte "/")) ≡ true
               → elementFrom stated newline i (drop i s) ≡ literalElement patternKind newline i (patternRest i false false (i + 1) (drop (i + 1) s))
           unfolding elementFrom
-          from-pattern p = rw (drop-at s i h) (rw (l, d, q, p, elementFrom))
+          from-pattern p = rw (drop-at s i h) (rw (l, second, d, q, p, elementFrom))
 
-          module _ (p : (stated .pattern && eqb (getD s i 0) (byte "/")) ≡ false) where
-            pub from-dot : (eqb (getD s i 0) (byte ".") && digit (getD s (i + 1) 0)) ≡ true
-                → elementFrom stated newline i (drop i s) ≡ Next.Fault badNumber i
-            unfolding elementFrom
-            from-dot f = rw (drop-at s i h) (rw (l, d, q, p, second, f, elementFrom))
-
-            pub from-sign : (eqb (getD s i 0) (byte ".") && digit (getD s (i + 1) 0)) ≡ false
-                → elementFrom stated newline i (drop i s) ≡ signOrStray newline i (longestSign (drop i s))
-            unfolding elementFrom
-            from-sign f = rw (drop-at s i h) (rw (l, d, q, p, second, f, elementFrom))
+          pub from-sign : (stated .pattern && eqb (getD s i 0) (byte "/")) ≡ false
+              → elementFrom stated newline i (drop i s) ≡ signOrStray newline i (longestSign (drop i s))
+          unfolding elementFrom
+          from-sign p = rw (drop-at s i h) (rw (l, second, d, q, p, elementFrom))

@@ -1,16 +1,17 @@
 -- Where gaps and literals end and where their faults lie: not before the place that they start from, and within the text.
 use mathlib.Core.Path.{_≡_, refl}
 use mathlib.Core.List.{List, [], _∷_}
-use mathlib.Core.Bool.{Bool, true, false, not, _&&_}
+use mathlib.Core.Bool.{Bool, true, false, not, _&&_, _||_, or-true}
 use Prim.Native.Nat.{ℕ, _+_, _<_, _≤_}
 use native.Mathlib.Omega.{arith}
 use lib.Dec.{eqb}
 use lib.ListN.{length, getD}
 use Rattle.text.specs.Quoted.{byte}
 use Rattle.text.specs.Bytes.{blank, lineEnd, illegal, digit, nameByte}
-use Rattle.text.proofs.Laws.{run-le, run-some}
+use Rattle.text.proofs.Laws.{run-le}
 use Rattle.gaps.specs.Gaps.{gap, afterSlash, inLine, inBlock}
-use Rattle.literals.specs.Numbers.{numberLength, numberFrom, spoilsNumber}
+use Rattle.literals.specs.Numbers.{numberLength, numberFrom}
+use Rattle.literals.proofs.NumberLaws.{number-some, number-within}
 use Rattle.literals.specs.Strings.{stringRest, backslash}
 use Rattle.literals.specs.Patterns.{patternRest}
 use Rattle.gaps.specs.declared.Gap.{Gap}
@@ -22,7 +23,7 @@ pub record Faulted (lo hi number at : ℕ) : Type 0 where
   pub from : lo ≤ at
   pub within : at < hi
   pub least : 2 ≤ number
-  pub most : number ≤ 8
+  pub most : number ≤ 7
 
 -- a gap that ends from i to hi, or has its fault from lo to before hi
 abbrev pub GapIn : ℕ → ℕ → ℕ → Gap → Type 0
@@ -133,16 +134,15 @@ module _ (s : List ℕ) (first i end : ℕ) (h : first < i) where
       rw e at (pattern-in first i (i + length s) h s i class taken (omega arith) refl) in
       p .0
 
--- a number has its first byte
-module _ (b : ℕ) (s : List ℕ) (d : digit b ≡ true) where
-  number-length : (1 ≤ numberLength (b ∷ s)) × (numberLength (b ∷ s) ≤ 1 + length s)
-  unfolding numberLength
-  number-length =
-      cond-both (λ n. (1 ≤ n) × (n ≤ 1 + length s)) (eqb b (byte "0")) (omega arith)
-      (omega (arith, run-some digit b s d, run-le digit (b ∷ s)))
+-- a number starts with a digit or a dot, and has its first byte
+pub starts-some : (a b c : Bool) → (a || (b && c)) ≡ true → (a || b) ≡ true
+starts-some true b c e = refl
+starts-some false true c e = refl
+starts-some false false c e = e
 
+module _ (b : ℕ) (s : List ℕ) (d : (digit b || eqb b (byte ".")) ≡ true) where
   pub number-in : (first hi : ℕ) → first + 1 + length s ≡ hi → LiteralIn first first hi (numberFrom first (b ∷ s))
   unfolding numberFrom
   number-in first hi e =
-      cond-both (LiteralIn first first hi) (spoilsNumber (getD (b ∷ s) (numberLength (b ∷ s)) 0))
-      (omega arith) (omega (arith, number-length))
+      cond-both (LiteralIn first first hi) (nameByte (getD (b ∷ s) (numberLength (b ∷ s)) 0))
+      (omega arith) (omega (arith, number-some b s d, number-within (b ∷ s)))

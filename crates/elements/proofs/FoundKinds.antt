@@ -13,7 +13,7 @@ use Rattle.words.specs.Words.{wordNumber, taken}
 use Rattle.signs.specs.Signs.{longestSign}
 use Rattle.signs.specs.declared.Longest.{Longest}
 use Rattle.gaps.specs.Gaps.{gap}
-use Rattle.literals.specs.Numbers.{numberFrom}
+use Rattle.literals.specs.Numbers.{startsNumber, numberFrom}
 use Rattle.literals.specs.Strings.{quote, stringRest}
 use Rattle.literals.specs.Patterns.{patternRest}
 use Rattle.elements.specs.Elements.{literalElement, named, delimiter, signOrStray, elementFrom, afterGap, elementAt, numberKind, stringKind, patternKind}
@@ -35,8 +35,7 @@ literal-kind kind h newline first (Literal.Fault number place) = tt
 
 sign-kind : (newline : Bool) (first : ℕ) (l : Longest) → KindIn (signOrStray newline first l)
 sign-kind newline first Longest.None = tt
-sign-kind newline first (Longest.Sign number n legal) =
-    cond-both KindIn legal (cond-both (λ k. k ≤ 6) (delimiter number) (omega arith) (omega arith)) tt
+sign-kind newline first (Longest.Sign number n) = cond-both (λ k. k ≤ 6) (delimiter number) (omega arith) (omega arith)
 
 named-kind : (asName newline : Bool) (first : ℕ) (s : List ℕ) → KindIn (named asName newline first s)
 unfolding named
@@ -49,11 +48,10 @@ unfolding elementFrom
 from-kind stated newline first [] = tt
 from-kind stated newline first (b ∷ s) =
     cond-both KindIn (letter b) (named-kind (stated .name) newline first (b ∷ s))
-    (cond-both KindIn (digit b) (literal-kind numberKind (omega arith) newline first (numberFrom first (b ∷ s)))
+    (cond-both KindIn (startsNumber (b ∷ s)) (literal-kind numberKind (omega arith) newline first (numberFrom first (b ∷ s)))
     (cond-both KindIn (quote b) (literal-kind stringKind (omega arith) newline first (stringRest b first false (first + 1) s))
     (cond-both KindIn (stated .pattern && eqb b (byte "/")) (literal-kind patternKind (omega arith) newline first (patternRest first false false (first + 1) s))
-    (cond-both KindIn (eqb b (byte ".") && digit (getD s 0 0)) tt
-    (sign-kind newline first (longestSign (b ∷ s)))))))
+    (sign-kind newline first (longestSign (b ∷ s))))))
 
 after-kind : (s : List ℕ) (stated : Stated) (g : Gap) → KindIn (afterGap s stated g)
 after-kind s stated (Gap.Ends first newline) = from-kind stated newline first (drop first s)

@@ -14,7 +14,7 @@ use Rattle.words.specs.Words.{wordNumber, taken}
 use Rattle.signs.specs.Signs.{longestSign}
 use Rattle.signs.specs.declared.Longest.{Longest}
 use Rattle.gaps.specs.Gaps.{gap, afterSlash, inLine, inBlock}
-use Rattle.literals.specs.Numbers.{numberFrom}
+use Rattle.literals.specs.Numbers.{startsNumber, numberFrom}
 use Rattle.literals.specs.Strings.{quote, stringRest}
 use Rattle.literals.specs.Patterns.{patternRest}
 use Rattle.elements.specs.Elements.{
@@ -89,18 +89,17 @@ module _ (newline : Bool) (first : ℕ) where
 
   sign-lined : (l : Longest) → signOrStray true first l ≡ lined (signOrStray newline first l)
   sign-lined Longest.None = refl
-  sign-lined (Longest.Sign number n legal) = cond-map lined legal refl refl
+  sign-lined (Longest.Sign number n) = refl
 
   from-lined : (stated : Stated) (s : List ℕ) → elementFrom stated true first s ≡ lined (elementFrom stated newline first s)
   unfolding elementFrom
   from-lined stated [] = refl
   from-lined stated (b ∷ s) =
       cond-map lined (letter b) (named-lined (stated .name) (b ∷ s))
-      (cond-map lined (digit b) (literal-lined numberKind (numberFrom first (b ∷ s)))
+      (cond-map lined (startsNumber (b ∷ s)) (literal-lined numberKind (numberFrom first (b ∷ s)))
       (cond-map lined (quote b) (literal-lined stringKind (stringRest b first false (first + 1) s))
       (cond-map lined (stated .pattern && eqb b (byte "/")) (literal-lined patternKind (patternRest first false false (first + 1) s))
-      (cond-map lined (eqb b (byte ".") && digit (getD s 0 0)) refl
-      (sign-lined (longestSign (b ∷ s)))))))
+      (sign-lined (longestSign (b ∷ s))))))
 
 after-lined : (s : List ℕ) (stated : Stated) (g : Gap) → afterGap s stated (linedGap g) ≡ lined (afterGap s stated g)
 after-lined s stated (Gap.Ends first newline) = from-lined newline first stated (drop first s)

@@ -3,7 +3,7 @@
 -- an equation such as `first + j ≡ there + i` says that `there` is `first` moved as far.
 use mathlib.Core.Path.{_≡_, refl, ap, _∙_}
 use mathlib.Core.List.{List, [], _∷_, _++_}
-use mathlib.Core.Bool.{Bool, true, false, cond, not, _&&_, _||_}
+use mathlib.Core.Bool.{Bool, true, false, not, _&&_, _||_}
 use Prim.Native.Nat.{ℕ, zero, suc, _+_, _<_, _≤_}
 use native.Mathlib.Omega.{arith}
 use borrow.Author.Tests.{eqb-true}
@@ -15,7 +15,8 @@ use Rattle.text.specs.Bytes.{blank, lineEnd, illegal, digit, nameByte, letter}
 use Rattle.text.specs.Runs.{run}
 use Rattle.text.proofs.Laws.{run-own}
 use Rattle.gaps.specs.Gaps.{gap, afterSlash, inLine, inBlock}
-use Rattle.literals.specs.Numbers.{numberLength, numberFrom, spoilsNumber}
+use Rattle.literals.specs.Numbers.{hexDigit, numberLength, numberFrom, exponentIndicator, plusOrMinus, hexIndicator}
+use Rattle.literals.proofs.NumberLaws.{Breaks, number-steady}
 use Rattle.literals.specs.Strings.{stringRest, backslash}
 use Rattle.literals.specs.Patterns.{patternRest}
 use Rattle.gaps.specs.declared.Gap.{Gap}
@@ -50,9 +51,17 @@ module _ (x : ℕ) (separates : (blank x || lineEnd x) ≡ true) where
   unfolding nameByte letter digit
   no-name = separator-cases (λ k. nameByte k ≡ false) refl refl refl refl refl refl x separates
 
-  spoils-not : spoilsNumber x ≡ false
-  unfolding nameByte letter digit
-  spoils-not = separator-cases (λ k. spoilsNumber k ≡ false) refl refl refl refl refl refl x separates
+  breaks : Breaks x
+  unfolding hexDigit digit
+  breaks = record {
+    decimal = no-digit;
+    hex = separator-cases (λ k. hexDigit k ≡ false) refl refl refl refl refl refl x separates;
+    zero = separator-cases (λ k. eqb k (byte "0") ≡ false) refl refl refl refl refl refl x separates;
+    dot = separator-cases (λ k. eqb k (byte ".") ≡ false) refl refl refl refl refl refl x separates;
+    exponent = separator-cases (λ k. exponentIndicator k ≡ false) refl refl refl refl refl refl x separates;
+    sign = separator-cases (λ k. plusOrMinus k ≡ false) refl refl refl refl refl refl x separates;
+    indicator = separator-cases (λ k. hexIndicator k ≡ false) refl refl refl refl refl refl x separates;
+  }
 
   slash-alone : (v : List ℕ) (i : ℕ) (newline : Bool) → afterSlash i newline (x ∷ v) ≡ Gap.Ends i newline
   unfolding afterSlash
@@ -155,19 +164,15 @@ module _ (x : ℕ) (v : List ℕ) (separates : (blank x || lineEnd x) ≡ true) 
         (pattern-own s k first other (i + 1) (j + 1) (eqb b (byte "[")) false o₁ h₁ p₁)))))) e
 
     module _ (b : ℕ) (s : List ℕ) (k : ℕ) where
-      length-own : numberLength (b ∷ s) ≤ suc k → numberLength (b ∷ take k s ++ x ∷ v) ≡ numberLength (b ∷ s)
-      unfolding numberLength
-      length-own = go (eqb b (byte "0"))
-        where
-          go : (t : Bool) → cond t 1 (run digit (b ∷ s)) ≤ suc k → cond t 1 (run digit (b ∷ take k s ++ x ∷ v)) ≡ cond t 1 (run digit (b ∷ s))
-          go true h = refl
-          go false h = run-own digit x v (no-digit x separates) (b ∷ s) (suc k) h
+      pub number-size : (first : ℕ) → end ≡ first + suc k → numberFrom first (b ∷ s) ≡ Literal.Ends end → numberLength (b ∷ s) ≡ suc k
+      unfolding numberFrom
+      number-size first p =
+          cond-both (λ z. z ≡ Literal.Ends end → numberLength (b ∷ s) ≡ suc k) (nameByte (getD (b ∷ s) (numberLength (b ∷ s)) 0))
+          no-literal (λ f. let z : first + numberLength (b ∷ s) ≡ end = cc in omega arith)
 
       pub number-own : (first other : ℕ) → k ≤ length s → end ≡ first + suc k → there ≡ other + suc k
           → numberFrom first (b ∷ s) ≡ Literal.Ends end → numberFrom other (b ∷ take k s ++ x ∷ v) ≡ Literal.Ends there
       unfolding numberFrom
       number-own first other h p q e =
-          let n : numberLength (b ∷ s) ≡ suc k =
-          cond-both (λ z. z ≡ Literal.Ends end → numberLength (b ∷ s) ≡ suc k) (spoilsNumber (getD (b ∷ s) (numberLength (b ∷ s)) 0))
-          no-literal (λ f. let z : first + numberLength (b ∷ s) ≡ end = cc in omega arith) e in
-          rw (length-own (omega arith), n, getD-at (take k s) x v 0 k (length-take-le k s h), spoils-not x separates, q)
+          let n = number-size first p e in
+          rw (number-steady x v (breaks x separates) (b ∷ s) (suc k) (omega arith) (omega arith), n, getD-at (take k s) x v 0 k (length-take-le k s h), no-name x separates, q)

@@ -1,6 +1,7 @@
 -- What the slash answer decides: nothing where no slash is met, and where one is met, between the sign `/` and a regular
 -- expression.
 use mathlib.Core.Path.{_≡_, refl, sym, ap, _∙_}
+use mathlib.Core.Logic.{_⊎_, inl, inr}
 use mathlib.Core.List.{List, [], _∷_}
 use mathlib.Core.Bool.{Bool, true, false, false≢true, cond, _&&_, _||_}
 use Prim.Native.Nat.{ℕ, _+_}
@@ -16,9 +17,8 @@ use Rattle.text.specs.Runs.{run, same}
 use Rattle.words.specs.Words.{wordNumber, taken}
 use Rattle.signs.specs.Signs.{longestOf, longestSign}
 use Rattle.signs.specs.declared.Longest.{Longest}
-use Rattle.answers.specs.Faults.{barredSign}
 use Rattle.gaps.specs.Gaps.{gap}
-use Rattle.literals.specs.Numbers.{numberFrom}
+use Rattle.literals.specs.Numbers.{startsNumber, numberFrom}
 use Rattle.literals.specs.Strings.{quote, stringRest}
 use Rattle.literals.specs.Patterns.{patternRest}
 use Rattle.elements.specs.Elements.{
@@ -47,18 +47,18 @@ use Rattle.elements.proofs.Choices.{cond-both, cond-known}
 use Rattle.elements.proofs.Clashes.{no-element}
 
 -- the longest sign that starts with a slash
-longest-slash : (s : List ℕ) → longestSign (byte "/" ∷ s) ≡ cond (eqb (getD s 0 0) (byte "=")) (Longest.Sign 48 2 false) (Longest.Sign 47 1 true)
+longest-slash : (s : List ℕ) → longestSign (byte "/" ∷ s) ≡ cond (eqb (getD s 0 0) (byte "=")) (Longest.Sign 48 2) (Longest.Sign 47 1)
 unfolding longestSign longestOf same
 longest-slash [] = refl
 longest-slash (b ∷ s) = go (eqb b (byte "=")) refl
   where
-    go : (t : Bool) → eqb b (byte "=") ≡ t → longestSign (byte "/" ∷ b ∷ s) ≡ cond t (Longest.Sign 48 2 false) (Longest.Sign 47 1 true)
+    go : (t : Bool) → eqb b (byte "=") ≡ t → longestSign (byte "/" ∷ b ∷ s) ≡ cond t (Longest.Sign 48 2) (Longest.Sign 47 1)
     go true e = rw (eqb-true b (byte "=") e)
     go false e = rw (ne-eqb (byte "=") b (λ f. eqb-false b (byte "=") e (sym f)))
 
-slash-no-delimiter : delimiter 47 ≡ false
+slash-no-delimiter : (delimiter 47 ≡ false) × (delimiter 48 ≡ false)
 unfolding delimiter longestSign longestOf same
-slash-no-delimiter = refl
+slash-no-delimiter = (refl, refl)
 
 -- the element of a text that starts with a slash, or not, at `first`
 module _ (name newline : Bool) (first : ℕ) where
@@ -74,14 +74,14 @@ module _ (name newline : Bool) (first : ℕ) where
   from-opened s = refl
 
   from-divided : (s : List ℕ) → elementFrom (stating false name) newline first (byte "/" ∷ s)
-      ≡ cond (eqb (getD s 0 0) (byte "=")) (Next.Fault barredSign first) (element signKind 47 newline first (first + 1))
+      ≡ cond (eqb (getD s 0 0) (byte "=")) (element signKind 48 newline first (first + 2)) (element signKind 47 newline first (first + 1))
   unfolding elementFrom letter digit quote
   from-divided s = rw (longest-slash s) (go (eqb (getD s 0 0) (byte "=")))
     where
-      go : (t : Bool) → signOrStray newline first (cond t (Longest.Sign 48 2 false) (Longest.Sign 47 1 true))
-          ≡ cond t (Next.Fault barredSign first) (element signKind 47 newline first (first + 1))
-      go true = refl
-      go false = rw slash-no-delimiter
+      go : (t : Bool) → signOrStray newline first (cond t (Longest.Sign 48 2) (Longest.Sign 47 1))
+          ≡ cond t (element signKind 48 newline first (first + 2)) (element signKind 47 newline first (first + 1))
+      go true = rw (slash-no-delimiter .1)
+      go false = rw (slash-no-delimiter .0)
 
 -- only a slash under the answer `true` gives a regular expression
 abbrev OpenedOnly : Bool → Next → Type 0
@@ -103,10 +103,8 @@ module _ (opens newline : Bool) (first : ℕ) where
 
   sign-only : (l : Longest) → OpenedOnly opens (signOrStray newline first l)
   sign-only Longest.None = tt
-  sign-only (Longest.Sign number n legal) =
-      cond-both (OpenedOnly opens) legal
-      (cond-both (λ (kind : ℕ). kind ≡ patternKind → opens ≡ true) (delimiter number) (λ k. absurd (omega arith)) (λ k. absurd (omega arith)))
-      tt
+  sign-only (Longest.Sign number n) =
+      cond-both (λ (kind : ℕ). kind ≡ patternKind → opens ≡ true) (delimiter number) (λ k. absurd (omega arith)) (λ k. absurd (omega arith))
 
 from-only : (stated : Stated) (newline : Bool) (first : ℕ) (s : List ℕ)
     → OpenedOnly (stated .pattern && eqb (getD s 0 0) (byte "/")) (elementFrom stated newline first s)
@@ -116,11 +114,10 @@ from-only stated newline first (b ∷ s) =
     let opens = stated .pattern && eqb b (byte "/") in
     let P = OpenedOnly opens in
     cond-both P (letter b) (named-only opens newline first (stated .name) (b ∷ s))
-    (cond-both P (digit b) (literal-only opens newline first numberKind (λ k. absurd (omega arith)) (numberFrom first (b ∷ s)))
+    (cond-both P (startsNumber (b ∷ s)) (literal-only opens newline first numberKind (λ k. absurd (omega arith)) (numberFrom first (b ∷ s)))
     (cond-both P (quote b) (literal-only opens newline first stringKind (λ k. absurd (omega arith)) (stringRest b first false (first + 1) s))
-    (cond-known P opens (λ o. literal-only opens newline first patternKind (λ k. o) (patternRest first false false (first + 1) s)) (λ o.
-    cond-both P (eqb b (byte ".") && digit (getD s 0 0)) tt
-    (sign-only opens newline first (longestSign (b ∷ s)))))))
+    (cond-known P opens (λ o. literal-only opens newline first patternKind (λ k. o) (patternRest first false false (first + 1) s))
+    (λ o. sign-only opens newline first (longestSign (b ∷ s))))))
 
 -- a text whose first byte is known; past the text's end stands a 0
 starts : (s : List ℕ) (b : ℕ) → (b ≡ 0 → ⊥) → getD s 0 0 ≡ b → s ≡ b ∷ drop 1 s
@@ -135,17 +132,16 @@ module _ (s : List ℕ) (first : ℕ) where
   here : eqb (getD s first 0) (byte "/") ≡ true → drop first s ≡ byte "/" ∷ drop (first + 1) s
   here e = starts (drop first s) (byte "/") (omega arith) (byte-at ∙ eqb-true _ _ e) ∙ ap (_∷_ (byte "/")) (drop-drop 1 first s)
 
--- the sign `/`
+-- the sign `/` or `/=`
 pub record Divide (e : Element) : Type 0 where
   pub kind : e .kind ≡ signKind
-  pub which : e .which ≡ 47
-  pub single : e .end ≡ e .first + 1
+  pub which : (e .which ≡ 47) ⊎ (e .which ≡ 48)
 
--- a slash that divides: the sign, or the fault of `/=`
-abbrev pub Divided : List ℕ → Next → Type 0
-Divided s Next.End = ⊥
-Divided s (Next.Found e) = Divide e
-Divided s (Next.Fault number at) = (number ≡ barredSign) × (getD s (at + 1) 0 ≡ byte "=")
+-- a slash that divides is a sign
+abbrev pub Divided : Next → Type 0
+Divided Next.End = ⊥
+Divided (Next.Found e) = Divide e
+Divided (Next.Fault number at) = ⊥
 
 -- a slash that opens: a regular expression, or its fault
 abbrev pub Opened : Next → Type 0
@@ -168,15 +164,16 @@ module _ (s : List ℕ) (place : ℕ) where
       go (Gap.Fault number at) e = refl
 
   -- where one is met, it is a sign or a regular expression
-  pub slash-divides : (name : Bool) → slashMet s place ≡ true → Divided s (elementAt s place (stating false name))
+  pub slash-divides : (name : Bool) → slashMet s place ≡ true → Divided (elementAt s place (stating false name))
   unfolding elementAt slashMet
   slash-divides name = go (gap place false (drop place s))
     where
-      go : (g : Gap) → slashAfter s g ≡ true → Divided s (afterGap s (stating false name) g)
+      go : (g : Gap) → slashAfter s g ≡ true → Divided (afterGap s (stating false name) g)
       go (Gap.Ends first newline) e =
           rw (here s first e, from-divided name newline first (drop (first + 1) s), byte-at s (first + 1))
-          (cond-known (Divided s) (eqb (getD s (first + 1) 0) (byte "=")) (λ t. (refl, eqb-true _ _ t))
-          (λ t. record { kind = refl; which = refl; single = refl }))
+          (cond-both Divided (eqb (getD s (first + 1) 0) (byte "="))
+          (record { kind = refl; which = inr refl })
+          (record { kind = refl; which = inl refl }))
       go (Gap.Fault number at) e = absurd (false≢true e)
 
   pub slash-opens : (name : Bool) → slashMet s place ≡ true → Opened (elementAt s place (stating true name))

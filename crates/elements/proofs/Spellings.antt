@@ -1,24 +1,25 @@
 -- The bytes of a reserved word or sign that is found are the spelling of its row, which is taken.
-use mathlib.Core.Path.{_≡_, refl, sym, _∙_}
+use Rattle.signs.proofs.Laws.{longest-fits}
+use mathlib.Core.Path.{_≡_, refl}
 use mathlib.Core.List.{List, [], _∷_}
 use mathlib.Core.Bool.{Bool, true, false, cond, _&&_, _||_}
-use Prim.Native.Nat.{ℕ, _+_, _-_, _<_}
+use Prim.Native.Nat.{ℕ, _+_, _-_, _<_, _≤_}
 use native.Mathlib.Omega.{arith}
-use borrow.Author.Tests.{eqb-false}
-use lib.Dec.{T, eqb}
+use borrow.Author.Tests.{eqb-false, lt-leb}
+use lib.Dec.{T, eqb, leb}
 use lib.ListN.{length, getD, take, drop}
 use lib.Seq.{getD-take, getD-drop}
 use Rattle.text.specs.Quoted.{byte}
 use Rattle.text.specs.Bytes.{letter, digit, nameByte}
 use Rattle.text.specs.Runs.{run}
 use Rattle.vocabulary.specs.Vocabulary.{Row, words, signs, spelling, isTaken, rowAt}
-use Rattle.vocabulary.proofs.RowLaws.{eachTaken, at-taken}
+use Rattle.vocabulary.proofs.RowLaws.{eachTaken, at-taken, at-row}
 use Rattle.words.specs.Words.{wordNumber, taken}
 use Rattle.words.proofs.Spellings.{word-spelled}
 use Rattle.signs.specs.Signs.{longestSign}
 use Rattle.signs.specs.declared.Longest.{Longest}
 use Rattle.signs.proofs.Spellings.{longest-spelled}
-use Rattle.literals.specs.Numbers.{numberFrom}
+use Rattle.literals.specs.Numbers.{startsNumber, numberFrom}
 use Rattle.literals.specs.Strings.{quote, stringRest}
 use Rattle.literals.specs.Patterns.{patternRest}
 use Rattle.literals.specs.declared.Literal.{Literal}
@@ -69,6 +70,17 @@ neither : (a b : Bool) → (a || b) ≡ false → a ≡ false
 neither true b h = h
 neither false b h = refl
 
+-- all signs are taken
+sign-taken : (number : ℕ) → 1 ≤ length (spelling (rowAt signs number)) → isTaken (rowAt signs number) ≡ true
+sign-taken number h =
+    one (leb (length (spelling (rowAt signs number))) 0) (isTaken (rowAt signs number)) (lt-leb (length (spelling (rowAt signs number))) 0 h)
+    (at-row (λ n row. leb (length (spelling row)) 0 || isTaken row) signs tt number tt)
+  where
+    one : (a b : Bool) → a ≡ false → T (a || b) → b ≡ true
+    one true b e t = absurd (let z : _≡_ {A = ℕ} 0 1 = cc in omega arith)
+    one false true e t = refl
+    one false false e t = absurd t
+
 module _ (newline : Bool) (first : ℕ) (s : List ℕ) where
   literal-spelled : (kind : ℕ) → (kind ≡ wordKind → ⊥) → (kind ≡ signKind → ⊥) → (l : Literal) → NextSpelled s (literalElement kind newline first l)
   literal-spelled kind w g (Literal.Ends end) = other-spelled s _ w g
@@ -91,16 +103,14 @@ module _ (newline : Bool) (first : ℕ) (s : List ℕ) where
 
   sign-spelled : (l : Longest) → longestSign s ≡ l → NextSpelled s (signOrStray newline first l)
   sign-spelled Longest.None e = tt
-  sign-spelled (Longest.Sign number n legal) e =
-      let is = longest-spelled s number n legal e in
+  sign-spelled (Longest.Sign number n) e =
+      let is = longest-spelled s number n e in
       let whole : first + n - first ≡ n = omega arith in
-      cond-known (NextSpelled s) legal
-      (λ allowed. record {
+      record {
         word = λ k. absurd (no-word (delimiter number) k);
-        sign = λ k. rw whole (record { spelled = is .own; taken = sym (is .allowed) ∙ allowed });
+        sign = λ k. rw whole (record { spelled = is .own; taken = sign-taken number (rw (← is .long) (longest-fits s number n e .0)) });
         apart = λ k. no-delimiter (delimiter number) k;
-      })
-      (λ barred. tt)
+      }
     where
       no-word : (d : Bool) → cond d delimiterKind signKind ≡ wordKind → ⊥
       no-word true k = omega arith
@@ -117,15 +127,14 @@ from-spelled stated newline first (b ∷ t) =
     let s = b ∷ t in
     let P = NextSpelled s in
     cond-both P (letter b) (named-spelled newline first s (stated .name))
-    (cond-both P (digit b) (literal-spelled newline first s numberKind (λ k. omega arith) (λ k. omega arith) (numberFrom first s))
+    (cond-both P (startsNumber s) (literal-spelled newline first s numberKind (λ k. omega arith) (λ k. omega arith) (numberFrom first s))
     (cond-both P (quote b) (literal-spelled newline first s stringKind (λ k. omega arith) (λ k. omega arith) (stringRest b first false (first + 1) t))
     (cond-both P (stated .pattern && eqb b (byte "/")) (literal-spelled newline first s patternKind (λ k. omega arith) (λ k. omega arith) (patternRest first false false (first + 1) t))
-    (cond-both P (eqb b (byte ".") && digit (getD t 0 0)) tt
-    (sign-spelled newline first s (longestSign s) refl)))))
+    (sign-spelled newline first s (longestSign s) refl))))
 
--- a test of a row's length, first byte and number
-abbrev pub byFirst : (ℕ → ℕ → ℕ → Bool) → ℕ → Row → Bool
-byFirst test number row = test (length (spelling row)) (getD (spelling row) 0 0) number
+-- a test of a row's length, its first and last bytes, and its number
+abbrev pub byEnds : (ℕ → ℕ → ℕ → ℕ → Bool) → ℕ → Row → Bool
+byEnds test number row = test (length (spelling row)) (getD (spelling row) 0 0) (getD (spelling row) (length (spelling row) - 1) 0) number
 
 module _ (s : List ℕ) (place : ℕ) (stated : Stated) (e : Element) (found : elementAt s place stated ≡ Next.Found e) where
   found-spelled : ElementSpelled (drop (e .first) s) e
@@ -141,19 +150,31 @@ module _ (s : List ℕ) (place : ℕ) (stated : Stated) (e : Element) (found : e
   sign-which k = found-spelled .apart k
 
   -- what a test says of each row that is taken, it says of the bytes that such a row spells
-  row-passes : (test : ℕ → ℕ → ℕ → Bool) (rows : List Row) → T (eachTaken (byFirst test) rows) → Spelled rows (lexemeOf s e) (e .which)
-      → T (test (e .end - e .first) (getD s (e .first) 0) (e .which))
+  row-passes : (test : ℕ → ℕ → ℕ → ℕ → Bool) (rows : List Row) → T (eachTaken (byEnds test) rows) → Spelled rows (lexemeOf s e) (e .which)
+      → T (test (e .end - e .first) (getD s (e .first) 0) (getD s (e .end - 1) 0) (e .which))
   row-passes test rows t is =
-      let some : 0 < e .end - e .first = omega (arith, found-placed s place stated e found) in
+      let placed = found-placed s place stated e found in
+      let some : 0 < e .end - e .first = omega (arith, placed) in
+      let last : e .end - e .first - 1 < e .end - e .first = omega arith in
       let at : e .first + 0 ≡ e .first = omega arith in
-      rw (← is .spelled, found-lexeme s place stated e found, getD-take (e .end - e .first) (drop (e .first) s) 0 0 some, getD-drop (e .first) s 0 0, at)
-      at (at-taken (byFirst test) rows t (e .which) (is .taken))
+      let end : e .first + (e .end - e .first - 1) ≡ e .end - 1 = omega (arith, placed) in
+      rw (
+        ← is .spelled,
+        found-lexeme s place stated e found,
+        getD-take (e .end - e .first) (drop (e .first) s) 0 0 some,
+        getD-drop (e .first) s 0 0,
+        at,
+        getD-take (e .end - e .first) (drop (e .first) s) (e .end - e .first - 1) 0 last,
+        getD-drop (e .first) s (e .end - e .first - 1) 0,
+        end,
+      )
+      at (at-taken (byEnds test) rows t (e .which) (is .taken))
 
-  pub word-passes : (test : ℕ → ℕ → ℕ → Bool) → T (eachTaken (byFirst test) words) → e .kind ≡ wordKind
-      → T (test (e .end - e .first) (getD s (e .first) 0) (e .which))
+  pub word-passes : (test : ℕ → ℕ → ℕ → ℕ → Bool) → T (eachTaken (byEnds test) words) → e .kind ≡ wordKind
+      → T (test (e .end - e .first) (getD s (e .first) 0) (getD s (e .end - 1) 0) (e .which))
   word-passes test t k = row-passes test words t (word-spelling k)
 
   -- of signs, the delimiters are left out
-  pub sign-passes : (test : ℕ → ℕ → ℕ → Bool) → T (eachTaken (byFirst (λ len b number. delimiter number || test len b number)) signs)
-      → e .kind ≡ signKind → T (test (e .end - e .first) (getD s (e .first) 0) (e .which))
-  sign-passes test t k = rw (sign-which k) at (row-passes (λ len b number. delimiter number || test len b number) signs t (sign-spelling k))
+  pub sign-passes : (test : ℕ → ℕ → ℕ → ℕ → Bool) → T (eachTaken (byEnds (λ len b last number. delimiter number || test len b last number)) signs)
+      → e .kind ≡ signKind → T (test (e .end - e .first) (getD s (e .first) 0) (getD s (e .end - 1) 0) (e .which))
+  sign-passes test t k = rw (sign-which k) at (row-passes (λ len b last number. delimiter number || test len b last number) signs t (sign-spelling k))

@@ -17,7 +17,7 @@ use Rattle.signs.specs.declared.Longest.{Longest}
 use Rattle.answers.specs.Faults.{barredWord}
 use Rattle.gaps.specs.Gaps.{gap}
 use Rattle.gaps.specs.declared.Gap.{Gap}
-use Rattle.literals.specs.Numbers.{numberFrom}
+use Rattle.literals.specs.Numbers.{startsNumber, numberFrom}
 use Rattle.literals.specs.Strings.{quote, stringRest}
 use Rattle.literals.specs.Patterns.{patternRest}
 use Rattle.literals.specs.declared.Literal.{Literal}
@@ -104,8 +104,8 @@ module _ (asName newline : Bool) (first : ℕ) where
 
   sign-reserved : (l : Longest) → NextReserved false asName (signOrStray newline first l)
   sign-reserved Longest.None = tt
-  sign-reserved (Longest.Sign number n legal) =
-      cond-both (NextReserved false asName) legal (plain _ (no-kind wordKind (omega arith) (omega arith) (delimiter number)) (no-kind nameKind (omega arith) (omega arith) (delimiter number))) tt
+  sign-reserved (Longest.Sign number n) =
+      plain _ (no-kind wordKind (omega arith) (omega arith) (delimiter number)) (no-kind nameKind (omega arith) (omega arith) (delimiter number))
     where
       no-kind : (kind : ℕ) → (delimiterKind ≡ kind → ⊥) → (signKind ≡ kind → ⊥) → (d : Bool) → cond d delimiterKind signKind ≡ kind → ⊥
       no-kind kind a b true k = a k
@@ -118,14 +118,13 @@ from-reserved stated newline first (b ∷ s) =
     let P = NextReserved (startsWithWord (b ∷ s)) (stated .name) in
     cond-known P (letter b) (λ l. rw l (named-reserved (stated .name) newline first (b ∷ s))) λ l.
     rw l
-    (cond-both (NextReserved false (stated .name)) (digit b)
+    (cond-both (NextReserved false (stated .name)) (startsNumber (b ∷ s))
     (literal-reserved (stated .name) newline first numberKind (λ k. omega arith) (λ k. omega arith) (numberFrom first (b ∷ s)))
     (cond-both (NextReserved false (stated .name)) (quote b)
     (literal-reserved (stated .name) newline first stringKind (λ k. omega arith) (λ k. omega arith) (stringRest b first false (first + 1) s))
     (cond-both (NextReserved false (stated .name)) (stated .pattern && eqb b (byte "/"))
     (literal-reserved (stated .name) newline first patternKind (λ k. omega arith) (λ k. omega arith) (patternRest first false false (first + 1) s))
-    (cond-both (NextReserved false (stated .name)) (eqb b (byte ".") && digit (getD s 0 0)) tt
-    (sign-reserved (stated .name) newline first (longestSign (b ∷ s)))))))
+    (sign-reserved (stated .name) newline first (longestSign (b ∷ s))))))
 
 -- a text that starts with a reserved word
 letter-first : (a b : Bool) → (a && not b) ≡ true → (a ≡ true) × (b ≡ false)
@@ -176,16 +175,16 @@ literal-goes-on kind newline first (Literal.Fault number at) = tt
 
 sign-goes-on : (newline : Bool) (first : ℕ) (l : Longest) → GoesOn (signOrStray newline first l)
 sign-goes-on newline first Longest.None = tt
-sign-goes-on newline first (Longest.Sign number n legal) = cond-both GoesOn legal tt tt
+sign-goes-on newline first (Longest.Sign number n) = tt
 
 from-goes-on : (stated : Stated) (newline : Bool) (first b : ℕ) (s : List ℕ) → GoesOn (elementFrom stated newline first (b ∷ s))
 unfolding elementFrom named
 from-goes-on stated newline first b s =
     cond-both GoesOn (letter b) (cond-both GoesOn (eqb (firstWord (b ∷ s)) 0 || stated .name) tt (cond-both GoesOn (taken (firstWord (b ∷ s))) tt tt))
-    (cond-both GoesOn (digit b) (literal-goes-on numberKind newline first (numberFrom first (b ∷ s)))
+    (cond-both GoesOn (startsNumber (b ∷ s)) (literal-goes-on numberKind newline first (numberFrom first (b ∷ s)))
     (cond-both GoesOn (quote b) (literal-goes-on stringKind newline first (stringRest b first false (first + 1) s))
     (cond-both GoesOn (stated .pattern && eqb b (byte "/")) (literal-goes-on patternKind newline first (patternRest first false false (first + 1) s))
-    (cond-both GoesOn (eqb b (byte ".") && digit (getD s 0 0)) tt (sign-goes-on newline first (longestSign (b ∷ s)))))))
+    (sign-goes-on newline first (longestSign (b ∷ s))))))
 
 from-end : (given other : Stated) (newline : Bool) (first : ℕ) (s : List ℕ) → elementFrom given newline first s ≡ Next.End → elementFrom other newline first s ≡ Next.End
 unfolding elementFrom

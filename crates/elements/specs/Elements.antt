@@ -14,9 +14,9 @@ use Rattle.words.specs.Words.{wordNumber, taken}
 use Rattle.signs.specs.Signs.{longestSign}
 use Rattle.signs.specs.declared.Longest.{Longest}
 use Rattle.answers.specs.Answers.{Tells}
-use Rattle.answers.specs.Faults.{stray, badNumber, barredWord, barredSign}
+use Rattle.answers.specs.Faults.{stray, barredWord}
 use Rattle.gaps.specs.Gaps.{gap}
-use Rattle.literals.specs.Numbers.{numberFrom}
+use Rattle.literals.specs.Numbers.{startsNumber, numberFrom}
 use Rattle.literals.specs.Strings.{quote, stringRest}
 use Rattle.literals.specs.Patterns.{patternRest}
 use Rattle.gaps.specs.declared.Gap.{Gap}
@@ -25,7 +25,7 @@ use Rattle.elements.specs.declared.Next.{Next}
 use Rattle.elements.specs.declared.Stated.{Stated}
 
 -- Kinds of elements, as Records numbers them. A delimiter has none of its own: the kind of a brace's group is not settled by
--- its bytes.
+-- its bytes. Nor are kinds 11 to 13, of `++`, `--` and `:`: here these are signs, and the prefix rule settles them (`settledIn` of Levels.antt of `rule`).
 abbrev pub delimiterKind : ℕ
 delimiterKind = 0
 
@@ -80,7 +80,7 @@ named asName newline first s = wordOrName asName (firstWord s) newline first (fi
 -- the number of a sign
 abbrev pub numberOfSign : Longest → ℕ
 numberOfSign Longest.None = 0
-numberOfSign (Longest.Sign number n legal) = number
+numberOfSign (Longest.Sign number n) = number
 
 -- the delimiters: "`( ) { }`", and `[ ]` of document 02, U2
 abbrev pub parenOpener : ℕ
@@ -105,24 +105,21 @@ unfoldable pub delimiter : ℕ → Bool
 delimiter sign =
     eqb sign braceOpener || eqb sign braceCloser || eqb sign parenOpener || eqb sign parenCloser || eqb sign bracketOpener || eqb sign bracketCloser
 
--- "Signs: the longest of the 48 signs of ES5.1 section 7.7 is taken", and refused if it is not legal here
+-- "Signs: the longest of the 48 signs of ES5.1 section 7.7 is taken"; by document 02, U4, all are legal
 abbrev pub signOrStray : Bool → ℕ → Longest → Next
 signOrStray newline first Longest.None = Next.Fault stray first
-signOrStray newline first (Longest.Sign number n legal) =
-    cond legal (element (cond (delimiter number) delimiterKind signKind) number newline first (first + n)) (Next.Fault barredSign first)
+signOrStray newline first (Longest.Sign number n) = element (cond (delimiter number) delimiterKind signKind) number newline first (first + n)
 
 -- The element at `first`, where the list is the text from there on and no blank, line end or comment starts there. "A slash
--- that opens a regular expression is not a sign." "A `.` directly before a digit is refused too." An illegal byte starts no
--- sign, so it is stray.
+-- that opens a regular expression is not a sign." An illegal byte starts no sign, so it is stray.
 unfoldable pub elementFrom : Stated → Bool → ℕ → List ℕ → Next
 elementFrom stated newline first [] = Next.End
 elementFrom stated newline first (b ∷ s) =
     cond (letter b) (named (stated .name) newline first (b ∷ s))
-    (cond (digit b) (literalElement numberKind newline first (numberFrom first (b ∷ s)))
+    (cond (startsNumber (b ∷ s)) (literalElement numberKind newline first (numberFrom first (b ∷ s)))
     (cond (quote b) (literalElement stringKind newline first (stringRest b first false (first + 1) s))
     (cond (stated .pattern && eqb b (byte "/")) (literalElement patternKind newline first (patternRest first false false (first + 1) s))
-    (cond (eqb b (byte ".") && digit (getD s 0 0)) (Next.Fault badNumber first)
-    (signOrStray newline first (longestSign (b ∷ s)))))))
+    (signOrStray newline first (longestSign (b ∷ s))))))
 
 -- what follows a gap
 abbrev pub afterGap : List ℕ → Stated → Gap → Next

@@ -1,15 +1,14 @@
 // The cutting of a text into elements: the element at a place under stated answers.
 ghost use mathlib.Core.Path.{_≡_};
-ghost use mathlib.Core.Bool.{_&&_};
+ghost use mathlib.Core.Bool.{_&&_, _||_};
 ghost use Prim.Native.Nat.{_+_, _<_};
 ghost use lib.Dec.{eqb};
 ghost use lib.ListN.{length, drop, getD};
 ghost use Rattle.text.specs.Bytes.{digit};
-ghost use Rattle.text.specs.Machinery.Codes.{byteCodes};
-ghost use Rattle.elements.specs.Elements.{literalElement, named, delimiter, signOrStray, elementFrom, Finds};
+ghost use Rattle.text.specs.Machinery.Codes.{byteCodes, codeOf};
+ghost use Rattle.literals.specs.Numbers.{numberFrom};
+ghost use Rattle.elements.specs.Elements.{numberKind, literalElement, named, delimiter, signOrStray, elementFrom, Finds};
 ghost use Rattle.signs.specs.Signs.{longestSign};
-use answers::faults::BAD_NUMBER;
-use answers::faults::BARRED_SIGN;
 use answers::faults::BARRED_WORD;
 use answers::faults::STRAY;
 use gaps::Gap;
@@ -72,6 +71,19 @@ fn literal_element(kind: u32, first: usize, newline: bool, cut: Literal) -> Next
         }),
         Literal::Fault(number, place) => Next::Fault(number, place),
     }
+}
+
+// The number at `first`.
+fn number_element(codes: &[u8], text: &[u8], first: usize, newline: bool) -> Next
+    requires { ⌜ now codes ≡ byteCodes ⌝ }
+    ensures { λ r. ⌜ r ≡ literalElement numberKind newline first (numberFrom first (drop first (now (text .entry)))) ⌝ }
+{
+    literal_element(
+        NUMBER,
+        first,
+        newline,
+        numbers::number_at(codes, text, first),
+    )
 }
 
 // The name or reserved word at `first`, where reserved words are names or not.
@@ -139,12 +151,9 @@ fn sign_element(text: &[u8], first: usize, newline: bool) -> Next
     ensures { λ r. ⌜ r ≡ signOrStray newline first (longestSign (drop first (now (text .entry)))) ⌝ }
 {
     let longest = signs::sign_at(text, first);
-    let Longest::Sign(which, len, legal) = longest else {
+    let Longest::Sign(which, len) = longest else {
         return Next::Fault(STRAY, first);
     };
-    if !legal {
-        return Next::Fault(BARRED_SIGN, first);
-    }
     let end = first + len;
     if is_delimiter(which) {
         return Next::Found(Element {
@@ -183,6 +192,17 @@ fn is_dot_before_digit(codes: &[u8], text: &[u8], b: u8, at: usize) -> bool
     text::code(codes, byte_after(text, at)) == text::DIGIT
 }
 
+// Whether a number starts with the byte `b` of a code at a place. One test for both forms: a scanner with two callers is not set into the reading loop.
+fn starts_number(codes: &[u8], text: &[u8], code: u8, b: u8, at: usize) -> bool
+    requires { ⌜ (now codes ≡ byteCodes) × (at < length (now text)) × (code ≡ codeOf b) ⌝ }
+    ensures { λ r. ⌜ r ≡ (digit b || (eqb b 46 && digit (getD (now (text .entry)) (at + 1) 0))) ⌝ }
+{
+    if code == text::DIGIT {
+        return true;
+    }
+    is_dot_before_digit(codes, text, b, at)
+}
+
 // Whether the byte `b` is a slash that opens a regular expression.
 fn is_pattern_slash(b: u8, pattern: bool) -> bool
     ensures { λ r. ⌜ r ≡ (pattern && eqb b 47) ⌝ }
@@ -206,13 +226,8 @@ fn element_from(codes: &[u8], text: &[u8], first: usize, newline: bool, stated: 
     if code == text::LETTER {
         return name_element(codes, text, first, newline, stated.name);
     }
-    if code == text::DIGIT {
-        return literal_element(
-            NUMBER,
-            first,
-            newline,
-            numbers::number_at(codes, text, first),
-        );
+    if starts_number(codes, text, code, b, first) {
+        return number_element(codes, text, first, newline);
     }
     if strings::is_quote(b) {
         return literal_element(
@@ -229,9 +244,6 @@ fn element_from(codes: &[u8], text: &[u8], first: usize, newline: bool, stated: 
             newline,
             patterns::pattern_rest(codes, text, first, first + 1),
         );
-    }
-    if is_dot_before_digit(codes, text, b, first) {
-        return Next::Fault(BAD_NUMBER, first);
     }
     sign_element(text, first, newline)
 }

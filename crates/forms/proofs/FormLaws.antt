@@ -1,45 +1,66 @@
 -- Rows inside forms, by the classes that they list.
 use mathlib.Core.Path.{_≡_, refl, sym, _∙_, ap, subst}
 use mathlib.Core.Bool.{Bool, true, false, cond}
-use mathlib.Core.List.{[], _∷_}
-use Prim.Native.Nat.{ℕ, zero, suc, _≤_}
-use native.Mathlib.Omega.{arith}
-use borrow.Author.Tests.{ne-eqb, eqb-false}
-use lib.Dec.{T, eqb, leb, leb→le}
-use Rattle.grammar.specs.Tokens.{colon, openParen, openBrace, openBracket, functionWord}
-use Rattle.grammar.specs.Machinery.Machine.{Setting, Ending, statementDue, nameFirst, operandDone, takeLeaf, takeLabel, on, fail, goto, look, operand, noParameter, row}
-use Rattle.grammar.specs.Machinery.Classes.{isLeaf, isEnd, isSingle}
+use mathlib.Core.List.{List, [], _∷_}
+use Prim.Native.Nat.{ℕ}
+use borrow.Author.Tests.{eqb-true, ne-eqb}
+use lib.Dec.{T, eqb}
+use Rattle.machine.specs.Tokens.{name, newWord, colon, openParen, openBrace, openBracket, functionWord}
+use Rattle.machine.specs.Operators.{prefixOperators, prefixKind, isAmong}
+use Rattle.machine.specs.Scopes.{arrayElements, objectProperties}
+use Rattle.machine.specs.Machinery.Machine.{Setting, Ending, byParen, operandIn, statementDue, nameFirst, operandDue, memberDue, operandDone, functionFirst, itemDue, takeLeaf, takePrefix, takeLabel, holdWord, toParens, toArray, toObject, Entry, on, Action, fail, goto, push, look, values, primaries, operand, member, noParameter, row}
+use Rattle.machine.specs.Machinery.Classes.{isLeaf, isEnd, isSingle}
+use Rattle.controls.proofs.ClassLaws.{among-all, among-apart, leaf-among}
 use Rattle.controls.proofs.EndLaws.{NoCloser, at-closers}
+use Rattle.forms.proofs.EntryLaws.{among-entry, other-entry}
 
-leaf-few : (class : ℕ) → isLeaf class ≡ true → (1 ≤ class) × (class ≤ 4)
-leaf-few class e = go (eqb class 0) refl (leb class 4) refl e
-  where
-    go : (a : Bool) → eqb class 0 ≡ a → (b : Bool) → leb class 4 ≡ b → cond a false b ≡ true → (1 ≤ class) × (class ≤ 4)
-    go true x b y e = absurd (subst T (sym e) tt)
-    go false x true y e = let f = eqb-false class 0 x in (omega (arith, f), leb→le class 4 (rw y tt))
-    go false x false y e = absurd (subst T (sym e) tt)
+module _ (class : ℕ) (ending : Ending) (target : Bool) where
+  -- what `primaries` has besides values
+  abbrev groups : List Entry
+  groups =
+      on openParen (push (operandDue byParen true) (operandDone ending target) toParens)
+      ∷ on openBracket (push (itemDue arrayElements) (operandDone ending target) toArray)
+      ∷ on newWord (goto (memberDue ending target) (takePrefix newWord))
+      ∷ []
 
--- the four leaves at once
-pub leaf-row : (class : ℕ) (ending : Ending) (target : Bool) → isLeaf class ≡ true
-    → (look class (operand ending target) ≡ goto (operandDone ending target) (takeLeaf class)) × T (isSingle class)
-leaf-row class ending target e = go class (leaf-few class e .0) (leaf-few class e .1)
-  where
-    go : (k : ℕ) → 1 ≤ k → k ≤ 4 → (look k (operand ending target) ≡ goto (operandDone ending target) (takeLeaf k)) × T (isSingle k)
-    go zero a b = absurd (omega arith)
-    go (suc zero) a b = (refl, tt)
-    go (suc (suc zero)) a b = (refl, tt)
-    go (suc (suc (suc zero))) a b = (refl, tt)
-    go (suc (suc (suc (suc zero)))) a b = (refl, tt)
-    go (suc (suc (suc (suc (suc n))))) a b = absurd (omega arith)
+  -- the leaves at once
+  pub leaf-row : isLeaf class ≡ true → (look class (member ending target) ≡ goto (operandDone ending target) (takeLeaf class)) × T (isSingle class)
+  leaf-row is = go (eqb class name) refl (sym (leaf-among class) ∙ is)
+    where
+      go : (b : Bool) → eqb class name ≡ b → cond b true (isAmong values class) ≡ true
+          → (look class (member ending target) ≡ goto (operandDone ending target) (takeLeaf class)) × T (isSingle class)
+      go true e is = rw (eqb-true class name e) (refl, tt)
+      go false e is = (
+        rw (e, among-apart class values openBrace refl is, among-apart class values functionWord refl is)
+            (among-entry class (λ class. goto (operandDone ending target) (takeLeaf class)) values groups is),
+        among-all class isSingle values tt is,
+      )
 
-not-leaf : (class k : ℕ) → isLeaf k ≡ true → isLeaf class ≡ false → eqb class k ≡ false
-not-leaf class k t f = ne-eqb class k (λ e. subst T (sym t ∙ ap isLeaf (sym e) ∙ f) tt)
+  -- operators before an operand at once, and what is no such operator
+  pub prefix-row : isAmong prefixOperators class ≡ true
+      → (look class (operand ending target) ≡ goto (operandDue ending false) (takePrefix (prefixKind class))) × T (isSingle class)
+  prefix-row is = (
+    rw (among-apart class prefixOperators name refl is, among-apart class prefixOperators openBrace refl is, among-apart class prefixOperators functionWord refl is)
+        (among-entry class (λ class. goto (operandDue ending false) (takePrefix (prefixKind class))) prefixOperators (primaries ending target []) is),
+    among-all class isSingle prefixOperators tt is,
+  )
 
--- a class that starts no operand
-pub no-operand : (class : ℕ) (ending : Ending) (target : Bool) → isLeaf class ≡ false → (class ≡ openParen → ⊥) → (class ≡ openBrace → ⊥) → (class ≡ openBracket → ⊥)
-    → (class ≡ functionWord → ⊥) → look class (operand ending target) ≡ fail
-no-operand class ending target f a b d e =
-    simp (not-leaf class 1 refl f, not-leaf class 2 refl f, not-leaf class 3 refl f, not-leaf class 4 refl f, ne-eqb class openParen a, ne-eqb class openBrace b, ne-eqb class openBracket d, ne-eqb class functionWord e)
+  pub no-prefix-row : isAmong prefixOperators class ≡ false → look class (operand ending target) ≡ look class (member ending target)
+  no-prefix-row none =
+      ap (λ (x : Action). cond (eqb class name) (goto (operandDone ending target) (takeLeaf name)) (cond (eqb class openBrace) (push (itemDue objectProperties) (operandDone ending target) toObject) (cond (eqb class functionWord) (goto (functionFirst (operandIn ending target)) holdWord) x)))
+      (other-entry class (λ class. goto (operandDue ending false) (takePrefix (prefixKind class))) prefixOperators (primaries ending target []) none)
+
+  -- a class that starts no operand
+  pub no-member : isLeaf class ≡ false → (class ≡ openParen → ⊥) → (class ≡ openBrace → ⊥) → (class ≡ openBracket → ⊥) → (class ≡ functionWord → ⊥)
+      → (class ≡ newWord → ⊥) → look class (member ending target) ≡ fail
+  no-member none a b c d e = go (eqb class name) refl (sym (leaf-among class) ∙ none)
+    where
+      go : (t : Bool) → eqb class name ≡ t → cond t true (isAmong values class) ≡ false → look class (member ending target) ≡ fail
+      go true e none = absurd (subst T none tt)
+      go false f none =
+          rw (f, ne-eqb class openBrace b, ne-eqb class functionWord d)
+          (other-entry class (λ class. goto (operandDone ending target) (takeLeaf class)) values groups none
+          ∙ rw (ne-eqb class openParen a, ne-eqb class openBracket c, ne-eqb class newWord e))
 
 -- a name that is held, before `:`
 pub label-row : (class : ℕ) (setting : Setting) (newline : Bool) → class ≡ colon

@@ -2,12 +2,13 @@
 ghost use mathlib.Core.Bool.{Bool, false};
 ghost use mathlib.Core.List.{[], _∷_};
 ghost use Prim.Native.Nat.{ℕ, _≤_};
+ghost use mathlib.Core.Path.{_≡_};
 ghost use lib.Dec.{T};
-ghost use Rattle.grammar.specs.Grammar.{arrayElements};
-ghost use Rattle.grammar.specs.Machinery.Machine.{itemDue, operandIn, functionFirst, on, goto, push, look, names, operand, itemRow, row};
+ghost use Rattle.machine.specs.Scopes.{arrayElements};
+ghost use Rattle.machine.specs.Machinery.Machine.{itemDue, operandIn, functionFirst, on, goto, push, look, names, operand, member, itemRow, row};
 ghost use Rattle.controls.specs.Machinery.Numbers.{itemsBy, endingBy, controlBy, effectBy, closingBy, insideBy};
-ghost use Rattle.grammar.specs.Machinery.Classes.{isOpener, isSingle};
-ghost use Rattle.controls.specs.Machinery.Steps.{Due, Leads, Spans, Means, Goes, Opens, SettledAt};
+ghost use Rattle.machine.specs.Machinery.Classes.{isOpener, isSingle};
+ghost use Rattle.controls.specs.Machinery.Steps.{Due, takesPrefix, Leads, Spans, Means, Goes, Opens, SettledAt};
 use controls::BODY;
 use controls::BY_ARGUMENT;
 use controls::BY_ELEMENT;
@@ -25,6 +26,7 @@ use controls::IF_FIRST;
 use controls::IF_NEST;
 use controls::ITEM_DUE;
 use controls::KEEP;
+use controls::MEMBER_DUE;
 use controls::NAME_FIRST;
 use controls::OPERAND_DONE;
 use controls::OPERAND_DUE;
@@ -38,6 +40,7 @@ use controls::Step;
 use controls::TAKE_LABEL;
 use controls::TAKE_LEAF;
 use controls::TAKE_MEMBER;
+use controls::TAKE_PREFIX;
 use controls::TO_ARRAY;
 use controls::TO_CONDITION;
 use controls::TO_DECLARATION;
@@ -45,8 +48,9 @@ use controls::TO_FUNCTION;
 use controls::TO_OBJECT;
 use controls::TO_PARAMETER;
 use controls::TO_PARENS;
+use controls::bindings;
 use controls::stand;
-use grammar::tokens;
+use machine::tokens;
 
 // Goes on to where the parts say.
 pub fn goto(place: u32, ending: u32, setting: u32, flag: bool, effect: u32) -> Step
@@ -62,9 +66,22 @@ pub fn push(place: u32, ending: u32, setting: u32, flag: bool, closing: u32) -> 
     Step::Push(stand(place, ending, setting, flag), closing)
 }
 
-// Where an operand is due, and may be assigned to or not.
+// Where an operand is due, and may be assigned to or not: an operator before one, or what `member_row` takes.
 pub fn operand_row(class: u32, ending: u32, setting: u32, target: bool) -> Step
-    ensures { λ r. ⌜ ((from : Rattle.grammar.specs.Machinery.Machine.Control) → Due from (endingBy ending setting) target → Means from class r (look class (operand (endingBy ending setting) target))) ⌝ }
+    ensures { λ r. ⌜ ((from : Rattle.machine.specs.Machinery.Machine.Control) (due : Due from (endingBy ending setting) target) → T (takesPrefix due) → Means from class r (look class (operand (endingBy ending setting) target))) ⌝ }
+{
+    if class == tokens::NAME {
+        return goto(OPERAND_DONE, ending, setting, target, TAKE_LEAF);
+    }
+    if bindings::is_prefix(class) {
+        return goto(OPERAND_DUE, ending, setting, false, TAKE_PREFIX);
+    }
+    member_row(class, ending, setting, target)
+}
+
+// Behind `new`, where no operator may come.
+fn member_row(class: u32, ending: u32, setting: u32, target: bool) -> Step
+    ensures { λ r. ⌜ ((from : Rattle.machine.specs.Machinery.Machine.Control) → Due from (endingBy ending setting) target → Means from class r (look class (member (endingBy ending setting) target))) ⌝ }
 {
     if controls::is_leaf(class) {
         return goto(OPERAND_DONE, ending, setting, target, TAKE_LEAF);
@@ -81,6 +98,9 @@ pub fn operand_row(class: u32, ending: u32, setting: u32, target: bool) -> Step
     if class == tokens::FUNCTION {
         return goto(FUNCTION_FIRST, ending, setting, target, HOLD_WORD);
     }
+    if class == tokens::NEW {
+        return goto(MEMBER_DUE, ending, setting, target, TAKE_PREFIX);
+    }
     Step::Fail
 }
 
@@ -94,7 +114,7 @@ fn only(
     flag: bool,
     effect: u32,
 ) -> Step
-    ensures { λ r. ⌜ ((from : Rattle.grammar.specs.Machinery.Machine.Control) → T (isSingle one) → Leads (effectBy effect one) from (controlBy place ending setting flag) → Means from class r (look class (on one (goto (controlBy place ending setting flag) (effectBy effect one)) ∷ []))) ⌝ }
+    ensures { λ r. ⌜ ((from : Rattle.machine.specs.Machinery.Machine.Control) → T (isSingle one) → Leads (effectBy effect one) from (controlBy place ending setting flag) → Means from class r (look class (on one (goto (controlBy place ending setting flag) (effectBy effect one)) ∷ []))) ⌝ }
 {
     if class == one {
         return goto(place, ending, setting, flag, effect);
@@ -104,7 +124,7 @@ fn only(
 
 // A name goes on, and so does a reserved word that is taken as one; no other class does.
 fn only_names(class: u32, place: u32, ending: u32, setting: u32, flag: bool, effect: u32) -> Step
-    ensures { λ r. ⌜ ((from : Rattle.grammar.specs.Machinery.Machine.Control) → Leads (effectBy effect class) from (controlBy place ending setting flag) → Means from class r (look class (names (goto (controlBy place ending setting flag) (effectBy effect class)) []))) ⌝ }
+    ensures { λ r. ⌜ ((from : Rattle.machine.specs.Machinery.Machine.Control) → Leads (effectBy effect class) from (controlBy place ending setting flag) → Means from class r (look class (names (goto (controlBy place ending setting flag) (effectBy effect class)) []))) ⌝ }
 {
     if class == tokens::NAME {
         return goto(place, ending, setting, flag, effect);
@@ -125,7 +145,7 @@ fn opens(
     flag: bool,
     closing: u32,
 ) -> Step
-    ensures { λ r. ⌜ ((from : Rattle.grammar.specs.Machinery.Machine.Control) → T (isOpener one) → Spans (closingBy closing) from (controlBy place ending setting flag) → Means from class r (look class (on one (push (insideBy closing) (controlBy place ending setting flag) (closingBy closing)) ∷ []))) ⌝ }
+    ensures { λ r. ⌜ ((from : Rattle.machine.specs.Machinery.Machine.Control) → T (isOpener one) → Spans (closingBy closing) from (controlBy place ending setting flag) → Means from class r (look class (on one (push (insideBy closing) (controlBy place ending setting flag) (closingBy closing)) ∷ []))) ⌝ }
 {
     if class == one {
         return push(place, ending, setting, flag, closing);
@@ -156,9 +176,9 @@ fn item_row(class: u32, ending: u32) -> Step
     only_names(class, PROPERTY_NAMED, BY_PROPERTY, BODY, true, KEEP)
 }
 
-// The places inside a form whose next token is settled.
+// The places inside a form whose next token is settled, from `MEMBER_DUE` on.
 pub fn form_row(place: u32, ending: u32, setting: u32, flag: bool, class: u32) -> Step
-    ensures { λ r. ⌜ (4 ≤ place → SettledAt place class → (newline : Bool) → Means (controlBy place ending setting flag) class r (look class (row (controlBy place ending setting flag) newline))) ⌝ }
+    ensures { λ r. ⌜ (5 ≤ place → SettledAt place class → (newline : Bool) → Means (controlBy place ending setting flag) class r (look class (row (controlBy place ending setting flag) newline))) ⌝ }
 {
     match place {
         DOT_LAST => only_names(class, OPERAND_DONE, ending, setting, flag, TAKE_MEMBER),
@@ -181,6 +201,7 @@ pub fn form_row(place: u32, ending: u32, setting: u32, flag: bool, class: u32) -
             TO_CONDITION,
         ),
         ITEM_DUE => item_row(class, ending),
+        MEMBER_DUE => member_row(class, ending, setting, flag),
         PROPERTY_NAMED => only(
             class,
             tokens::COLON,
@@ -197,7 +218,7 @@ pub fn form_row(place: u32, ending: u32, setting: u32, flag: bool, class: u32) -
 
 // The places of a function's parameters, and of a function that is an operand.
 fn function_row(place: u32, ending: u32, setting: u32, flag: bool, class: u32) -> Step
-    ensures { λ r. ⌜ (10 ≤ place → (newline : Bool) → Means (controlBy place ending setting flag) class r (look class (row (controlBy place ending setting flag) newline))) ⌝ }
+    ensures { λ r. ⌜ (10 ≤ place → (place ≡ 18 → ⊥) → (place ≡ 19 → ⊥) → (newline : Bool) → Means (controlBy place ending setting flag) class r (look class (row (controlBy place ending setting flag) newline))) ⌝ }
 {
     match place {
         PARAMETER_DUE => only(
@@ -261,7 +282,7 @@ fn unnamed_row(ending: u32, setting: u32, flag: bool, class: u32) -> Step
 
 // The places of a function that is declared.
 fn declared_row(place: u32, class: u32) -> Step
-    ensures { λ r. ⌜ (15 ≤ place → (ending setting : ℕ) (flag newline : Bool) → Means (controlBy place ending setting flag) class r (look class (row (controlBy place ending setting flag) newline))) ⌝ }
+    ensures { λ r. ⌜ (15 ≤ place → (place ≡ 18 → ⊥) → (place ≡ 19 → ⊥) → (ending setting : ℕ) (flag newline : Bool) → Means (controlBy place ending setting flag) class r (look class (row (controlBy place ending setting flag) newline))) ⌝ }
 {
     match place {
         DECLARED_FIRST => only(

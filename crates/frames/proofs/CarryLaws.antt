@@ -3,19 +3,20 @@ use mathlib.Core.Path.{_≡_, refl, _∙_, ap}
 use mathlib.Core.List.{List, [], _∷_, _++_}
 use Prim.Native.Nat.{ℕ, _+_, _-_, _*_, _≤_, _<_}
 use native.Mathlib.Omega.{arith}
-use lib.ListN.{length, getD}
+use lib.ListN.{length, getD, length-set}
+use lib.Seq.{getD-set-other}
 use Rattle.tables.specs.Records.{mostTrees}
-use Rattle.grammar.specs.Syntax.{Syntax, nil, node, snoc, size}
-use Rattle.grammar.specs.Grammar.{precedence}
-use Rattle.grammar.specs.Machinery.Machine as machine
-use Rattle.grammar.specs.Machinery.Machine.{Pending, pending, Frame, frame, wrap, behindStatement, toStatement, Control, nested}
+use Rattle.machine.specs.Syntax.{Syntax, nil, node, snoc, size}
+use Rattle.machine.specs.Tokens.{newWord, question}
+use Rattle.machine.specs.Machinery.Machine as machine
+use Rattle.machine.specs.Machinery.Machine.{Pending, pending, Frame, frame, tightness, wrap, behindStatement, toStatement, Control, nested, asking}
 use Rattle.controls.specs.Machinery.Numbers.{settingBy}
 use Rattle.controls.specs.Machinery.Written.{putRecord, putSyntax}
-use Rattle.waiting.specs.Machinery.Waiting.{width, binding, nestKind, Shut, shut, close, lefts, Stacked, bare, above, Holds, HoldsShut, Closes, Completes, stackWith, waitingOne, madeOne, withHeld, restarted}
+use Rattle.waiting.specs.Machinery.Waiting.{width, binding, nestKind, askKind, Shut, shut, close, lefts, Stacked, bare, above, Holds, HoldsShut, Closes, Completes, stackWith, stackAs, waitingOne, madeOne, withHeld, restarted}
 use Rattle.waiting.specs.declared.Level.{Level}
-use Rattle.waiting.proofs.HoldLaws.{start-le, bottom-top, floor-le, word-held, alone-held, uppermost, done-held, nest-done-held, left-held, taken-back-held}
-use Rattle.waiting.proofs.PutLaws.{made-held, made-both, valued-held, waits-held, stack-long, stack-kept}
-use Rattle.frames.specs.Machinery.Stands.{Operators, no-operators, more-operators, Beginnings, no-beginnings, more-beginnings, Some, some, InSetting, Below, below-none, below-nest, Shaped, written, HeldAt, owed, Kept, Stands}
+use Rattle.waiting.proofs.HoldLaws.{start-le, bottom-top, floor-le, word-held, alone-held, uppermost, done-held, nest-done-held, nested-held, unstacked-held, asked-held, left-held, taken-back-held}
+use Rattle.waiting.proofs.PutLaws.{made-held, made-both, valued-held, waits-held, answered-held, stack-long, stack-kept}
+use Rattle.frames.specs.Machinery.Stands.{Operators, no-operators, more-operators, Beginnings, no-beginnings, more-beginnings, InNest, in-nest, Asked, asked, InSetting, Within, askedIn, Below, below-none, below-nest, below-asked, Shaped, written, HeldAt, owed, Kept, Stands}
 use Rattle.frames.specs.Machinery.Effects.{Valued}
 use Rattle.frames.proofs.CloseLaws.{LighterBy, close-lightens, below-stops, Reduced, close-expression, close-statement}
 
@@ -112,6 +113,9 @@ closes-lightens {least = least} {table = table} {first = first} {done = done} {p
         let b = holds-weigh k in
         record { same = omega (arith, a .0, b .0, e, f); lower = omega (arith, a .1, b .1, less, f); started = start-le k }
 
+operators-rest : {p : Pending} {ps : List Pending} → Operators (p ∷ ps) → Operators ps
+operators-rest (more-operators e alone more) = more
+
 beginnings-rest : {p : Pending} {ps : List Pending} → Beginnings (p ∷ ps) → Beginnings ps
 beginnings-rest (more-beginnings e more) = more
 
@@ -121,6 +125,10 @@ same-stack = record { same-length = refl; same = λ k less. refl }
 
 more-stack : (stack : List ℕ) (top kind mark start : ℕ) → Kept stack (stackWith stack top kind mark start) top
 more-stack stack top kind mark start = record { same-length = stack-long stack top kind mark start; same = stack-kept stack top kind mark start }
+
+other-stack : (stack : List ℕ) (top kind : ℕ) → Kept stack (stackAs stack top kind) (top - 1)
+other-stack stack top kind =
+    record { same-length = length-set stack ((top - 1) * width) kind; same = λ k less. getD-set-other stack ((top - 1) * width) k kind 0 (λ e. absurd (omega arith)) }
 
 kept-under : {before middle after : List ℕ} {floor top : ℕ} → Kept before middle floor → Kept middle after top → floor ≤ top → Kept before after floor
 kept-under h k up = record { same-length = k .same-length ∙ h .same-length; same = λ i less. k .same i (omega arith) ∙ h .same i less }
@@ -163,10 +171,10 @@ module _ {nests : List machine.Open} {table stack₀ : List ℕ} {first floor : 
 
   -- the operand waits as the left side of an operator
   pub carries-operator : (kind mark : ℕ) → l .count + l .top < mostTrees → mark ≤ mostTrees → (l .top + 1) * width ≤ length stack
-      → binding kind ≡ precedence kind + 2
+      → 1 ≤ tightness kind → (kind ≡ newWord → last ≡ nil)
       → Carries nests table stack₀ first floor done starts (pending kind mark last ∷ waiting) nil (waitingOne l) (stackWith stack (l .top) kind mark (l .start)) cells
-  carries-operator kind mark room marked fits binds =
-      carries-other (more-operators binds (h .operators)) (h .beginnings) (h .below) (waits-held kind mark (h .holds) room marked fits) (h .worded) refl
+  carries-operator kind mark room marked fits binds alone =
+      carries-other (more-operators binds alone (h .operators)) (h .beginnings) (h .below) (waits-held kind mark (h .holds) room marked fits) (h .worded) refl
       (more-stack stack (l .top) kind mark (l .start))
 
 module _ {nests : List machine.Open} {table stack₀ : List ℕ} {first floor : ℕ} {done : Syntax} {starts : List Pending} {l : Level} {stack cells : List ℕ} where
@@ -196,6 +204,21 @@ module _ {nests : List machine.Open} {table stack₀ : List ℕ} {first floor : 
       carries-other h no-operators no-beginnings (below-nest (h .beginnings) within (h .below)) (waits-held nestKind setting (h .holds) room small fits) (h .worded) refl
       (more-stack stack (l .top) nestKind setting (l .start))
 
+  -- the operand waits as the condition of an open `?`, behind which nothing stands yet
+  pub carries-asked : {waiting : List Pending} {condition : Syntax} (kind mark : ℕ) → Carries nests table stack₀ first floor done starts waiting condition l stack cells
+      → Within (askedIn kind) done starts nests → askKind ≤ kind → l .count + l .top < mostTrees → mark ≤ mostTrees → (l .top + 1) * width ≤ length stack
+      → Carries (asking (askedIn kind) mark (frame done starts waiting condition) ∷ nests) table stack₀ first floor nil [] [] nil
+      (waitingOne l) (stackWith stack (l .top) kind mark (l .start)) cells
+  carries-asked kind mark h within many room marked fits =
+      carries-other h no-operators no-beginnings (below-asked many (h .operators) (h .beginnings) within (h .below)) (asked-held (waits-held kind mark (h .holds) room marked fits))
+      (h .worded) refl (more-stack stack (l .top) kind mark (l .start))
+
+  -- an operator with no left side waits no more
+  pub carries-dropped : {kind mark : ℕ} {waiting : List Pending} {last : Syntax}
+      → Carries nests table stack₀ first floor done starts (pending kind mark nil ∷ waiting) last l stack cells
+      → Carries nests table stack₀ first floor done starts waiting last (leftOne l stack) stack cells
+  carries-dropped h = carries-other h (operators-rest (h .operators)) (h .beginnings) (h .below) (alone-held (unstacked-held (h .holds))) (h .worded) refl same-stack
+
   -- a beginning with no left side is taken back, where nothing stands behind it
   pub carries-back : {kind mark : ℕ} → Carries nests table stack₀ first floor done (pending kind mark nil ∷ starts) [] nil l stack cells
       → Carries nests table stack₀ first floor done starts [] nil (backOne l) stack cells
@@ -212,11 +235,13 @@ followed : {nests : List machine.Open} {table : List ℕ} {first : ℕ} {done ba
     → Below done nests base tail → Holds table first base tail value l stack cells → Followed nests table first (snoc done value) (restarted l) stack cells
 followed below-none h = record { base = _; tail = []; below = below-none; holds = done-held h }
 followed (below-nest beginnings setting below) h = record { base = _; tail = _; below = below-nest beginnings setting below; holds = nest-done-held h }
+followed (below-asked many operators beginnings within below) h =
+    record { base = _; tail = _; below = below-asked many operators beginnings within below; holds = nested-held (nest-done-held h) }
 
 module _ {nests : List machine.Open} {table stack₀ : List ℕ} {first floor : ℕ} {done : Syntax} {starts waiting : List Pending} {last : Syntax} {l r : Level} {stack cells after : List ℕ}
     (h : Carries nests table stack₀ first floor done starts waiting last l stack cells) where
   -- operators are closed: those that bind at least so tight, or all of them
-  pub carries-closed : (least : ℕ) → r .floor ≡ l .floor → r .held ≡ l .held → Closes (least + 2) l stack cells r after
+  pub carries-closed : (least : ℕ) → r .floor ≡ l .floor → r .held ≡ l .held → Closes (least + 1) l stack cells r after
       → (k : Reduced least done starts waiting (starts ++ h .tail) last) → Carries nests table stack₀ first floor done starts (k .left) (k .last) r stack after
   carries-closed least f w closes k =
       let m : HoldsShut table first (h .base) (shut (k .left ++ (starts ++ h .tail)) (k .last)) r stack after =
@@ -263,12 +288,12 @@ pub record Around (nests : List machine.Open) (table stack₀ : List ℕ) (first
   pub carries : Carries rest table stack₀ first floor done starts [] last (leftOne l stack) stack cells
 
 pub carries-around : {nests : List machine.Open} {table stack₀ : List ℕ} {first floor : ℕ} {last : Syntax} {l : Level} {stack cells : List ℕ}
-    → Some nests → Carries nests table stack₀ first floor (snoc nil last) [] [] nil l stack cells → Around nests table stack₀ first floor last l stack cells
+    → InNest nests → Carries nests table stack₀ first floor (snoc nil last) [] [] nil l stack cells → Around nests table stack₀ first floor last l stack cells
 carries-around {table = table} {stack₀ = stack₀} {first = first} {floor = floor} {last = last} {l = l} {stack = stack} {cells = cells} inside h = go inside (h .below) (h .holds)
   where
-    go : {hs : List machine.Open} {base : Syntax} {tail : List Pending} → Some hs → Below (snoc nil last) hs base tail → Holds table first base tail nil l stack cells
+    go : {hs : List machine.Open} {base : Syntax} {tail : List Pending} → InNest hs → Below (snoc nil last) hs base tail → Holds table first base tail nil l stack cells
         → Around hs table stack₀ first floor last l stack cells
-    go some (below-nest {around = done} {setting = setting} {mark = mark} {starts = starts} {nests = rest} beginnings within below) k =
+    go in-nest (below-nest {around = done} {setting = setting} {mark = mark} {starts = starts} {nests = rest} beginnings within below) k =
         let u = uppermost k in
         record {
           setting = setting;
@@ -284,6 +309,58 @@ carries-around {table = table} {stack₀ = stack₀} {first = first} {floor = fl
           waits = u .some;
           fits = u .fits;
           carries = carries-other h no-operators beginnings below (left-held k) (h .worded) refl same-stack;
+        }
+
+-- what is carried around an open `?` that is answered with a value
+pub record Answering (nests : List machine.Open) (table stack₀ : List ℕ) (first floor : ℕ) (value : Syntax) (l : Level) (stack cells : List ℕ) : Type 0 where
+  pub kind : ℕ
+  pub mark : ℕ
+  pub done : Syntax
+  pub starts : List Pending
+  pub waiting : List Pending
+  pub condition : Syntax
+  pub rest : List machine.Open
+  pub is : nests ≡ asking (askedIn kind) mark (frame done starts waiting condition) ∷ rest
+  pub within : Within (askedIn kind) done starts rest
+  pub stacked : getD stack ((l .top - 1) * width) 0 ≡ kind
+  pub many : askKind ≤ kind
+  pub waits : 1 ≤ l .top
+  pub fits : l .top * width ≤ length stack
+  pub carries : Carries rest table stack₀ first floor done starts (pending question mark (snoc condition value) ∷ waiting) nil (restarted l) (stackAs stack (l .top) question) cells
+
+pub carries-answered : {nests : List machine.Open} {table stack₀ : List ℕ} {first floor : ℕ} {value : Syntax} {l : Level} {stack cells : List ℕ}
+    → Asked nests → Carries nests table stack₀ first floor nil [] [] value l stack cells → Answering nests table stack₀ first floor value l stack cells
+carries-answered {table = table} {stack₀ = stack₀} {first = first} {floor = floor} {value = value} {l = l} {stack = stack} {cells = cells} inside h = go inside (h .below) (h .holds)
+  where
+    go : {hs : List machine.Open} {base : Syntax} {tail : List Pending} → Asked hs → Below nil hs base tail → Holds table first base tail value l stack cells
+        → Answering hs table stack₀ first floor value l stack cells
+    go asked (below-asked {around = done} {condition = condition} {kind = kind} {mark = mark} {waiting = waiting} {starts = starts} {nests = rest} many operators beginnings within below) k =
+        let u = uppermost k in
+        record {
+          kind = kind;
+          mark = mark;
+          done = done;
+          starts = starts;
+          waiting = waiting;
+          condition = condition;
+          rest = rest;
+          is = refl;
+          within = within;
+          stacked = u .kind-is;
+          many = many;
+          waits = u .some;
+          fits = u .fits;
+          carries = record {
+            operators = more-operators {kind = question} (omega arith) (λ e. let z : _≡_ {A = ℕ} question newWord = e in absurd (omega arith)) operators;
+            beginnings = beginnings;
+            base = _;
+            tail = _;
+            below = below;
+            holds = answered-held question k;
+            worded = h .worded;
+            floored = h .floored;
+            kept = kept-under (h .kept) (other-stack stack (l .top) question) (omega (arith, u .higher, h .floored));
+          };
         }
 
 -- a level with no nests, all of whose operators are closed, has written all it carries

@@ -1,5 +1,5 @@
 -- Closing what waits is what the machine does: operators are reduced and beginnings of statements wrapped, and what waits below stays.
-use mathlib.Core.Path.{_≡_, refl, _∙_}
+use mathlib.Core.Path.{_≡_, refl, _∙_, ap}
 use mathlib.Core.Bool.{Bool, true, false, cond}
 use mathlib.Core.List.{List, [], _∷_, _++_}
 use Prim.Native.Nat.{ℕ, _+_, _≤_, _<_}
@@ -7,12 +7,12 @@ use native.Mathlib.Omega.{arith}
 use borrow.Author.Tests.{le-leb, lt-leb, leb-true, leb-false}
 use lib.Dec.{leb}
 use lib.ListN.{length}
-use Rattle.grammar.specs.Syntax.{Syntax, node, size}
-use Rattle.grammar.specs.Grammar.{precedence}
-use Rattle.grammar.specs.Machinery.Machine as machine
-use Rattle.grammar.specs.Machinery.Machine.{Pending, pending, frame, reduce, wrap}
+use Rattle.machine.specs.Syntax.{Syntax, node, size}
+use Rattle.machine.specs.Machinery.Machine as machine
+use Rattle.machine.specs.Machinery.Machine.{Pending, pending, frame, tightness, reduce, wrap}
 use Rattle.waiting.specs.Machinery.Waiting.{nestKind, binding, Shut, shut, close, lefts}
-use Rattle.frames.specs.Machinery.Stands.{Operators, no-operators, more-operators, Beginnings, no-beginnings, more-beginnings, Below, below-none, below-nest}
+use Rattle.waiting.proofs.OperatorLaws.{binding-asked, binding-operator}
+use Rattle.frames.specs.Machinery.Stands.{Operators, no-operators, more-operators, Beginnings, no-beginnings, more-beginnings, Below, below-none, below-nest, below-asked}
 
 -- nothing, or something that binds less, waits next: closing stops there
 pub data Stops (least : ℕ) : List Pending → Type 0 where
@@ -31,8 +31,9 @@ pub below-stops : {done base : Syntax} {nests : List machine.Open} {tail : List 
 unfolding binding
 below-stops below-none = stops-none
 below-stops (below-nest beginnings setting below) = stops-at {kind = nestKind} (omega arith)
+below-stops (below-asked {kind = kind} many operators beginnings within below) = stops-at {kind = kind} (omega (arith, binding-asked kind many))
 
-starts-stop : {starts tail : List Pending} → Beginnings starts → Stops 1 tail → Stops 2 (starts ++ tail)
+pub starts-stop : {starts tail : List Pending} → Beginnings starts → Stops 1 tail → Stops 2 (starts ++ tail)
 starts-stop no-beginnings stops = stops-more (omega arith) stops
 starts-stop (more-beginnings {kind = kind} e more) stops = stops-at {kind = kind} (omega (arith, e))
 
@@ -42,51 +43,58 @@ pub record Reduced (least : ℕ) (done : Syntax) (starts waiting below : List Pe
   pub last : Syntax
   pub is : reduce least done starts waiting operand ≡ frame done starts left last
   pub operators : Operators left
-  pub closes : close (least + 2) (waiting ++ below) operand ≡ shut (left ++ below) last
+  pub closes : close (least + 1) (waiting ++ below) operand ≡ shut (left ++ below) last
 
-reduced : (least : ℕ) (done : Syntax) (starts : List Pending) {waiting below : List Pending} (operand : Syntax) → Operators waiting → Stops 2 below
+-- one step of each
+module _ (least : ℕ) (done : Syntax) (starts ps : List Pending) (kind mark : ℕ) (left operand : Syntax) where
+  reduce-one : (b : Bool) → leb least (tightness kind) ≡ b
+      → reduce least done starts (pending kind mark left ∷ ps) operand
+      ≡ cond b (reduce least done starts ps (node kind mark left operand)) (frame done starts (pending kind mark left ∷ ps) operand)
+  reduce-one b e = ap (λ (x : Bool). cond x (reduce least done starts ps (node kind mark left operand)) (frame done starts (pending kind mark left ∷ ps) operand)) e
+
+reduced : (least : ℕ) (done : Syntax) (starts : List Pending) {waiting below : List Pending} (operand : Syntax) → 1 ≤ least → Operators waiting → Stops 2 below
     → Reduced least done starts waiting below operand
-reduced least done starts {below = below} operand no-operators stops =
+reduced least done starts {below = below} operand some no-operators stops =
     record { left = []; last = operand; is = refl; operators = no-operators; closes = close-stops operand (stops-more (omega arith) stops) }
-reduced least done starts {below = below} operand (more-operators {kind = kind} {mark = mark} {left = left} {ps = ps} e more) stops =
-    go (leb least (precedence kind)) refl (reduced least done starts (node kind mark left operand) more stops)
+reduced least done starts {below = below} operand some (more-operators {kind = kind} {mark = mark} {left = left} {ps = ps} e bare more) stops =
+    go (leb least (tightness kind)) refl (reduced least done starts (node kind mark left operand) some more stops)
   where
-    go : (b : Bool) → leb least (precedence kind) ≡ b → Reduced least done starts ps below (node kind mark left operand)
+    go : (b : Bool) → leb least (tightness kind) ≡ b → Reduced least done starts ps below (node kind mark left operand)
         → Reduced least done starts (pending kind mark left ∷ ps) below operand
     go true x r =
-        let tight = leb-true least (precedence kind) x in
+        let tight = leb-true least (tightness kind) x in
         record {
           left = r .left;
           last = r .last;
-          is = rw x (r .is);
+          is = reduce-one least done starts ps kind mark left operand true x ∙ r .is;
           operators = r .operators;
-          closes = rw (le-leb (least + 2) (binding kind) (omega (arith, e))) (r .closes);
+          closes = rw (le-leb (least + 1) (binding kind) (omega (arith, binding-operator kind e))) (r .closes);
         }
     go false x r =
-        let loose = leb-false least (precedence kind) x in
+        let loose = leb-false least (tightness kind) x in
         record {
           left = pending kind mark left ∷ ps;
           last = operand;
-          is = rw x;
-          operators = more-operators e more;
-          closes = rw (lt-leb (least + 2) (binding kind) (omega (arith, e)));
+          is = reduce-one least done starts ps kind mark left operand false x;
+          operators = more-operators e bare more;
+          closes = rw (lt-leb (least + 1) (binding kind) (omega (arith, binding-operator kind e)));
         }
 
-pub close-reduces : (least : ℕ) (done : Syntax) {starts waiting tail : List Pending} (operand : Syntax) → Operators waiting → Beginnings starts → Stops 1 tail
-    → Reduced least done starts waiting (starts ++ tail) operand
-close-reduces least done {starts = starts} operand operators beginnings stops = reduced least done starts operand operators (starts-stop beginnings stops)
+pub close-reduces : (least : ℕ) (done : Syntax) {starts waiting tail : List Pending} (operand : Syntax) → 1 ≤ least → Operators waiting → Beginnings starts
+    → Stops 1 tail → Reduced least done starts waiting (starts ++ tail) operand
+close-reduces least done {starts = starts} operand some operators beginnings stops = reduced least done starts operand some operators (starts-stop beginnings stops)
 
 -- all operators are closed
 pub reduce-wraps : (done : Syntax) (starts waiting : List Pending) (operand : Syntax) → reduce 0 done starts waiting operand ≡ frame done starts [] (wrap waiting operand)
 reduce-wraps done starts [] operand = refl
 reduce-wraps done starts (pending kind mark left ∷ waiting) operand =
-    rw (le-leb 0 (precedence kind) (omega arith)) (reduce-wraps done starts waiting (node kind mark left operand))
+    reduce-one 0 done starts waiting kind mark left operand true (le-leb 0 (tightness kind) (omega arith)) ∙ reduce-wraps done starts waiting (node kind mark left operand)
 
 close-operators : (least : ℕ) {waiting : List Pending} (below : List Pending) (operand : Syntax) → least ≤ 2 → Operators waiting
     → close least (waiting ++ below) operand ≡ close least below (wrap waiting operand)
 close-operators least below operand few no-operators = refl
-close-operators least below operand few (more-operators {kind = kind} {mark = mark} {left = left} e more) =
-    rw (le-leb least (binding kind) (omega (arith, e))) (close-operators least below (node kind mark left operand) few more)
+close-operators least below operand few (more-operators {kind = kind} {mark = mark} {left = left} e bare more) =
+    rw (le-leb least (binding kind) (omega (arith, e, binding-operator kind e))) (close-operators least below (node kind mark left operand) few more)
 
 close-beginnings : {starts : List Pending} (below : List Pending) (last : Syntax) → Beginnings starts → close 1 (starts ++ below) last ≡ close 1 below (wrap starts last)
 close-beginnings below last no-beginnings = refl

@@ -6,16 +6,18 @@ use Prim.Native.Nat.{ℕ, _+_, _-_, _*_, _≤_, _<_}
 use native.Mathlib.Omega.{arith}
 use lib.ListN.{length, getD}
 use Rattle.tables.specs.Records.{mostTrees}
-use Rattle.grammar.specs.Tokens.{name}
-use Rattle.grammar.specs.Syntax.{Syntax, nil, node, snoc, memberSyntax, expressionSyntax, bareReturnSyntax, fullReturnSyntax, labelSyntax}
-use Rattle.grammar.specs.Grammar.{Items, callArguments, arrayElements, objectProperties, body, precedence}
-use Rattle.grammar.specs.Machinery.Machine as machine
-use Rattle.grammar.specs.Machinery.Machine.{
+use Rattle.machine.specs.Tokens.{name, newWord}
+use Rattle.machine.specs.Syntax.{Syntax, nil, node, snoc, memberSyntax, expressionSyntax, bareReturnSyntax, fullReturnSyntax, labelSyntax}
+use Rattle.machine.specs.Scopes.{Items, callArguments, arrayElements, objectProperties, body}
+use Rattle.machine.specs.Machinery.Machine as machine
+use Rattle.machine.specs.Machinery.Machine.{
   Pending,
   pending,
   Frame,
   frame,
   heldWord,
+  tightness,
+  newPrecedence,
   threshold,
   Setting,
   among,
@@ -32,6 +34,8 @@ use Rattle.grammar.specs.Machinery.Machine.{
   takeLeaf,
   takeName,
   takeOperator,
+  takePrefix,
+  takePostfix,
   Ending,
   byStatement,
   byReturn,
@@ -44,11 +48,13 @@ use Rattle.grammar.specs.Machinery.Machine.{
   nameFirst,
   returnFirst,
   operandDue,
+  memberDue,
   operandDone,
+  postfixDone,
   dotLast,
   functionFirst,
 }
-use Rattle.controls.specs.Machinery.Steps.{Due, due-operand, due-value, due-item, due-statement, Leads, to-dot, to-hole, to-function-name, to-property, to-value, to-parameter, to-next-parameter}
+use Rattle.controls.specs.Machinery.Steps.{Due, due-operand, due-value, due-item, due-statement, due-member, Ended, ended-operand, ended-postfix, Leads, to-dot, to-hole, to-function-name, to-property, to-value, to-parameter, to-next-parameter}
 use Rattle.controls.specs.Machinery.Written.{putRecord}
 use Rattle.waiting.specs.Machinery.Waiting.{width, binding, Closes, Completes, stackWith, waitingOne, madeOne, withHeld}
 use Rattle.waiting.specs.declared.Level.{Level}
@@ -80,6 +86,17 @@ pub record AtOperand (ending : Ending) (g : Frame) (nests : List machine.Open) (
   pub is : g ≡ frame done starts waiting nil
   pub within : Within ending done starts nests
   pub carries : Carries nests table stack₀ first floor done starts waiting nil l stack cells
+  pub passes : l .count + l .top ≤ first + floor + passed
+
+-- where one has ended
+pub record AtEnded (ending : Ending) (g : Frame) (nests : List machine.Open) (table stack₀ : List ℕ) (first floor passed : ℕ) (l : Level) (stack cells : List ℕ) : Type 0 where
+  pub done : Syntax
+  pub starts : List Pending
+  pub waiting : List Pending
+  pub operand : Syntax
+  pub is : g ≡ frame done starts waiting operand
+  pub within : Within ending done starts nests
+  pub carries : Carries nests table stack₀ first floor done starts waiting operand l stack cells
   pub passes : l .count + l .top ≤ first + floor + passed
 
 pub record AtStatement (setting : Setting) (g : Frame) (nests : List machine.Open) (table stack₀ : List ℕ) (first floor passed : ℕ) (l : Level) (stack cells : List ℕ) : Type 0 where
@@ -147,6 +164,41 @@ module _ {g : Frame} {nests : List machine.Open} {table stack₀ : List ℕ} {fi
   at-operand due-statement s =
       let h = at-statement s in
       record { done = h .done; starts = h .starts; waiting = []; is = h .is; within = h .within; carries = h .carries; passes = h .passes }
+  at-operand due-member s =
+      record {
+        done = s .done;
+        starts = s .starts;
+        waiting = s .waiting;
+        is = rw (s .is, s .shaped .0);
+        within = s .shaped .1;
+        carries = rw (s .shaped .0) at (carried s);
+        passes = omega (arith, s .passes);
+      }
+
+  pub at-ended : {from : Control} {ending : Ending} → Ended from ending → Stands from g nests table stack₀ first floor passed l stack cells
+      → AtEnded ending g nests table stack₀ first floor passed l stack cells
+  at-ended ended-operand s =
+      record {
+        done = s .done;
+        starts = s .starts;
+        waiting = s .waiting;
+        operand = s .operand;
+        is = s .is;
+        within = s .shaped;
+        carries = carried s;
+        passes = omega (arith, s .passes);
+      }
+  at-ended ended-postfix s =
+      record {
+        done = s .done;
+        starts = s .starts;
+        waiting = s .waiting;
+        operand = s .operand;
+        is = s .is;
+        within = s .shaped;
+        carries = carried s;
+        passes = omega (arith, s .passes);
+      }
 
   -- behind `return` nothing stands yet
   pub return-begun : {setting : Setting} (s : Stands (returnFirst setting) g nests table stack₀ first floor passed l stack cells)
@@ -240,48 +292,86 @@ module _ {g : Frame} {nests : List machine.Open} {table stack₀ : List ℕ} {fi
       (stands nil (carries-beginning labelSyntax (l .held) (rw (s .shaped .0) at (carried s)) (omega (arith, s .passes)) (s .worded) fits refl)
       (refl, refl, s .shaped .1) tt (omega (arith, s .passes)) (omega arith))
 
-  -- an operator waits, once those are closed that bind as tight
-  pub takes-operator : {ending : Ending} {target : Bool} (next : Bool) (class mark : ℕ) {r : Level} {after : List ℕ} → mark ≤ mostTrees
-      → (l .top + 1) * width ≤ length stack → binding class ≡ precedence class + 2 → r .floor ≡ l .floor → r .held ≡ l .held
-      → Closes (threshold class + 2) l stack cells r after → Stands (operandDone ending target) g nests table stack₀ first floor passed l stack cells
-      → Stands (operandDue ending next) (machine.affect (takeOperator class) mark g) nests table stack₀ first floor (passed + 1) (waitingOne r)
-      (stackWith stack (r .top) class mark (r .start)) after
-  takes-operator next class mark small fits binds f w closes s =
+  -- an operator before its operand waits, with no left side
+  pub takes-prefix : {from : Control} {ending : Ending} {target : Bool} (kind mark : ℕ) → mark ≤ mostTrees → (l .top + 1) * width ≤ length stack → 1 ≤ tightness kind
+      → Due from ending target → Stands from g nests table stack₀ first floor passed l stack cells
+      → Stands (operandDue ending false) (machine.affect (takePrefix kind) mark g) nests table stack₀ first floor (passed + 1) (waitingOne l)
+      (stackWith stack (l .top) kind mark (l .start)) cells
+  takes-prefix kind mark small fits tight due s =
+      let h = at-operand due s in
+      rw (h .is)
+      (stands nil (carries-operator (h .carries) kind mark (omega (arith, h .passes)) small fits tight (λ e. refl)) (refl, h .within) tt (omega (arith, h .passes)) (omega arith))
+
+  pub takes-new : {from : Control} {ending : Ending} {target : Bool} (mark : ℕ) → mark ≤ mostTrees → (l .top + 1) * width ≤ length stack
+      → Due from ending target → Stands from g nests table stack₀ first floor passed l stack cells
+      → Stands (memberDue ending target) (machine.affect (takePrefix newWord) mark g) nests table stack₀ first floor (passed + 1) (waitingOne l)
+      (stackWith stack (l .top) newWord mark (l .start)) cells
+  takes-new mark small fits due s =
+      let h = at-operand due s in
+      rw (h .is)
+      (stands nil (carries-operator (h .carries) newWord mark (omega (arith, h .passes)) small fits (omega arith) (λ e. refl)) (refl, h .within) tt (omega (arith, h .passes))
+      (omega arith))
+
+  -- one behind it makes a part, once the `new`s that wait are closed
+  pub takes-postfix : {ending : Ending} {target : Bool} (kind mark : ℕ) {r : Level} {after : List ℕ} → r .floor ≡ l .floor → r .held ≡ l .held
+      → Closes (newPrecedence + 1) l stack cells r after → Stands (operandDone ending target) g nests table stack₀ first floor passed l stack cells
+      → Stands (postfixDone ending) (machine.affect (takePostfix kind) mark g) nests table stack₀ first floor (passed + 1) (madeOne r) stack
+      (putRecord after (r .count) kind mark (r .count - r .start + 1))
+  takes-postfix kind mark f w closes s =
       let h = carried s in
-      let k = close-reduces (threshold class) (s .done) (s .operand) (h .operators) (h .beginnings) (below-stops (h .below)) in
+      let k = close-reduces newPrecedence (s .done) (s .operand) (omega arith) (h .operators) (h .beginnings) (below-stops (h .below)) in
       let light = closes-lightens (s .holds) f closes in
       rw (s .is, k .is)
+      (stands (node kind mark (k .last) nil)
+      (carries-made (carries-closed h newPrecedence f w closes k) kind mark (omega (arith, light, s .passes)))
+      (s .shaped) tt (omega (arith, light, s .passes)) (omega arith))
+
+  -- an operator waits, once those are closed that bind as tight
+  pub takes-operator : {from : Control} {ending : Ending} (next : Bool) (class mark : ℕ) {r : Level} {after : List ℕ} → mark ≤ mostTrees
+      → (l .top + 1) * width ≤ length stack → 1 ≤ tightness class → 1 ≤ threshold class → (class ≡ newWord → ⊥) → r .floor ≡ l .floor → r .held ≡ l .held
+      → Closes (threshold class + 1) l stack cells r after → Ended from ending → Stands from g nests table stack₀ first floor passed l stack cells
+      → Stands (operandDue ending next) (machine.affect (takeOperator class) mark g) nests table stack₀ first floor (passed + 1) (waitingOne r)
+      (stackWith stack (r .top) class mark (r .start)) after
+  takes-operator next class mark small fits tight some other f w closes ended s =
+      let e = at-ended ended s in
+      let h = e .carries in
+      let k = close-reduces (threshold class) (e .done) (e .operand) some (h .operators) (h .beginnings) (below-stops (h .below)) in
+      let light = closes-lightens (h .holds) f closes in
+      rw (e .is, k .is)
       (stands nil
-      (carries-operator (carries-closed h (threshold class) f w closes k) class mark (omega (arith, light, s .passes)) small (omega (arith, light)) binds)
-      (refl, s .shaped) tt (omega (arith, light, s .passes)) (omega arith))
+      (carries-operator (carries-closed h (threshold class) f w closes k) class mark (omega (arith, light, e .passes)) small (omega (arith, light)) tight (λ q. absurd (other q)))
+      (refl, e .within) tt (omega (arith, light, e .passes)) (omega arith))
 
   -- a statement is complete, or an item
-  pub ends-expression : {setting : Setting} {target : Bool} (mark : ℕ) {r all : Level} {after cells′ : List ℕ} → r .floor ≡ l .floor → r .held ≡ l .held
+  pub ends-expression : {from : Control} {setting : Setting} (mark : ℕ) {r all : Level} {after cells′ : List ℕ} → r .floor ≡ l .floor → r .held ≡ l .held
       → Closes 2 l stack cells r after → Completes (madeOne r) stack (putRecord after (r .count) expressionSyntax mark (r .count - r .start + 1)) all cells′
-      → Stands (operandDone (byStatement setting) target) g nests table stack₀ first floor passed l stack cells
+      → Ended from (byStatement setting) → Stands from g nests table stack₀ first floor passed l stack cells
       → Stands (behindStatement setting) (machine.affect endExpression mark g) nests table stack₀ first floor (passed + 1) all stack cells′
-  ends-expression {setting = setting} mark f w closes completes s =
-      let light = closes-lightens (s .holds) f closes in
-      let one = carries-made (carries-expression (carried s) f w closes) expressionSyntax mark (omega (arith, light, s .passes)) in
+  ends-expression {setting = setting} mark f w closes completes ended s =
+      let e = at-ended ended s in
+      let light = closes-lightens (e .carries .holds) f closes in
+      let one = carries-made (carries-expression (e .carries) f w closes) expressionSyntax mark (omega (arith, light, e .passes)) in
       let lighter = completes-lightens one completes in
-      rw (s .is, reduce-wraps (s .done) (s .starts) (s .waiting) (s .operand))
-      (behind setting (s .shaped) (carries-statement one completes) (omega (arith, light, lighter, s .passes)) (omega arith))
+      rw (e .is, reduce-wraps (e .done) (e .starts) (e .waiting) (e .operand))
+      (behind setting (e .within) (carries-statement one completes) (omega (arith, light, lighter, e .passes)) (omega arith))
 
-  pub ends-return : {setting : Setting} {target : Bool} (mark : ℕ) {all : Level} {cells′ : List ℕ} → Completes l stack cells all cells′
-      → Stands (operandDone (byReturn setting) target) g nests table stack₀ first floor passed l stack cells
+  pub ends-return : {from : Control} {setting : Setting} (mark : ℕ) {all : Level} {cells′ : List ℕ} → Completes l stack cells all cells′
+      → Ended from (byReturn setting) → Stands from g nests table stack₀ first floor passed l stack cells
       → Stands (behindStatement setting) (machine.affect endValue mark g) nests table stack₀ first floor (passed + 1) all stack cells′
-  ends-return {setting = setting} mark completes s =
-      let lighter = completes-lightens (carried s) completes in
-      rw (s .is, reduce-wraps (s .done) (s .starts) (s .waiting) (s .operand))
-      (behind setting (s .shaped) (carries-statement (carried s) completes) (omega (arith, lighter, s .passes)) (omega arith))
+  ends-return {setting = setting} mark completes ended s =
+      let e = at-ended ended s in
+      let lighter = completes-lightens (e .carries) completes in
+      rw (e .is, reduce-wraps (e .done) (e .starts) (e .waiting) (e .operand))
+      (behind setting (e .within) (carries-statement (e .carries) completes) (omega (arith, lighter, e .passes)) (omega arith))
 
-  pub ends-item : {items : Items} {target : Bool} (mark : ℕ) {all : Level} {cells′ : List ℕ} → Completes l stack cells all cells′
-      → Stands (operandDone (byItem items) target) g nests table stack₀ first floor passed l stack cells
+  pub ends-item : {from : Control} {items : Items} (mark : ℕ) {all : Level} {cells′ : List ℕ} → Completes l stack cells all cells′
+      → Ended from (byItem items) → Stands from g nests table stack₀ first floor passed l stack cells
       → Stands (behindComma items) (machine.affect endValue mark g) nests table stack₀ first floor (passed + 1) all stack cells′
-  ends-item {items = items} mark completes s =
-      let lighter = completes-lightens (carried s) completes in
-      rw (s .is, reduce-wraps (s .done) (s .starts) (s .waiting) (s .operand))
-      (behind-item items (s .shaped .1) (carries-statement (carried s) completes) (omega (arith, lighter, s .passes)) (omega arith))
+  ends-item {items = items} mark completes ended s =
+      let e = at-ended ended s in
+      let lighter = completes-lightens (e .carries) completes in
+      rw (e .is, reduce-wraps (e .done) (e .starts) (e .waiting) (e .operand))
+      (behind-item items (e .within .1) (carries-statement (e .carries) completes) (omega (arith, lighter, e .passes)) (omega arith))
 
   pub ends-bare : {setting : Setting} (mark : ℕ) {m : ℕ} {all : Level} {cells′ : List ℕ}
       → Stands (returnFirst setting) g nests table stack₀ first floor passed l stack cells → getD stack ((l .top - 1) * width + 1) 0 ≡ m

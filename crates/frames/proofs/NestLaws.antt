@@ -8,10 +8,11 @@ use borrow.Author.Tests.{ne-eqb}
 use lib.Dec.{T}
 use lib.ListN.{length, getD}
 use Rattle.tables.specs.Records.{mostTrees}
-use Rattle.grammar.specs.Tokens.{Token, token, Spot, name, colon}
-use Rattle.grammar.specs.Syntax.{Syntax, nil, node, snoc}
-use Rattle.grammar.specs.Machinery.Machine as machine
-use Rattle.grammar.specs.Machinery.Machine.{
+use Rattle.machine.specs.Tokens.{Token, token, Spot, name, colon}
+use Rattle.machine.specs.Syntax.{Syntax, nil, node, snoc}
+use Rattle.machine.specs.Scopes.{Items}
+use Rattle.machine.specs.Machinery.Machine as machine
+use Rattle.machine.specs.Machinery.Machine.{
   Pending,
   Frame,
   frame,
@@ -32,6 +33,7 @@ use Rattle.grammar.specs.Machinery.Machine.{
   byReturn,
   byParen,
   byBracket,
+  byColon,
   byItem,
   Control,
   statementDue,
@@ -53,12 +55,12 @@ use Rattle.controls.specs.declared.Control as code
 use Rattle.controls.specs.Machinery.Written.{putRecord}
 use Rattle.waiting.specs.Machinery.Waiting.{width, nestKind, Closes, Completes, stackWith, waitingOne, madeOne, withHeld}
 use Rattle.waiting.specs.declared.Level.{Level}
-use Rattle.frames.specs.Machinery.Stands.{some, Within, OneDone, Stands}
-use Rattle.frames.specs.Machinery.Effects.{ofParameter, StandsSomewhere, Enters, Moved, Moves, Leaves, Names, Readies, IsValue, is-popped, is-program, Ended}
+use Rattle.frames.specs.Machinery.Stands.{in-nest, Within, OneDone, Stands}
+use Rattle.frames.specs.Machinery.Effects.{ofParameter, StandsSomewhere, Enters, Moved, Moves, Leaves, LeavesAll, Names, Readies, IsValue, is-popped, is-program, EndedLevel}
 use Rattle.frames.specs.declared.Standing.{Standing}
 use Rattle.frames.proofs.CloseLaws.{reduce-wraps}
 use Rattle.frames.proofs.CarryLaws.{leftOne, carried, stands, closes-lightens, carries-word, carries-made, carries-nest, carries-expression, carries-statement, completes-lightens, Around, carries-around, Written, all-written, statements-written, expression-written}
-use Rattle.frames.proofs.EffectLaws.{at-statement, behind}
+use Rattle.frames.proofs.EffectLaws.{AtEnded, at-statement, at-ended, behind}
 
 -- before a token the control behind a nest that is done takes it, and before what is no `:` a held name is an operand
 nest-takes : {c behind : Control} {g : Frame} {nests rest : List machine.Open} {all done last operand : Syntax} {begun waiting starts : List Pending} {mark : ℕ}
@@ -84,7 +86,7 @@ module _ {g : Frame} {nests : List machine.Open} {table stack₀ : List ℕ} {fi
   enters setting mark more few small fits s =
       let h = at-statement s in
       rw (h .is)
-      (stands (heldWord mark) (carries-word (carries-nest setting mark (h .carries) (h .within) (omega arith) few fits) mark small) (refl, refl, refl, some) refl
+      (stands (heldWord mark) (carries-word (carries-nest setting mark (h .carries) (h .within) (omega arith) few fits) mark small) (refl, refl, refl, in-nest) refl
       (omega arith) (omega arith))
 
   -- a nest is left: the control behind it takes the token
@@ -130,6 +132,7 @@ in-group (byStatement setting) t h = absurd t
 in-group (byReturn setting) t h = absurd t
 in-group byParen t h = h
 in-group byBracket t h = h
+in-group byColon t h = absurd t
 in-group (byItem items) t h = absurd t
 
 expression-value : {g : Frame} {done operand : Syntax} {starts waiting : List Pending} → g ≡ frame done starts waiting operand
@@ -149,25 +152,36 @@ list-value {done = done} {operand = operand} {waiting = waiting} e none =
 
 module _ {g : Frame} {nests : List machine.Open} {table stack₀ : List ℕ} {first floor passed : ℕ} {l r : Level} {stack cells after : List ℕ} where
   ended : {c : Control} {action : Action} {value : Syntax} (s : Stands c g nests table stack₀ first floor passed l stack cells) → r .floor ≡ l .floor → Closes 2 l stack cells r after
-      → IsValue action g value → nests ≡ [] → Written table first floor value r after → Ended action g nests table first floor passed (r .count) after
+      → IsValue action g value → nests ≡ [] → Written table first floor value r after → EndedLevel action g nests table first floor passed (r .count) after
   ended {value = value} s f closes is none w =
       let light = closes-lightens (s .holds) f closes in
       record { value = value; value-is = is; none = none; count-is = w .count-is; cells-are = w .cells-are; passes = omega (arith, light, s .passes, w .top-is) }
 
+  expression-ends : {c : Control} (ending : Ending) → T (inGroup ending) → r .floor ≡ l .floor → r .held ≡ l .held → Closes 2 l stack cells r after
+      → Stands c g nests table stack₀ first floor passed l stack cells → AtEnded ending g nests table stack₀ first floor passed l stack cells
+      → EndedLevel (pop expressionValue) g nests table first floor passed (r .count) after
+  expression-ends ending t f w closes s e =
+      let i = in-group ending t (e .within) in
+      ended s f closes (expression-value (e .is)) (i .2)
+      (expression-written (rw (i .0, i .1, i .2) at (carries-expression (e .carries) f w closes)))
+
+  item-ends : {c : Control} {items : Items} → r .floor ≡ l .floor → r .held ≡ l .held → Closes 2 l stack cells r after
+      → Stands c g nests table stack₀ first floor passed l stack cells → AtEnded (byItem items) g nests table stack₀ first floor passed l stack cells
+      → EndedLevel (pop listValue) g nests table first floor passed (r .count) after
+  item-ends f w closes s e =
+      ended s f closes (list-value (e .is) (e .within .0)) (e .within .1)
+      (all-written (rw (e .within .0, e .within .1) at (carries-expression (e .carries) f w closes)))
+
   pub ends : {class : ℕ} {c : Control} {action : Action} → r .floor ≡ l .floor → r .held ≡ l .held → Closes 2 l stack cells r after
-      → Stands c g nests table stack₀ first floor passed l stack cells → Ends class c true action → Ended action g nests table first floor passed (r .count) after
+      → Stands c g nests table stack₀ first floor passed l stack cells → Ends class c true action → EndedLevel action g nests table first floor passed (r .count) after
   ends f w closes s ends-statements =
       ended s f closes (rw (s .is) is-popped) (s .shaped .3)
       (statements-written (rw (s .shaped .0, s .shaped .1, s .shaped .2, s .shaped .3) at (carries-expression (carried s) f w closes)))
   ends f w closes s (ends-text e) =
       ended s f closes (rw (s .is, s .shaped .0, s .shaped .1, s .shaped .2) is-program) (s .shaped .3)
       (statements-written (rw (s .shaped .0, s .shaped .1, s .shaped .2, s .shaped .3) at (carries-expression (carried s) f w closes)))
-  ends f w closes s (ends-expression {ending = ending} t) = let i = in-group ending t (s .shaped) in
-      ended s f closes (expression-value (s .is)) (i .2)
-      (expression-written (rw (i .0, i .1, i .2) at (carries-expression (carried s) f w closes)))
-  ends f w closes s ends-item =
-      ended s f closes (list-value (s .is) (s .shaped .0)) (s .shaped .1)
-      (all-written (rw (s .shaped .0, s .shaped .1) at (carries-expression (carried s) f w closes)))
+  ends f w closes s (ends-expression {ending = ending} t there) = expression-ends ending t f w closes s (at-ended there s)
+  ends f w closes s (ends-item there) = item-ends f w closes s (at-ended there s)
   ends f w closes s ends-items =
       ended s f closes (rw (s .is) is-popped) (s .shaped .3)
       (statements-written (rw (s .shaped .0, s .shaped .1, s .shaped .2, s .shaped .3) at (carries-expression (carried s) f w closes)))
@@ -180,11 +194,11 @@ module _ {g : Frame} {nests : List machine.Open} {table stack₀ : List ℕ} {fi
 
 -- what is done before a token, over the code's controls
 module _ (at : code.Control) where
-  control-named : at .place ≡ 5 → controlOf at ≡ nameFirst (settingBy (at .setting))
+  control-named : at .place ≡ 19 → controlOf at ≡ nameFirst (settingBy (at .setting))
   unfolding controlOf controlBy
   control-named e = rw e
 
-  pub control-done : at .place ≡ 4 → controlOf at ≡ statementDone ifNest
+  pub control-done : at .place ≡ 18 → controlOf at ≡ statementDone ifNest
   unfolding controlOf controlBy
   control-done e = rw e
 
@@ -195,13 +209,13 @@ module _ (at : code.Control) where
         no-nest = λ p. let q = control-done p in let z : _≡_ {A = ℕ} 0 1 = cc in absurd (omega arith);
       }
 
-  behind-unnamed : (setting : Setting) → controlOf at ≡ behindStatement setting → at .place ≡ 5 → ⊥
+  behind-unnamed : (setting : Setting) → controlOf at ≡ behindStatement setting → at .place ≡ 19 → ⊥
   behind-unnamed (among scope) e p = let q = control-named p in let z : _≡_ {A = ℕ} 0 1 = cc in absurd (omega arith)
   behind-unnamed (inNest nest) e p = let q = control-named p in let z : _≡_ {A = ℕ} 0 1 = cc in absurd (omega arith)
 
 -- one move after the other
 moved-on : {from : Control} {c : code.Control} {middle : Level} {stack between cells′ : List ℕ} {r : Standing} {g : Frame} {nests : List machine.Open} {table stack₀ : List ℕ} {first floor passed : ℕ}
-    → c .place ≡ 4 → (m : Moved from g nests table stack₀ first floor passed (record { control = c; level = middle }) stack between)
+    → c .place ≡ 18 → (m : Moved from g nests table stack₀ first floor passed (record { control = c; level = middle }) stack between)
     → Moved (statementDone ifNest) (m .frame-then) (m .nests-then) table stack₀ first floor passed r stack cells′ → Moved from g nests table stack₀ first floor passed r stack cells′
 moved-on {c = c} e m n =
     record {
@@ -230,7 +244,7 @@ module _ {l : Level} {stack cells : List ℕ} where
   pub moves-none : (at : code.Control) → Moves (controlOf at) l stack cells (record { control = at; level = l }) cells
   moves-none at g nests table stack₀ first floor passed s = record { frame-then = g; nests-then = nests; stands = s; kind = refl; takes = λ class around spot u. refl }
 
-  pub moves-on : {from : Control} {c : code.Control} {middle : Level} {between cells′ : List ℕ} {r : Standing} → c .place ≡ 4
+  pub moves-on : {from : Control} {c : code.Control} {middle : Level} {between cells′ : List ℕ} {r : Standing} → c .place ≡ 18
       → Moves from l stack cells (record { control = c; level = middle }) between → Leaves middle stack between r cells′ → Moves from l stack cells r cells′
   moves-on {c = c} e moves leaves g nests table stack₀ first floor passed s =
       let m = moves g nests table stack₀ first floor passed s in
@@ -248,7 +262,11 @@ module _ {l : Level} {stack cells : List ℕ} where
       let m = moves g nests table stack₀ first floor passed s in
       record { frame-then = m .frame-then; nests-then = m .nests-then; stands = m .stands; settled = settled; kind = m .kind; takes = λ around spot u. m .takes class around spot u }
 
-pub name-readies : {at c : code.Control} {l r : Level} {cells cells′ : List ℕ} → at .place ≡ 5 → controlOf c ≡ controlBy 3 0 (at .setting) true
+  -- below the two places where something is done, what stands there stays
+  pub stays-below : (at : code.Control) → at .place < 18 → LeavesAll at l stack cells (record { control = at; level = l }) cells
+  stays-below at below class = moves-settled (moves-none at) class (record { no-name = λ e. absurd (omega arith); no-nest = λ e. absurd (omega arith) })
+
+pub name-readies : {at c : code.Control} {l r : Level} {cells cells′ : List ℕ} → at .place ≡ 19 → controlOf c ≡ controlBy 3 0 (at .setting) true
     → (r ≡ madeOne l) × (cells′ ≡ putRecord cells (l .count) name (l .held) (l .count - l .start + 1)) → Names at l cells (record { control = c; level = r }) cells′
 unfolding controlBy endingBy
 name-readies {at = at} {c = c} e f made class stack other g nests table stack₀ first floor passed s =

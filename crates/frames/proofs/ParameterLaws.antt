@@ -1,13 +1,13 @@
 -- A level inside a parameter's parentheses stays there, and has no value.
-use mathlib.Core.Path.{_≡_, refl}
+use mathlib.Core.Path.{_≡_, refl, sym, _∙_}
 use mathlib.Core.Bool.{Bool, true, false, cond}
 use Prim.Native.Nat.{ℕ}
 use native.Mathlib.Omega.{arith}
 use borrow.Author.Tests.{eqb-true}
 use lib.Dec.{eqb}
-use Rattle.grammar.specs.Syntax.{Syntax, nil}
-use Rattle.grammar.specs.Grammar.{Items, callArguments, arrayElements, objectProperties}
-use Rattle.grammar.specs.Machinery.Machine.{Frame, Setting, among, inNest, behindStatement, behindComma, Effect, Closing, toParens, toCall, toObject, toArray, toIndex, toBlock, toCondition, toParameter, toDeclaration, toFunction, Ending, Control, Action}
+use Rattle.machine.specs.Syntax.{Syntax, nil}
+use Rattle.machine.specs.Scopes.{Items, callArguments, arrayElements, objectProperties}
+use Rattle.machine.specs.Machinery.Machine.{Frame, Setting, among, inNest, behindStatement, behindComma, Effect, Closing, toParens, toCall, toObject, toArray, toIndex, toBlock, toCondition, toParameter, toDeclaration, toFunction, Ending, Control, Action}
 use Rattle.controls.specs.Machinery.Numbers.{closingBy, insideBy}
 use Rattle.controls.specs.Machinery.Steps.{
   Due,
@@ -15,6 +15,10 @@ use Rattle.controls.specs.Machinery.Steps.{
   due-value,
   due-item,
   due-statement,
+  due-member,
+  Ended,
+  ended-operand,
+  ended-postfix,
   Leads,
   to-name,
   to-leaf,
@@ -25,8 +29,12 @@ use Rattle.controls.specs.Machinery.Steps.{
   to-bare-end,
   to-dot,
   to-member,
+  to-prefix,
+  to-new,
+  to-postfix,
   to-assign,
   to-operator,
+  to-comma,
   to-end,
   to-return-end,
   to-item-end,
@@ -64,6 +72,11 @@ due-kind due-operand = refl
 due-kind due-value = refl
 due-kind due-item = refl
 due-kind due-statement = refl
+due-kind due-member = refl
+
+pub ended-kind : {from : Control} {ending : Ending} → Ended from ending → ofParameter from ≡ false
+ended-kind ended-operand = refl
+ended-kind ended-postfix = refl
 
 behind-kind : (setting : Setting) → ofParameter (behindStatement setting) ≡ false
 behind-kind (among scope) = refl
@@ -84,11 +97,15 @@ leads-kind to-label = refl
 leads-kind (to-bare-end {setting = setting}) = behind-kind setting
 leads-kind to-dot = refl
 leads-kind to-member = refl
-leads-kind to-assign = refl
-leads-kind (to-operator tight) = refl
-leads-kind (to-end {setting = setting}) = behind-kind setting
-leads-kind (to-return-end {setting = setting}) = behind-kind setting
-leads-kind (to-item-end {items = items}) = comma-kind items
+leads-kind (to-prefix class in-list due takes) = due-kind due
+leads-kind (to-new due) = due-kind due
+leads-kind (to-postfix class in-list) = refl
+leads-kind (to-assign in-list) = refl
+leads-kind (to-operator in-list ended) = sym (ended-kind ended)
+leads-kind (to-comma takes ended) = sym (ended-kind ended)
+leads-kind (to-end {setting = setting} ended) = behind-kind setting ∙ sym (ended-kind ended)
+leads-kind (to-return-end {setting = setting} ended) = behind-kind setting ∙ sym (ended-kind ended)
+leads-kind (to-item-end {items = items} ended) = comma-kind items ∙ sym (ended-kind ended)
 leads-kind to-hole = refl
 leads-kind to-function-name = refl
 leads-kind to-property = refl
@@ -136,8 +153,8 @@ parameter-inside closing e = rw (parameter-number closing e)
 pub parameter-value : {class : ℕ} {c : Control} {action : Action} {g : Frame} {value : Syntax} → Ends class c true action → ofParameter c ≡ true → IsValue action g value → value ≡ nil
 parameter-value ends-statements e is = let z : _≡_ {A = ℕ} 0 1 = cc in absurd (omega arith)
 parameter-value (ends-text t) e is = let z : _≡_ {A = ℕ} 0 1 = cc in absurd (omega arith)
-parameter-value (ends-expression t) e is = let z : _≡_ {A = ℕ} 0 1 = cc in absurd (omega arith)
-parameter-value ends-item e is = let z : _≡_ {A = ℕ} 0 1 = cc in absurd (omega arith)
+parameter-value (ends-expression t ended) e is = let k = ended-kind ended in let z : _≡_ {A = ℕ} 0 1 = cc in absurd (omega arith)
+parameter-value (ends-item ended) e is = let k = ended-kind ended in let z : _≡_ {A = ℕ} 0 1 = cc in absurd (omega arith)
 parameter-value ends-items e is = let z : _≡_ {A = ℕ} 0 1 = cc in absurd (omega arith)
 parameter-value ends-no-parameter e is-popped = refl
 parameter-value ends-parameter e is-popped = refl

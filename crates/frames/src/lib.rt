@@ -1,12 +1,12 @@
 // What a level has so far: the token machine's frames, as syntax records in order and a lent stack of what waits; what is done before a
 // token, and at the level's end.
 ghost use mathlib.Core.Path.{_≡_};
-ghost use Rattle.grammar.specs.Machinery.Machine.{statementDone, ifNest};
+ghost use Rattle.machine.specs.Machinery.Machine.{statementDone, ifNest};
 ghost use Rattle.controls.specs.Machinery.Numbers.{controlOf};
 ghost use Rattle.waiting.specs.Machinery.Waiting.{Backed};
 ghost use Rattle.frames.specs.Machinery.Effects.{StandsSomewhere, Leaves, MayLeave, LeavesAll, MayName, Names, Readies, EndsLevel};
 use controls::Control;
-use grammar::tokens;
+use machine::tokens;
 use waiting::Level;
 
 // Where the machine stands, and what its level has.
@@ -87,6 +87,13 @@ pub fn ready(at: Control, class: u32, l: Level, waiting: &[u16], syntax: &mut [u
     requires { ⌜ StandsSomewhere (controlOf at) l (now waiting) (now syntax) ⌝ }
     ensures { λ r. ⌜ Readies at class l (now (waiting .entry)) (now (syntax .entry)) r (now (syntax .exit)) ⌝ }
 {
+    // Only behind a statement of a nest, and behind a name that a statement starts with, is there something to do.
+    if at.place < controls::STATEMENT_DONE {
+        return Standing {
+            control: at,
+            level: l,
+        };
+    }
     if at.place == controls::NAME_FIRST {
         if class == tokens::COLON {
             return Standing {

@@ -4,9 +4,9 @@ use mathlib.Core.Bool.{Bool}
 use mathlib.Core.List.{List, [], _∷_}
 use Prim.Native.Nat.{ℕ}
 use native.Mathlib.Omega.{arith}
-use Rattle.grammar.specs.Tokens.{token, Spot}
-use Rattle.grammar.specs.Syntax.{Syntax}
-use Rattle.grammar.specs.Machinery.Machine.{
+use Rattle.machine.specs.Tokens.{token, Spot}
+use Rattle.machine.specs.Syntax.{Syntax}
+use Rattle.machine.specs.Machinery.Machine.{
   Frame,
   close,
   Control,
@@ -17,16 +17,20 @@ use Rattle.grammar.specs.Machinery.Machine.{
   enter,
   pop,
   leave,
+  ask,
+  turn,
   finish,
   look,
   row,
   Open,
   grouped,
   nested,
+  asking,
   State,
   dead,
   live,
   popTo,
+  turnTo,
   finishIn,
   actBy,
   leaveTo,
@@ -59,6 +63,13 @@ module _ (newline : Bool) (mark here there : ℕ) where
   pops-alike value [] = both-dead
   pops-alike value (grouped behind closing mark f ∷ around) = alike
   pops-alike value (nested behind closing mark f ∷ around) = both-dead
+  pops-alike value (asking ending mark f ∷ around) = both-dead
+
+  turns-alike : (value : Syntax) (around : List Open) → Alike (turnTo here value around) (turnTo there value around)
+  turns-alike value [] = both-dead
+  turns-alike value (grouped behind closing mark f ∷ around) = both-dead
+  turns-alike value (nested behind closing mark f ∷ around) = both-dead
+  turns-alike value (asking ending mark f ∷ around) = alike
 
   finishes-alike : (f : Frame) (around : List Open) → Alike (finishIn here f around) (finishIn there f around)
   finishes-alike f [] = alike
@@ -72,11 +83,14 @@ module _ (newline : Bool) (mark here there : ℕ) where
   acts-alike out away left (enter inside behind closing) f around = alike
   acts-alike out away left (pop value) f around = pops-alike _ around
   acts-alike out away left (leave value) f around = left _
+  acts-alike out away left (ask ending) f around = alike
+  acts-alike out away left turn f around = turns-alike _ around
   acts-alike out away left finish f around = finishes-alike f around
 
   leaves-alike : (class : ℕ) (around : List Open) (value : Syntax) → Alike (leaveTo class one around value) (leaveTo class other around value)
   leaves-alike class [] value = both-dead
   leaves-alike class (grouped behind closing opened f ∷ around) value = both-dead
+  leaves-alike class (asking ending opened f ∷ around) value = both-dead
   leaves-alike class (nested behind closing opened f ∷ around) value =
       acts-alike (leaveTo class one around) (leaveTo class other around) (leaves-alike class around) (look class (row behind newline))
       (close closing opened value f) around

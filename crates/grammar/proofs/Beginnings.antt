@@ -1,20 +1,28 @@
 -- What an expression begins with; where a statement or a returned value may begin, the machine takes it as an expression.
 use mathlib.Core.Path.{_≡_, refl, sym, _∙_, ap}
-use mathlib.Core.Bool.{Bool, true, false, not}
-use mathlib.Core.List.{List, [], _∷_}
+use mathlib.Core.Bool.{Bool, true, false, not, _||_}
+use mathlib.Core.List.{List, [], _∷_, _++_}
 use Prim.Native.Nat.{ℕ}
-use lib.Dec.{T, eqb}
-use Rattle.text.proofs.Members.{allIn, at, isIn, found}
-use Rattle.grammar.specs.Tokens.{Token, token, Spot, name, number, string, pattern, colon, semicolon, openParen, closeParen, openBracket, closeBracket, openBrace, comma, functionWord, wordName}
-use Rattle.grammar.specs.Syntax.{Syntax, nil, node}
+use lib.Dec.{T, T-not, eqb, eqb→eq}
+use Rattle.machine.specs.Tokens.{Token, token, Spot, name, newWord, colon, semicolon, openParen, closeParen, openBracket, closeBracket, openBrace, comma, returnWord, functionWord, ifWord, wordName}
+use Rattle.machine.specs.Syntax.{Syntax, nil, node}
 use Rattle.grammar.specs.Grammar.{
   Leaf,
   leaf-name,
   leaf-number,
   leaf-string,
   leaf-pattern,
-  operators,
-  isOperator,
+  leaf-this,
+  leaf-null,
+  leaf-true,
+  leaf-false,
+  block,
+  assignmentOperators,
+  binaryOperators,
+  prefixOperators,
+  prefixKind,
+  postfixOperators,
+  isAmong,
   startsExpression,
   onSameLine,
   identifier,
@@ -35,43 +43,73 @@ use Rattle.grammar.specs.Grammar.{
   chain-function,
   chain-unnamed,
   chain-index,
-  chain-call,
   chain-member,
+  chain-call,
+  chain-new,
+  Target,
+  target-chain,
+  target-new,
+  Unary,
+  unary-target,
+  unary-prefix,
+  unary-postfix,
   Binary,
-  binary-chain,
+  binary-unary,
   binary-operator,
   Assign,
   assign-binary,
   assign-to,
+  assign-conditional,
+  Expression,
+  expression-assign,
+  expression-comma,
 }
-use Rattle.grammar.specs.Machinery.Machine.{
+use Rattle.machine.specs.Machinery.Machine.{
   Frame,
   frame,
+  Ending,
   Setting,
+  among,
   statementDue,
   nameFirst,
   returnFirst,
   behindStatement,
   operandDue,
+  memberDue,
   operandDone,
   byStatement,
   byReturn,
   byItem,
   keep,
+  takeName,
   takeLabel,
+  takeLeaf,
+  takePrefix,
+  startReturn,
   endBareReturn,
   doneValue,
+  toBlock,
+  toStatement,
   Control,
+  ifFirst,
   itemDue,
   propertyNamed,
   behindComma,
   Action,
   goto,
+  push,
+  enter,
   pop,
   Entry,
   on,
   look,
+  values,
+  operandBegins,
+  primaries,
+  beginnings,
   operand,
+  member,
+  noStatement,
   afterOperand,
   unlessLine,
   Open,
@@ -79,76 +117,101 @@ use Rattle.grammar.specs.Machinery.Machine.{
   live,
   act,
   consume,
+  asksIn,
 }
-use Rattle.grammar.proofs.TableLaws.{at-operator, look-past, no-newline}
+use Rattle.machine.specs.Machinery.Classes.{isSensed}
+use Rattle.grammar.proofs.TableLaws.{eachClass, at-class, at-leaf, among-rest, look-past, look-each, look-behind, look-under, hasEntry, look-within, look-beyond, no-newline}
 
 -- a token comes, and it is no `:`
 abbrev pub noColon : List Token → Bool
 noColon [] = false
 noColon (token class spot ∷ rest) = not (eqb class colon)
 
--- the tokens begin as an expression does, and not as a label does
-pub data Begins : List Token → Type 0 where
-  by-name : {spot : Spot} {rest : List Token} → T (noColon rest) → Begins (token name spot ∷ rest)
-  by-number : {spot : Spot} {rest : List Token} → Begins (token number spot ∷ rest)
-  by-string : {spot : Spot} {rest : List Token} → Begins (token string spot ∷ rest)
-  by-pattern : {spot : Spot} {rest : List Token} → Begins (token pattern spot ∷ rest)
-  by-parens : {spot : Spot} {rest : List Token} → Begins (token openParen spot ∷ rest)
-  by-array : {spot : Spot} {rest : List Token} → Begins (token openBracket spot ∷ rest)
-  by-object : {spot : Spot} {rest : List Token} → Begins (token openBrace spot ∷ rest)
-  by-function : {spot : Spot} {rest : List Token} → Begins (token functionWord spot ∷ rest)
+-- The tokens begin with one of the classes; where a name comes, what stands behind it is no `:`, if that is so of what stands behind the part: so they
+-- begin as no label does.
+pub data Begins (classes : List ℕ) (past : Bool) : List Token → Type 0 where
+  by-class : {class : ℕ} {spot : Spot} {rest : List Token} → T (isAmong classes class) → (T (eqb class name) → T past → T (noColon rest))
+      → Begins classes past (token class spot ∷ rest)
 
-leaf-begins : {class : ℕ} (spot : Spot) (rest : List Token) → Leaf class → T (noColon rest) → Begins (token class spot ∷ rest)
-leaf-begins spot rest leaf-name next = by-name next
-leaf-begins spot rest leaf-number next = by-number
-leaf-begins spot rest leaf-string next = by-string
-leaf-begins spot rest leaf-pattern next = by-pattern
+-- the classes that begin an operand wherever one is due; a Target; and an expression
+abbrev plainStarts : List ℕ
+plainStarts = openParen ∷ openBracket ∷ newWord ∷ values
 
-chain-begins : {before after : List Token} {value : Syntax} → Chain before after value → T (noColon after) → Begins before
-chain-begins (chain-leaf {spot = spot} {after = after} leaf) next = leaf-begins spot after leaf next
-chain-begins (chain-array values) next = by-array
-chain-begins (chain-object values) next = by-object
-chain-begins (chain-parens value) next = by-parens
-chain-begins (chain-function function) next = by-function
-chain-begins (chain-unnamed function) next = by-function
-chain-begins (chain-index object value) next = chain-begins object tt
-chain-begins (chain-call callee values) next = chain-begins callee tt
-chain-begins (chain-member called object) next = chain-begins object tt
+abbrev pub targetStarts : List ℕ
+targetStarts = name ∷ openBrace ∷ functionWord ∷ plainStarts
 
-operator-no-colon : (class : ℕ) → T (isOperator class) → T (not (eqb class colon))
-operator-no-colon class h = at-operator (λ x. not (eqb x colon)) operators class h tt
+abbrev pub expressionStarts : List ℕ
+expressionStarts = targetStarts ++ prefixOperators
 
-binary-begins : {least : ℕ} {before after : List Token} {value : Syntax} → Binary least before after value → T (noColon after) → Begins before
-binary-begins (binary-chain chain) next = chain-begins chain next
-binary-begins (binary-operator {class = class} op tight left right) next = binary-begins left (operator-no-colon class op)
+module _ {classes : List ℕ} {past : Bool} where
+  -- another class than a name
+  begins-by : {class : ℕ} {spot : Spot} {rest : List Token} → T (isAmong classes class) → T (not (eqb class name))
+      → Begins classes past (token class spot ∷ rest)
+  begins-by {class} listed other = by-class listed λ named. absurd (T-not (eqb class name) other named)
 
-pub assign-begins : {before after : List Token} {value : Syntax} → Assign before after value → T (noColon after) → Begins before
-assign-begins (assign-binary binary) next = binary-begins binary next
-assign-begins (assign-to target value) next = chain-begins target tt
+  followed : {before : List Token} (behind : Bool) → T behind → Begins classes behind before → Begins classes past before
+  followed behind h (by-class listed next) = by-class listed λ named k. next named h
 
--- the classes that an expression begins with
-abbrev beginners : List ℕ
-beginners = name ∷ number ∷ string ∷ pattern ∷ openParen ∷ openBracket ∷ openBrace ∷ functionWord ∷ []
+chain-begins : {calls : Bool} {before after : List Token} {value : Syntax} → Chain calls before after value → Begins targetStarts (noColon after) before
+chain-begins (chain-leaf leaf) = by-class (at-leaf (isAmong targetStarts) tt leaf) λ named next. next
+chain-begins (chain-array values) = begins-by tt tt
+chain-begins (chain-object values) = begins-by tt tt
+chain-begins (chain-parens value) = begins-by tt tt
+chain-begins (chain-function function) = begins-by tt tt
+chain-begins (chain-unnamed function) = begins-by tt tt
+chain-begins (chain-index object value) = followed true tt (chain-begins object)
+chain-begins (chain-member called object) = followed true tt (chain-begins object)
+chain-begins (chain-call callee values) = followed true tt (chain-begins callee)
+chain-begins (chain-new callee values) = begins-by tt tt
 
-begins-among : {class : ℕ} {spot : Spot} {rest : List Token} → Begins (token class spot ∷ rest) → T (isIn beginners class)
-begins-among (by-name next) = tt
-begins-among by-number = tt
-begins-among by-string = tt
-begins-among by-pattern = tt
-begins-among by-parens = tt
-begins-among by-array = tt
-begins-among by-object = tt
-begins-among by-function = tt
+pub target-begins : {calls : Bool} {before after : List Token} {value : Syntax} → Target calls before after value
+    → Begins targetStarts (noColon after) before
+target-begins (target-chain chain) = chain-begins chain
+target-begins (target-new callee) = begins-by tt tt
 
--- a class that is none of these
-begins-other : {class : ℕ} {spot : Spot} {rest : List Token} (x : ℕ) → T (allIn (λ class. not (eqb class x)) beginners)
-    → Begins (token class spot ∷ rest) → T (not (eqb class x))
-begins-other {class} x none begins = at (λ class. not (eqb class x)) (found beginners class (begins-among begins)) none
+-- operators are no `:`
+operator-no-colon : (classes : List ℕ) → T (eachClass (λ x. not (eqb x colon)) classes) → (class : ℕ) → T (isAmong classes class) → T (not (eqb class colon))
+operator-no-colon classes none class h = at-class (λ x. not (eqb x colon)) classes class h none
 
--- what is seen of a run: of a state only what it makes of the next token, and nothing at a token that is no brace
+widened : {past : Bool} {before : List Token} → Begins targetStarts past before → Begins expressionStarts past before
+widened (by-class {class = class} listed next) = by-class (at-class (isAmong expressionStarts) targetStarts class listed tt) next
+
+unary-begins : {before after : List Token} {value : Syntax} → Unary before after value → Begins expressionStarts (noColon after) before
+unary-begins (unary-target target) = widened (target-begins target)
+unary-begins (unary-prefix {class = class} op operand) =
+    begins-by (at-class (isAmong expressionStarts) prefixOperators class op tt) (at-class (λ x. not (eqb x name)) prefixOperators class op tt)
+unary-begins (unary-postfix {class = class} op same operand) =
+    followed (not (eqb class colon)) (operator-no-colon postfixOperators tt class op) (widened (target-begins operand))
+
+binary-begins : {least : ℕ} {before after : List Token} {value : Syntax} → Binary least before after value
+    → Begins expressionStarts (noColon after) before
+binary-begins (binary-unary unary) = unary-begins unary
+binary-begins (binary-operator {class = class} op tight left right) =
+    followed (not (eqb class colon)) (operator-no-colon binaryOperators tt class op) (binary-begins left)
+
+-- where no `:` stands behind the whole, it begins as no label does
+pub assign-begins : {before after : List Token} {value : Syntax} → Assign before after value → T (noColon after) → Begins expressionStarts true before
+assign-begins {after = after} (assign-binary binary) next = followed (noColon after) next (binary-begins binary)
+assign-begins (assign-to {class = class} op target value) next =
+    followed (not (eqb class colon)) (operator-no-colon assignmentOperators tt class op) (widened (target-begins target))
+assign-begins (assign-conditional condition first second) next = followed true tt (binary-begins condition)
+
+pub expression-begins : {before after : List Token} {value : Syntax} → Expression before after value → T (noColon after)
+    → Begins expressionStarts true before
+expression-begins (expression-assign value) next = assign-begins value next
+expression-begins (expression-comma left right) next = expression-begins left tt
+
+-- a class that is none of those that an expression begins with
+begins-other : {class : ℕ} {spot : Spot} {rest : List Token} (x : ℕ) → T (eachClass (λ class. not (eqb class x)) expressionStarts)
+    → Begins expressionStarts true (token class spot ∷ rest) → T (not (eqb class x))
+begins-other x none (by-class {class = class} listed next) = at-class (λ class. not (eqb class x)) expressionStarts class listed none
+
+-- what is seen of a run: of a state only what it makes of the next token and whether a `?` is open there, and nothing at a token that the prefix rule does
+-- not settle
 pub record Sees {A : Type 0} (seen : State → List Token → A) : Type 0 where
-  pub by-take : (state other : State) (t : Token) (ts : List Token) → consume state t ≡ consume other t → seen state (t ∷ ts) ≡ seen other (t ∷ ts)
-  pub past-other : (state : State) (class : ℕ) (spot : Spot) (ts : List Token) → T (not (eqb class openBrace))
+  pub by-take : (state other : State) (t : Token) (ts : List Token) → asksIn state ≡ asksIn other → consume state t ≡ consume other t
+      → seen state (t ∷ ts) ≡ seen other (t ∷ ts)
+  pub past-other : (state : State) (class : ℕ) (spot : Spot) (ts : List Token) → T (not (isSensed (asksIn state) class))
       → seen state (token class spot ∷ ts) ≡ seen (consume state (token class spot)) ts
 
 -- where an item may come: the first of a list, or one behind a `,`
@@ -156,55 +219,128 @@ abbrev pub betweenItems : Items → Bool → Control
 betweenItems items true = itemDue items
 betweenItems items false = behindComma items
 
+-- the entries of the row where a statement may begin that begin no expression
+abbrev statementOnly : Setting → List Entry
+statementOnly setting =
+    on openBrace (push (statementDue false (among block)) (behindStatement setting) toBlock)
+    ∷ on ifWord (enter ifFirst (behindStatement setting) toStatement)
+    ∷ on returnWord (goto (returnFirst setting) startReturn)
+    ∷ on name (goto (nameFirst setting) takeName)
+    ∷ []
+
+-- other beginnings of an expression are looked up alike where a statement may begin and where an operand is due
+statement-or-operand : (must : Bool) (setting : Setting) (class : ℕ) → T (isAmong (plainStarts ++ prefixOperators) class)
+    → look class (statementOnly setting ++ beginnings (byStatement setting) true (noStatement must setting)) ≡ look class (operand (byStatement setting) true)
+statement-or-operand must setting class h =
+    let plain = beginnings (byStatement setting) true [] in
+    let starts = operandBegins (byStatement setting) true [] in
+    look-beyond (statementOnly setting) (plain ++ noStatement must setting) class (here (λ x. not (hasEntry (statementOnly setting) x)) tt)
+    ∙ look-within plain (noStatement must setting) class (here (hasEntry plain) tt)
+    ∙ sym (look-beyond starts plain class (here (λ x. not (hasEntry starts x)) tt))
+  where
+    here : (test : ℕ → Bool) → T (eachClass test (plainStarts ++ prefixOperators)) → T (test class)
+    here test each = at-class test (plainStarts ++ prefixOperators) class h each
+
+-- beginnings of a Target are looked up alike behind `new`
+member-or-operand : (ending : Ending) (target : Bool) (class : ℕ) → T (isAmong targetStarts class)
+    → look class (member ending target) ≡ look class (operand ending target)
+member-or-operand ending target class h =
+    sym (look-under (operandBegins ending target []) (beginnings ending target []) (primaries ending target []) class
+    (look-behind (λ class. goto (operandDue ending false) (takePrefix (prefixKind class))) prefixOperators (primaries ending target []) class
+    (at-class (λ x. not (isAmong prefixOperators x)) targetStarts class h tt)))
+
+-- leaves are looked up where an operand is due
+pub look-leaf : {class : ℕ} (ending : Ending) (target : Bool) → Leaf class
+    → look class (operand ending target) ≡ goto (operandDone ending target) (takeLeaf class)
+look-leaf ending target leaf-name = refl
+look-leaf ending target leaf-number = refl
+look-leaf ending target leaf-string = refl
+look-leaf ending target leaf-pattern = refl
+look-leaf ending target leaf-this = refl
+look-leaf ending target leaf-null = refl
+look-leaf ending target leaf-true = refl
+look-leaf ending target leaf-false = refl
+
+-- operators before an operand are looked up behind names, objects and functions
+pub look-prefix : (ending : Ending) (target : Bool) (class : ℕ) → T (isAmong prefixOperators class)
+    → look class (operand ending target) ≡ goto (operandDue ending false) (takePrefix (prefixKind class))
+look-prefix ending target class op =
+    let starts = operandBegins ending target [] in
+    look-beyond starts (beginnings ending target []) class (at-class (λ x. not (hasEntry starts x)) prefixOperators class op tt)
+    ∙ look-each (λ class. goto (operandDue ending false) (takePrefix (prefixKind class))) prefixOperators (primaries ending target []) class op
+
+not-either : (a b : Bool) → T (not (a || b)) → T (not a) × T (not b)
+not-either true b h = absurd h
+not-either false b h = (tt, h)
+
 module _ {A : Type 0} {seen : State → List Token → A} (sees : Sees seen) where
   -- a name before no `:` is an operand
   name-is-operand : (setting : Setting) (f : Frame) (around : List Open) (rest : List Token) → T (noColon rest)
       → seen (live (nameFirst setting) f around) rest ≡ seen (live (operandDone (byStatement setting) true) f around) rest
   name-is-operand setting f around [] next = absurd next
   name-is-operand setting f around (token class spot ∷ rest) next =
-      sees .by-take (live (nameFirst setting) f around) (live (operandDone (byStatement setting) true) f around) (token class spot) rest
+      sees .by-take (live (nameFirst setting) f around) (live (operandDone (byStatement setting) true) f around) (token class spot) rest refl
       (ap (λ (z : Action). act z class spot f around)
-      (look-past class colon (goto (statementDue true setting) takeLabel) (afterOperand (byStatement setting) true) next))
+      (look-past class colon (goto (statementDue true setting) takeLabel) (afterOperand (byStatement setting) true (spot .newline)) next))
 
   -- "not starting with `{` or `function`": a statement that begins as an expression is taken as one
   pub expression-is-taken : (must : Bool) (setting : Setting) (f : Frame) (around : List Open) {before : List Token}
-      → Begins before → T (startsExpression before)
+      → Begins expressionStarts true before → T (startsExpression before)
       → seen (live (statementDue must setting) f around) before ≡ seen (live (operandDue (byStatement setting) true) f around) before
-  expression-is-taken must setting (frame done starts waiting operand) around (by-name {spot = spot} {rest = rest} next) allowed =
-      let f = frame done starts waiting operand in
-      sees .past-other (live (statementDue must setting) f around) name spot rest tt
-      ∙ name-is-operand setting (frame done starts waiting (node name (spot .mark) nil nil)) around rest next
-      ∙ sym (sees .past-other (live (operandDue (byStatement setting) true) f around) name spot rest tt)
-  expression-is-taken must setting f around by-number allowed = sees .by-take _ _ _ _ refl
-  expression-is-taken must setting f around by-string allowed = sees .by-take _ _ _ _ refl
-  expression-is-taken must setting f around by-pattern allowed = sees .by-take _ _ _ _ refl
-  expression-is-taken must setting f around by-parens allowed = sees .by-take _ _ _ _ refl
-  expression-is-taken must setting f around by-array allowed = sees .by-take _ _ _ _ refl
-  expression-is-taken must setting f around by-object allowed = absurd allowed
-  expression-is-taken must setting f around by-function allowed = absurd allowed
+  expression-is-taken must setting f around (by-class {class = class} {spot = spot} {rest = rest} listed next) allowed =
+      go (eqb class name) (λ t. t) (λ t. t)
+    where
+      by-name : (f : Frame) → T (noColon rest)
+          → seen (live (statementDue must setting) f around) (token name spot ∷ rest)
+          ≡ seen (live (operandDue (byStatement setting) true) f around) (token name spot ∷ rest)
+      by-name (frame done starts waiting operand) next =
+          let f = frame done starts waiting operand in
+          sees .past-other (live (statementDue must setting) f around) name spot rest tt
+          ∙ name-is-operand setting (frame done starts waiting (node name (spot .mark) nil nil)) around rest next
+          ∙ sym (sees .past-other (live (operandDue (byStatement setting) true) f around) name spot rest tt)
+
+      go : (b : Bool) → (T b → T (eqb class name)) → (T (not b) → T (not (eqb class name)))
+          → seen (live (statementDue must setting) f around) (token class spot ∷ rest)
+          ≡ seen (live (operandDue (byStatement setting) true) f around) (token class spot ∷ rest)
+      go true same other = rw (eqb→eq class name (same tt)) (by-name f (next (same tt) tt))
+      go false same other =
+          let neither = not-either (eqb class openBrace) (eqb class functionWord) allowed in
+          sees .by-take (live (statementDue must setting) f around) (live (operandDue (byStatement setting) true) f around) (token class spot) rest refl
+          (ap (λ (z : Action). act z class spot f around)
+          (statement-or-operand must setting class
+          (among-rest functionWord (plainStarts ++ prefixOperators) class (neither .1)
+          (among-rest openBrace (functionWord ∷ (plainStarts ++ prefixOperators)) class (neither .0)
+          (among-rest name (openBrace ∷ functionWord ∷ (plainStarts ++ prefixOperators)) class (other tt) listed)))))
+
+  -- behind `new` no operator may come: a Target is taken as any operand
+  pub target-is-taken : {past : Bool} (ending : Ending) (target : Bool) (f : Frame) (around : List Open) {before : List Token} → Begins targetStarts past before
+      → seen (live (memberDue ending target) f around) before ≡ seen (live (operandDue ending target) f around) before
+  target-is-taken ending target f around (by-class {class = class} {spot = spot} {rest = rest} listed next) =
+      sees .by-take (live (memberDue ending target) f around) (live (operandDue ending target) f around) (token class spot) rest refl
+      (ap (λ (z : Action). act z class spot f around) (member-or-operand ending target class listed))
 
   -- "with no line end after `return`": a value is taken
-  pub value-is-returned : (setting : Setting) (f : Frame) (around : List Open) (before : List Token) → Begins before → T (onSameLine before)
+  pub value-is-returned : (setting : Setting) (f : Frame) (around : List Open) (before : List Token) → Begins expressionStarts true before → T (onSameLine before)
       → seen (live (returnFirst setting) f around) before ≡ seen (live (operandDue (byReturn setting) true) f around) before
   value-is-returned setting f around (token class spot ∷ rest) begins same =
-      sees .by-take (live (returnFirst setting) f around) (live (operandDue (byReturn setting) true) f around) (token class spot) rest
+      sees .by-take (live (returnFirst setting) f around) (live (operandDue (byReturn setting) true) f around) (token class spot) rest refl
       (ap (λ (z : Action). act z class spot f around)
       (look-past class semicolon (goto (behindStatement setting) endBareReturn) (unlessLine (spot .newline) (operand (byReturn setting) true))
       (begins-other semicolon tt begins)
       ∙ ap (λ (z : List Entry). look class z) (no-newline (spot .newline) (operand (byReturn setting) true) same)))
 
   -- the value of an item is taken
-  argument-is-taken : (f : Frame) (around : List Open) (before : List Token) → Begins before
+  argument-is-taken : (f : Frame) (around : List Open) (before : List Token) → Begins expressionStarts true before
       → seen (live (itemDue callArguments) f around) before ≡ seen (live (operandDue (byItem callArguments) true) f around) before
   argument-is-taken f around (token class spot ∷ rest) begins =
-      sees .by-take (live (itemDue callArguments) f around) (live (operandDue (byItem callArguments) true) f around) (token class spot) rest
+      sees .by-take (live (itemDue callArguments) f around) (live (operandDue (byItem callArguments) true) f around) (token class spot) rest refl
       (ap (λ (z : Action). act z class spot f around)
       (look-past class closeParen (pop doneValue) (operand (byItem callArguments) true) (begins-other closeParen tt begins)))
 
-  element-is-taken : (f : Frame) (around : List Open) (before : List Token) → Begins before
+  element-is-taken : (f : Frame) (around : List Open) (before : List Token) → Begins expressionStarts true before
       → seen (live (itemDue arrayElements) f around) before ≡ seen (live (operandDue (byItem arrayElements) true) f around) before
   element-is-taken f around (token class spot ∷ rest) begins =
-      sees .by-take (live (itemDue arrayElements) f around) (live (operandDue (byItem arrayElements) true) f around) (token class spot) rest
+      sees .by-take (live (itemDue arrayElements) f around) (live (operandDue (byItem arrayElements) true) f around) (token class spot) rest refl
       (ap (λ (z : Action). act z class spot f around)
       (look-past class comma (goto (itemDue arrayElements) keep) (on closeBracket (pop doneValue) ∷ operand (byItem arrayElements) true)
       (begins-other comma tt begins)
@@ -219,7 +355,8 @@ module _ {A : Type 0} {seen : State → List Token → A} (sees : Sees seen) whe
       sees .past-other (live (itemDue objectProperties) f around) wordName called (token colon sign ∷ here) tt
       ∙ sees .past-other (live propertyNamed f around) colon sign here tt
 
-  pub item-is-taken : (items : Items) (first : Bool) (f : Frame) (around : List Open) {before here : List Token} → ItemStart items before here → Begins here
+  pub item-is-taken : (items : Items) (first : Bool) (f : Frame) (around : List Open) {before here : List Token} → ItemStart items before here
+      → Begins expressionStarts true here
       → seen (live (betweenItems items first) f around) before ≡ seen (live (operandDue (byItem items) true) f around) here
   item-is-taken callArguments true f around {before} at-argument begins = argument-is-taken f around before begins
   item-is-taken callArguments false f around at-argument begins = refl

@@ -3,8 +3,8 @@
 use mathlib.Core.Path.{_≡_}
 use mathlib.Core.List.{List, [], _∷_}
 use Prim.Native.Nat.{ℕ}
-use Rattle.grammar.specs.Tokens.{Token, token, Spot, name, colon, semicolon, openParen, closeParen, closeBracket, openBrace, closeBrace, returnWord}
-use Rattle.grammar.specs.Machinery.Machine.{
+use Rattle.machine.specs.Tokens.{Token, token, Spot, name, colon, semicolon, openParen, closeParen, closeBracket, openBrace, closeBrace, returnWord}
+use Rattle.machine.specs.Machinery.Machine.{
   endOfText,
   Frame,
   Closing,
@@ -21,7 +21,7 @@ use Rattle.grammar.specs.Machinery.Machine.{
   live,
   consume,
 }
-use Rattle.grammar.proofs.Ran.{ran}
+use Rattle.machine.proofs.Ran.{ran}
 
 -- the classes that a completion needs; no slash is among them, and nothing that starts with one
 pub data Spelled : ℕ → Type 0 where

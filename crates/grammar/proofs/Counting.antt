@@ -5,7 +5,7 @@ use mathlib.Core.List.{List, [], _∷_}
 use Prim.Native.Nat.{ℕ, _+_, _≤_, _<_}
 use native.Mathlib.Omega.{arith}
 use lib.Dec.{T, T-not, leb, leb→le, nleb→lt}
-use Rattle.grammar.specs.Tokens.{Token, token, Spot}
+use Rattle.machine.specs.Tokens.{Token, token, Spot}
 use Rattle.grammar.proofs.Counts.{isClosing}
 
 -- The marks of the tokens that are no closers count up by one, from the next mark up to a total. The mark of a closer does

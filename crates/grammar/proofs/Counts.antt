@@ -4,16 +4,15 @@ use mathlib.Core.List.{List, [], _∷_}
 use Prim.Native.Nat.{ℕ, _+_, _≤_}
 use native.Mathlib.Omega.{arith}
 use lib.Dec.{T, eqb}
-use Rattle.grammar.specs.Tokens.{Token, token, Spot, colon, closeParen, closeBracket, closeBrace}
-use Rattle.grammar.specs.Syntax.{Syntax, size}
+use Rattle.machine.specs.Tokens.{Token, token, Spot, colon, closeParen, closeBracket, closeBrace}
+use Rattle.machine.specs.Syntax.{Syntax, size}
 use Rattle.grammar.specs.Grammar.{
   Leaf,
-  leaf-name,
-  leaf-number,
-  leaf-string,
-  leaf-pattern,
-  operators,
-  isOperator,
+  assignmentOperators,
+  binaryOperators,
+  prefixOperators,
+  postfixOperators,
+  isAmong,
   Form,
   Derives,
   IdentifierName,
@@ -37,18 +36,27 @@ use Rattle.grammar.specs.Grammar.{
   chain-function,
   chain-unnamed,
   chain-index,
-  chain-call,
   chain-member,
+  chain-call,
+  chain-new,
   no-items,
   add-item,
   add-hole,
   list-empty,
   list-items,
   list-last,
-  binary-chain,
-  binary-operator,
+  expression-assign,
+  expression-comma,
   assign-binary,
   assign-to,
+  assign-conditional,
+  binary-unary,
+  binary-operator,
+  unary-target,
+  unary-prefix,
+  unary-postfix,
+  target-chain,
+  target-new,
   function-all,
   statement-block,
   statement-expression,
@@ -61,7 +69,7 @@ use Rattle.grammar.specs.Grammar.{
   add-declaration,
   Program,
 }
-use Rattle.grammar.proofs.TableLaws.{at-operator}
+use Rattle.grammar.proofs.TableLaws.{eachClass, at-class, at-leaf}
 
 -- the class of a closer
 abbrev pub isClosing : ℕ → Bool
@@ -73,13 +81,11 @@ countTreeTokens [] = 0
 countTreeTokens (token class spot ∷ rest) = cond (isClosing class) 0 1 + countTreeTokens rest
 
 pub leaf-open : {class : ℕ} → Leaf class → T (not (isClosing class))
-leaf-open leaf-name = tt
-leaf-open leaf-number = tt
-leaf-open leaf-string = tt
-leaf-open leaf-pattern = tt
+leaf-open leaf = at-leaf (λ x. not (isClosing x)) tt leaf
 
-pub operator-open : (class : ℕ) → T (isOperator class) → T (not (isClosing class))
-operator-open class op = at-operator (λ x. not (isClosing x)) operators class op tt
+-- operators of a list that has no closers
+pub operator-open : (classes : List ℕ) → T (eachClass (λ x. not (isClosing x)) classes) → (class : ℕ) → T (isAmong classes class) → T (not (isClosing class))
+operator-open classes none class op = at-class (λ x. not (isClosing x)) classes class op none
 
 pub name-open : {class : ℕ} → IdentifierName class → T (not (isClosing class))
 name-open identifier = tt
@@ -116,14 +122,26 @@ counted (chain-parens value) = omega (arith, counted value)
 counted (chain-function function) = omega (arith, counted function)
 counted (chain-unnamed function) = omega (arith, counted function)
 counted (chain-index object value) = omega (arith, counted object, counted value)
-counted (chain-call callee values) = omega (arith, counted callee, counted values)
 counted (chain-member {class = class} {property = property} {after = after} called object) =
     omega (arith, counted object, one-more class property after (name-open called))
-counted (binary-chain chain) = counted chain
+counted (chain-call callee values) = omega (arith, counted callee, counted values)
+counted (chain-new callee values) = omega (arith, counted callee, counted values)
+counted (target-chain chain) = counted chain
+counted (target-new callee) = omega (arith, counted callee)
+counted (unary-target target) = counted target
+counted (unary-prefix {class = class} {sign = sign} {middle = middle} op operand) =
+    omega (arith, counted operand, one-more class sign middle (operator-open prefixOperators tt class op))
+counted (unary-postfix {class = class} {sign = sign} {after = after} op same operand) =
+    omega (arith, counted operand, one-more class sign after (operator-open postfixOperators tt class op))
+counted (binary-unary unary) = counted unary
 counted (binary-operator {class = class} {sign = sign} {middle = middle} op tight left right) =
-    omega (arith, counted left, counted right, one-more class sign middle (operator-open class op))
+    omega (arith, counted left, counted right, one-more class sign middle (operator-open binaryOperators tt class op))
 counted (assign-binary binary) = counted binary
-counted (assign-to target value) = omega (arith, counted target, counted value)
+counted (assign-to {class = class} {sign = sign} {middle = middle} op target value) =
+    omega (arith, counted target, counted value, one-more class sign middle (operator-open assignmentOperators tt class op))
+counted (assign-conditional condition first second) = omega (arith, counted condition, counted first, counted second)
+counted (expression-assign value) = counted value
+counted (expression-comma left right) = omega (arith, counted left, counted right)
 counted (function-all parameters statements) = omega (arith, parameters-counted parameters, counted statements)
 counted (statement-block statements) = omega (arith, counted statements)
 counted (statement-expression allowed value) = omega (arith, counted value)

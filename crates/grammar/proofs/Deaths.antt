@@ -4,10 +4,10 @@ use mathlib.Core.Bool.{false}
 use mathlib.Core.List.{List, [], _∷_, _++_}
 use Prim.Native.Nat.{ℕ}
 use native.Mathlib.Omega.{arith}
-use Rattle.grammar.specs.Tokens.{Token, token, Spot}
-use Rattle.grammar.specs.Syntax.{Syntax}
+use Rattle.machine.specs.Tokens.{Token, token, Spot}
+use Rattle.machine.specs.Syntax.{Syntax}
 use Rattle.grammar.specs.Grammar.{body}
-use Rattle.grammar.specs.Machinery.Machine.{
+use Rattle.machine.specs.Machinery.Machine.{
   Frame,
   empty,
   close,
@@ -21,16 +21,20 @@ use Rattle.grammar.specs.Machinery.Machine.{
   enter,
   pop,
   leave,
+  ask,
+  turn,
   finish,
   look,
   row,
   Open,
   grouped,
   nested,
+  asking,
   State,
   dead,
   live,
   popTo,
+  turnTo,
   finishIn,
   actBy,
   leaveTo,
@@ -38,7 +42,7 @@ use Rattle.grammar.specs.Machinery.Machine.{
   run,
   start,
 }
-use Rattle.grammar.proofs.Ran.{stays-dead}
+use Rattle.machine.proofs.Ran.{stays-dead}
 
 -- if the state is dead, it died at a place
 abbrev DeadAt : ℕ → State → Type 0
@@ -49,6 +53,13 @@ pop-dies : (place : ℕ) (value : Syntax) (around : List Open) → DeadAt place 
 pop-dies place value [] = refl
 pop-dies place value (grouped behind closing mark f ∷ around) = tt
 pop-dies place value (nested behind closing mark f ∷ around) = refl
+pop-dies place value (asking ending mark f ∷ around) = refl
+
+turn-dies : (place : ℕ) (value : Syntax) (around : List Open) → DeadAt place (turnTo place value around)
+turn-dies place value [] = refl
+turn-dies place value (grouped behind closing mark f ∷ around) = refl
+turn-dies place value (nested behind closing mark f ∷ around) = refl
+turn-dies place value (asking ending mark f ∷ around) = tt
 
 finish-dies : (place : ℕ) (f : Frame) (around : List Open) → DeadAt place (finishIn place f around)
 finish-dies place f [] = tt
@@ -63,11 +74,14 @@ module _ (class : ℕ) (spot : Spot) where
   act-dies out left (enter inside behind closing) f around = tt
   act-dies out left (pop value) f around = pop-dies (spot .first) _ around
   act-dies out left (leave value) f around = left _
+  act-dies out left (ask ending) f around = tt
+  act-dies out left turn f around = turn-dies (spot .first) _ around
   act-dies out left finish f around = finish-dies (spot .first) f around
 
   leave-dies : (around : List Open) (value : Syntax) → DeadAt (spot .first) (leaveTo class spot around value)
   leave-dies [] value = refl
   leave-dies (grouped behind closing opened f ∷ around) value = refl
+  leave-dies (asking ending opened f ∷ around) value = refl
   leave-dies (nested behind closing opened f ∷ around) value =
       act-dies (leaveTo class spot around) (leave-dies around) (look class (row behind (spot .newline))) (close closing opened value f) around
 

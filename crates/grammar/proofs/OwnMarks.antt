@@ -4,9 +4,13 @@ use mathlib.Core.Path.{_≡_, refl, subst}
 use mathlib.Core.List.{List, [], List·Memᴰ}
 use Prim.Native.Nat.{ℕ, _+_, _≤_, _<_}
 use native.Mathlib.Omega.{arith}
-use Rattle.grammar.specs.Tokens.{Token, name, assign, colon, semicolon, dot, openParen, closeParen, openBracket, closeBracket, openBrace, closeBrace, comma, returnWord, functionWord, ifWord}
-use Rattle.grammar.specs.Syntax.{Syntax, nil, node}
+use Rattle.machine.specs.Tokens.{Token, name, newWord, question, colon, semicolon, dot, openParen, closeParen, openBracket, closeBracket, openBrace, closeBrace, comma, returnWord, functionWord, ifWord}
+use Rattle.machine.specs.Syntax.{Syntax, nil, node, marksOf, Distinct}
 use Rattle.grammar.specs.Grammar.{
+  assignmentOperators,
+  binaryOperators,
+  prefixOperators,
+  postfixOperators,
   Items,
   ItemStart,
   at-argument,
@@ -27,18 +31,27 @@ use Rattle.grammar.specs.Grammar.{
   chain-function,
   chain-unnamed,
   chain-index,
-  chain-call,
   chain-member,
+  chain-call,
+  chain-new,
   no-items,
   add-item,
   add-hole,
   list-empty,
   list-items,
   list-last,
-  binary-chain,
-  binary-operator,
+  expression-assign,
+  expression-comma,
   assign-binary,
   assign-to,
+  assign-conditional,
+  binary-unary,
+  binary-operator,
+  unary-target,
+  unary-prefix,
+  unary-postfix,
+  target-chain,
+  target-new,
   function-all,
   statement-block,
   statement-expression,
@@ -52,8 +65,7 @@ use Rattle.grammar.specs.Grammar.{
   Program,
 }
 use Rattle.grammar.proofs.Counts.{leaf-open, operator-open, name-open}
-use Rattle.grammar.specs.Demand3.{marksOf, Distinct}
-use Rattle.grammar.proofs.Ranges.{Marks, marks-both, from-lower, to-higher, no-marks, before-parts, between-parts, behind-part, Within, within, distinct}
+use Rattle.grammar.proofs.Ranges.{Marks, marks-both, from-lower, to-higher, no-marks, before-parts, between-parts, behind-part, inside-parts, Within, within, distinct}
 use Rattle.grammar.proofs.Counting.{Counting, counting-none, past-closer, at-mark, MarkOf, mark-of}
 
 -- a part's marks are those from the next mark before it to the next mark behind it
@@ -126,28 +138,65 @@ module _ {total : ℕ} where
       let m = at-mark openBracket tt (o .rest) in
       let v = marked value (m .then) in
       record { high = v .high; rest = past-closer closeBracket tt (v .rest); marks = between-parts (o .marks) (m .own) (v .marks) }
-  marked (chain-call callee values) counting =
-      let c = marked callee counting in
-      let m = at-mark openParen tt (c .rest) in
-      let v = marked values (m .then) in
-      record { high = v .high; rest = past-closer closeParen tt (v .rest); marks = between-parts (c .marks) (m .own) (v .marks) }
   marked (chain-member {class = class} called object) counting =
       let o = marked object counting in
       let d = at-mark dot tt (o .rest) in
       let m = at-mark class (name-open called) (d .then) in
       record { high = o .high + 1 + 1; rest = m .then; marks = behind-part (o .marks) (omega arith) (omega arith) }
-  marked (binary-chain chain) counting = marked chain counting
+  marked (chain-call callee values) counting =
+      let c = marked callee counting in
+      let m = at-mark openParen tt (c .rest) in
+      let v = marked values (m .then) in
+      record { high = v .high; rest = past-closer closeParen tt (v .rest); marks = between-parts (c .marks) (m .own) (v .marks) }
+  marked {low} (chain-new callee values) counting =
+      let m = at-mark newWord tt counting in
+      let c = marked callee (m .then) in
+      let o = at-mark openParen tt (c .rest) in
+      let v = marked values (o .then) in
+      record {
+        high = v .high;
+        rest = past-closer closeParen tt (v .rest);
+        marks = before-parts (m .own) (omega arith) (c .marks) (from-lower (omega arith) (v .marks));
+      }
+  marked (target-chain chain) counting = marked chain counting
+  marked {low} (target-new callee) counting =
+      let m = at-mark newWord tt counting in
+      let c = marked callee (m .then) in
+      record { high = c .high; rest = c .rest; marks = before-parts (m .own) (omega arith) (no-marks (low + 1)) (c .marks) }
+  marked (unary-target target) counting = marked target counting
+  marked {low} (unary-prefix {class = class} op operand) counting =
+      let m = at-mark class (operator-open prefixOperators tt class op) counting in
+      let v = marked operand (m .then) in
+      record { high = v .high; rest = v .rest; marks = before-parts (m .own) (omega arith) (no-marks (low + 1)) (v .marks) }
+  marked (unary-postfix {class = class} op same operand) counting =
+      let v = marked operand counting in
+      let m = at-mark class (operator-open postfixOperators tt class op) (v .rest) in
+      record { high = v .high + 1; rest = m .then; marks = behind-part (v .marks) (omega arith) (omega arith) }
+  marked (binary-unary unary) counting = marked unary counting
   marked (binary-operator {class = class} op tight left right) counting =
       let l = marked left counting in
-      let m = at-mark class (operator-open class op) (l .rest) in
+      let m = at-mark class (operator-open binaryOperators tt class op) (l .rest) in
       let r = marked right (m .then) in
       record { high = r .high; rest = r .rest; marks = between-parts (l .marks) (m .own) (r .marks) }
   marked (assign-binary binary) counting = marked binary counting
-  marked (assign-to target value) counting =
+  marked (assign-to {class = class} op target value) counting =
       let t = marked target counting in
-      let m = at-mark assign tt (t .rest) in
+      let m = at-mark class (operator-open assignmentOperators tt class op) (t .rest) in
       let v = marked value (m .then) in
       record { high = v .high; rest = v .rest; marks = between-parts (t .marks) (m .own) (v .marks) }
+  marked (assign-conditional condition first second) counting =
+      let c = marked condition counting in
+      let m = at-mark question tt (c .rest) in
+      let f = marked first (m .then) in
+      let a = at-mark colon tt (f .rest) in
+      let s = marked second (a .then) in
+      record { high = s .high; rest = s .rest; marks = inside-parts (c .marks) (m .own) (f .marks) (omega arith) (s .marks) }
+  marked (expression-assign value) counting = marked value counting
+  marked (expression-comma left right) counting =
+      let l = marked left counting in
+      let m = at-mark comma tt (l .rest) in
+      let r = marked right (m .then) in
+      record { high = r .high; rest = r .rest; marks = between-parts (l .marks) (m .own) (r .marks) }
   marked {low} (function-all parameters statements) counting =
       let o = at-mark openParen tt counting in
       let p = parameters-skip parameters (o .then) in

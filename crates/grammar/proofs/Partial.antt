@@ -1,12 +1,14 @@
 -- Partial derivations: where the machine stands in derivations that are not yet complete.
 use mathlib.Core.Bool.{Bool, true, false}
 use mathlib.Core.List.{List, [], _∷_}
-use Prim.Native.Nat.{ℕ}
-use Rattle.grammar.specs.Tokens.{
+use Prim.Native.Nat.{ℕ, _≤_}
+use native.Mathlib.Omega.{arith}
+use Rattle.machine.specs.Tokens.{
   Token,
   token,
   Spot,
   name,
+  colon,
   semicolon,
   dot,
   openParen,
@@ -18,7 +20,8 @@ use Rattle.grammar.specs.Tokens.{
   functionWord,
   ifWord,
 }
-use Rattle.grammar.specs.Syntax.{Syntax, nil, node, snoc, functionSyntax, fullReturnSyntax, expressionSyntax, ifSyntax}
+use Rattle.machine.specs.Operators.{assignmentPrecedence}
+use Rattle.machine.specs.Syntax.{Syntax, nil, node, snoc, functionSyntax, callSyntax, fullReturnSyntax, expressionSyntax, ifSyntax}
 use Rattle.grammar.specs.Grammar.{
   Scope,
   body,
@@ -34,7 +37,9 @@ use Rattle.grammar.specs.Grammar.{
   listForm,
   Derives,
   Chain,
+  Unary,
   Assign,
+  Expression,
   Function,
   Statement,
   Statements,
@@ -45,6 +50,7 @@ use Rattle.grammar.specs.Grammar.{
   chain-unnamed,
   chain-index,
   chain-call,
+  chain-new,
   add-item,
   list-items,
   list-last,
@@ -55,13 +61,15 @@ use Rattle.grammar.specs.Grammar.{
   statement-label,
   add-statement,
 }
-use Rattle.grammar.specs.Machinery.Machine.{
+use Rattle.machine.specs.Machinery.Machine.{
   endOfText,
   Pending,
   pending,
   Frame,
   frame,
   empty,
+  prefixPrecedence,
+  called,
   heldWord,
   completeStatement,
   doneOf,
@@ -75,6 +83,7 @@ use Rattle.grammar.specs.Machinery.Machine.{
   byReturn,
   byParen,
   byBracket,
+  byColon,
   byItem,
   Role,
   declared,
@@ -87,7 +96,9 @@ use Rattle.grammar.specs.Machinery.Machine.{
   returnFirst,
   ifFirst,
   operandDue,
+  memberDue,
   operandDone,
+  postfixDone,
   dotLast,
   functionFirst,
   functionNamed,
@@ -106,9 +117,10 @@ use Rattle.grammar.specs.Machinery.Machine.{
   dead,
   live,
   popTo,
+  turnTo,
   finishIn,
 }
-use Rattle.grammar.proofs.Waiting.{Waiting, none-waits}
+use Rattle.grammar.proofs.Waiting.{wholeLevel, whole-level, conditional-begun, Waiting, none-waits, operator-waits, new-waits, mayCall, begun-calls}
 use Rattle.grammar.proofs.Places.{
   statementAt,
   expressionAt,
@@ -131,6 +143,7 @@ use Rattle.grammar.proofs.Places.{
   in-call,
   in-array,
   in-object,
+  in-conditional,
   in-item,
   with-declaration,
 }
@@ -139,8 +152,8 @@ use Rattle.grammar.proofs.Places.{
 pub data FunctionAt (all : List Token) : Role → Syntax → List Pending → List Pending → List Open → List Token → Type 0 where
   declaration-at : {done : Syntax} {around : List Open} {here : List Token} → Reached all (statementAt (among body)) done [] around here
       → FunctionAt all declared done [] [] around here
-  operand-at : {ending : Ending} {target : Bool} {done : Syntax} {starts waiting : List Pending} {around : List Open} {first here : List Token}
-      → Reached all (expressionAt ending) done starts around first → Waiting target waiting first here
+  operand-at : {ending : Ending} {target : Bool} {level : ℕ} {done : Syntax} {starts waiting : List Pending} {around : List Open} {first here : List Token}
+      → Reached all (expressionAt ending) done starts around first → Waiting ending target level waiting first here
       → FunctionAt all (operandIn ending target) done starts waiting around here
 
 -- the partial derivation of a state: its control, its frame and what is around it, and the tokens from there on
@@ -161,18 +174,24 @@ pub data Partial (all : List Token) : Control → Frame → List Open → List T
       (nested (behindStatement setting) toStatement (word .mark) (frame done starts [] nil) ∷ around) here
   behind-then : {setting : Setting} {done condition inner : Syntax} {starts : List Pending} {around : List Open} {word opener closer : Spot}
       {inside middle here : List Token} → Reached all (statementAt setting) done starts around (token ifWord word ∷ token openParen opener ∷ inside)
-      → Assign inside (token closeParen closer ∷ middle) condition → Statement middle here inner
+      → Expression inside (token closeParen closer ∷ middle) condition → Statement middle here inner
       → Partial all (statementDone ifNest) (frame (snoc nil (node ifSyntax (word .mark) condition inner)) [] [] nil)
       (nested (behindStatement setting) toStatement (word .mark) (frame done starts [] nil) ∷ around) here
-  at-operand : {ending : Ending} {target : Bool} {done operand : Syntax} {starts waiting : List Pending} {around : List Open}
-      {first here : List Token} → Reached all (expressionAt ending) done starts around first → Waiting target waiting first here
-      → Partial all (operandDue ending target) (frame done starts waiting operand) around here
-  behind-operand : {ending : Ending} {target : Bool} {done operand : Syntax} {starts waiting : List Pending} {around : List Open}
-      {first before here : List Token} → Reached all (expressionAt ending) done starts around first → Waiting target waiting first before
-      → Chain before here operand → Partial all (operandDone ending target) (frame done starts waiting operand) around here
-  behind-dot : {ending : Ending} {target : Bool} {done operand : Syntax} {starts waiting : List Pending} {around : List Open} {sign : Spot}
-      {first before here : List Token} → Reached all (expressionAt ending) done starts around first → Waiting target waiting first before
-      → Chain before (token dot sign ∷ here) operand → Partial all (dotLast ending target) (frame done starts waiting operand) around here
+  at-operand : {ending : Ending} {target : Bool} {level : ℕ} {done operand : Syntax} {starts waiting : List Pending} {around : List Open}
+      {first here : List Token} → Reached all (expressionAt ending) done starts around first → Waiting ending target level waiting first here
+      → level ≤ prefixPrecedence → Partial all (operandDue ending target) (frame done starts waiting operand) around here
+  at-member : {ending : Ending} {target : Bool} {level : ℕ} {done operand : Syntax} {starts waiting : List Pending} {around : List Open}
+      {first here : List Token} → Reached all (expressionAt ending) done starts around first → Waiting ending target level waiting first here
+      → Partial all (memberDue ending target) (frame done starts waiting operand) around here
+  behind-operand : {ending : Ending} {target : Bool} {level : ℕ} {done operand : Syntax} {starts waiting : List Pending} {around : List Open}
+      {first before here : List Token} → Reached all (expressionAt ending) done starts around first → Waiting ending target level waiting first before
+      → Chain (mayCall waiting) before here operand → Partial all (operandDone ending target) (frame done starts waiting operand) around here
+  behind-postfix : {ending : Ending} {target : Bool} {level : ℕ} {done operand : Syntax} {starts waiting : List Pending} {around : List Open}
+      {first before here : List Token} → Reached all (expressionAt ending) done starts around first → Waiting ending target level waiting first before
+      → level ≤ prefixPrecedence → Unary before here operand → Partial all (postfixDone ending) (frame done starts waiting operand) around here
+  behind-dot : {ending : Ending} {target : Bool} {level : ℕ} {done operand : Syntax} {starts waiting : List Pending} {around : List Open} {sign : Spot}
+      {first before here : List Token} → Reached all (expressionAt ending) done starts around first → Waiting ending target level waiting first before
+      → Chain (mayCall waiting) before (token dot sign ∷ here) operand → Partial all (dotLast ending target) (frame done starts waiting operand) around here
   behind-function : {role : Role} {done : Syntax} {starts waiting : List Pending} {around : List Open} {word : Spot} {here : List Token}
       → FunctionAt all role done starts waiting around (token functionWord word ∷ here)
       → Partial all (functionFirst role) (frame done starts waiting (heldWord (word .mark))) around here
@@ -211,12 +230,20 @@ abbrev pub PartialOf : List Token → State → List Token → Type 0
 PartialOf all (dead place) here = Unit {0}
 PartialOf all (live control f around) here = Partial all control f around here
 
-function-chain : {ending : Ending} {target : Bool} {word : Spot} {before rest after : List Token} {inside : Syntax}
-    → Head (operandIn ending target) word before rest → Function rest after inside → Chain before after (node functionSyntax (word .mark) inside nil)
+function-chain : {ending : Ending} {target calls : Bool} {word : Spot} {before rest after : List Token} {inside : Syntax}
+    → Head (operandIn ending target) word before rest → Function rest after inside → Chain calls before after (node functionSyntax (word .mark) inside nil)
 function-chain with-name function = chain-function function
 function-chain without-name function = chain-unnamed function
 
 module _ {all : List Token} where
+  -- an expression starts
+  pub at-expression : {ending : Ending} {done operand : Syntax} {starts : List Pending} {around : List Open} {here : List Token}
+      → Reached all (expressionAt ending) done starts around here → Partial all (operandDue ending true) (frame done starts [] operand) around here
+  at-expression {ending} outer = at-operand outer none-waits (under (wholeLevel ending) (whole-level ending))
+    where
+      under : (level : ℕ) → level ≤ assignmentPrecedence → level ≤ prefixPrecedence
+      under level h = omega arith
+
   -- a statement is complete
   pub with-statement : {setting : Setting} {done last : Syntax} {starts : List Pending} {around : List Open} {before here : List Token}
       → Reached all (statementAt setting) done starts around before → Statement before here last
@@ -239,20 +266,34 @@ module _ {all : List Token} where
       behind-operand outer waits (function-chain head (function-all parameters statements))
 
   pub parens-close : {done value : Syntax} {starts : List Pending} {around : List Open} {closer : Spot} {first here : List Token}
-      → Reached all (expressionAt byParen) done starts around first → Assign first (token closeParen closer ∷ here) value
+      → Reached all (expressionAt byParen) done starts around first → Expression first (token closeParen closer ∷ here) value
       → (place : ℕ) → PartialOf all (popTo place value around) here
   parens-close (in-parens outer waits) value place = behind-operand outer waits (chain-parens value)
   parens-close (in-condition outer) value place = at-inner-statement (after-if outer value)
 
   pub index-closes : {done value : Syntax} {starts : List Pending} {around : List Open} {closer : Spot} {first here : List Token}
-      → Reached all (expressionAt byBracket) done starts around first → Assign first (token closeBracket closer ∷ here) value
+      → Reached all (expressionAt byBracket) done starts around first → Expression first (token closeBracket closer ∷ here) value
       → (place : ℕ) → PartialOf all (popTo place value around) here
   index-closes (in-index outer waits object) value place = behind-operand outer waits (chain-index object value)
+
+  -- arguments make a call, or are those of the `new` that waits
+  arguments-close : {ending : Ending} {target : Bool} {level : ℕ} {done callee values : Syntax} {starts waiting : List Pending} {around : List Open}
+      {opener closer : Spot} {first before inside here : List Token} → Reached all (expressionAt ending) done starts around first
+      → Waiting ending target level waiting first before → Chain (mayCall waiting) before (token openParen opener ∷ inside) callee
+      → Derives (listForm callArguments) inside (token closeParen closer ∷ here) values
+      → Partial all (operandDone ending target) (called (opener .mark) values done starts waiting callee) around here
+  arguments-close outer none-waits callee values = behind-operand outer none-waits (chain-call callee values)
+  arguments-close {callee = part} {values = list} {opener = opener} {here = here} outer (operator-waits w fits begun) callee values =
+      let other = begun-calls begun in
+      rw other
+      (behind-operand {operand = node callSyntax (opener .mark) part list} {here = here} outer (operator-waits w fits begun)
+      (rw other (chain-call (rw other at callee) values)))
+  arguments-close outer (new-waits w) callee values = behind-operand outer w (chain-new callee values)
 
   pub list-closes : {items : Items} {value : Syntax} {around : List Open} {closer : Spot} {first here : List Token}
       → Reached all (listAt items) nil [] around first → Derives (listForm items) first (token (listCloser items) closer ∷ here) value
       → (place : ℕ) → PartialOf all (popTo place value around) here
-  list-closes (in-call outer waits callee) values place = behind-operand outer waits (chain-call callee values)
+  list-closes (in-call outer waits callee) values place = arguments-close outer waits callee values
   list-closes (in-array outer waits) values place = behind-operand outer waits (chain-array values)
   list-closes (in-object outer waits) values place = behind-operand outer waits (chain-object values)
 
@@ -260,7 +301,7 @@ module _ {all : List Token} where
   pub item-ends : {items : Items} {done value : Syntax} {starts : List Pending} {around : List Open} {sign : Spot} {first here : List Token}
       → Reached all (expressionAt (byItem items)) done starts around first → Assign first (token comma sign ∷ here) value
       → Partial all (behindComma items) (completeStatement done starts value) around here
-  item-ends (in-item {items = callArguments} outer values begins) value = at-operand (in-item outer (add-item values begins value) at-argument) none-waits
+  item-ends (in-item {items = callArguments} outer values begins) value = at-expression (in-item outer (add-item values begins value) at-argument)
   item-ends (in-item {items = arrayElements} outer values begins) value =
       at-item outer (add-item values begins value) (list-items tt (add-item values begins value))
   item-ends (in-item {items = objectProperties} outer values begins) value =
@@ -271,14 +312,20 @@ module _ {all : List Token} where
       → (place : ℕ) → PartialOf all (popTo place (doneOf (completeStatement done starts value)) around) here
   last-item-ends (in-item outer values begins) value place = list-closes outer (list-last values begins value) place
 
+  -- the first value of a conditional ends
+  pub first-ends : {done value : Syntax} {starts : List Pending} {around : List Open} {answer : Spot} {first here : List Token}
+      → Reached all (expressionAt byColon) done starts around first → Assign first (token colon answer ∷ here) value
+      → (place : ℕ) → PartialOf all (turnTo place value around) here
+  first-ends (in-conditional outer waits fits condition) value place = at-operand outer (operator-waits waits fits (conditional-begun condition value)) (omega arith)
+
   -- an expression ends with its statement
   pub expression-ends : {setting : Setting} {done value : Syntax} {starts : List Pending} {around : List Open} {end : Spot} {first here : List Token}
-      → Reached all (expressionAt (byStatement setting)) done starts around first → Assign first (token semicolon end ∷ here) value
+      → Reached all (expressionAt (byStatement setting)) done starts around first → Expression first (token semicolon end ∷ here) value
       → Partial all (behindStatement setting) (completeStatement done starts (node expressionSyntax (end .mark) value nil)) around here
   expression-ends (in-expression allowed outer) value = with-statement outer (statement-expression allowed value)
 
   pub return-ends : {setting : Setting} {done value : Syntax} {starts : List Pending} {around : List Open} {end : Spot} {first here : List Token}
-      → Reached all (expressionAt (byReturn setting)) done starts around first → Assign first (token semicolon end ∷ here) value
+      → Reached all (expressionAt (byReturn setting)) done starts around first → Expression first (token semicolon end ∷ here) value
       → Partial all (behindStatement setting) (completeStatement done starts value) around here
   return-ends (in-return same outer) value = with-statement outer (statement-full-return same value)
 

@@ -1,19 +1,34 @@
 -- The machine passes an expression: the run stands behind its last operand, with operators pending that close to its syntax.
 use mathlib.Core.Path.{_≡_, refl, _∙_, ap}
-use mathlib.Core.Bool.{Bool, true, false}
+use mathlib.Core.Bool.{Bool, true, false, not}
 use mathlib.Core.List.{List, [], _∷_}
-use Prim.Native.Nat.{ℕ, _+_, _≤_}
+use Prim.Native.Nat.{ℕ, _≤_}
 use native.Mathlib.Omega.{arith}
-use lib.Dec.{T}
-use Rattle.grammar.specs.Tokens.{Token, token, Spot, assign, semicolon, closeParen, closeBracket, comma}
-use Rattle.grammar.specs.Syntax.{Syntax, nil, node, snoc, expressionSyntax}
-use Rattle.grammar.specs.Grammar.{Items, callArguments, arrayElements, objectProperties, operators, isOperator, precedence}
-use Rattle.grammar.specs.Machinery.Machine.{
+use lib.Dec.{T, leb→le}
+use Rattle.machine.specs.Tokens.{Token, token, Spot, question, comma, colon, semicolon, closeParen, closeBracket}
+use Rattle.machine.specs.Syntax.{Syntax, nil, node, snoc, expressionSyntax}
+use Rattle.grammar.specs.Grammar.{
+  precedence,
+  leastBinary,
+  assignmentOperators,
+  binaryOperators,
+  postfixOperators,
+  postfixKind,
+  isAmong,
+  Items,
+  callArguments,
+  arrayElements,
+  objectProperties,
+}
+use Rattle.machine.specs.Machinery.Machine.{
   Pending,
   pending,
   Frame,
   frame,
   empty,
+  newPrecedence,
+  tightness,
+  threshold,
   reduce,
   completeStatement,
   completeExpression,
@@ -21,6 +36,9 @@ use Rattle.grammar.specs.Machinery.Machine.{
   operandOf,
   doneOf,
   await,
+  answered,
+  postfixed,
+  takeOperator,
   Closing,
   close,
   Setting,
@@ -29,88 +47,150 @@ use Rattle.grammar.specs.Machinery.Machine.{
   byReturn,
   byParen,
   byBracket,
+  byColon,
   byItem,
   Control,
   behindStatement,
   behindComma,
   operandDue,
   operandDone,
+  postfixDone,
   itemDue,
   listCloser,
   Action,
-  besidesOperators,
+  goto,
+  look,
+  afterUnary,
+  row,
   Open,
   grouped,
+  asking,
   State,
   live,
   act,
   consume,
 }
-use Rattle.grammar.proofs.Ran.{ran}
-use Rattle.grammar.proofs.TableLaws.{threshold-operator, look-operator}
+use Rattle.machine.proofs.Ran.{ran}
+use Rattle.grammar.proofs.TableLaws.{binary-threshold, assignment-threshold}
 use Rattle.grammar.proofs.ReduceLaws.{Looser, reduce-stops, reduce-closes}
+use Rattle.grammar.proofs.Following.{UnaryDone, past-postfix, behindUnary, takesComma, look-assignment, look-postfix, look-behind-unary, look-binary, look-comma}
 
--- From a state the run comes from the tokens before an expression to those after it. The operators that were waiting still are,
--- and those that have come close to the value, if closed by one that binds no tighter than the expression's operators.
-pub record Passed (stop : Spot) (ending : Ending) (done : Syntax) (starts : List Pending) (around : List Open) (least : ℕ) (waiting : List Pending)
+from-none : (n : ℕ) → 0 ≤ n
+from-none n = omega arith
+
+itself : (n : ℕ) → n ≤ n
+itself n = omega arith
+
+through : (a b c : ℕ) → a ≤ b → b ≤ c → a ≤ c
+through a b c h k = omega arith
+
+-- From a state the run comes from the tokens before an expression to those after it, and stands at a control. The operators that were waiting
+-- still are, and those that have come close to the value, if closed by one that binds no tighter than the expression's operators.
+pub record Reached (stop : Spot) (control : Control) (done : Syntax) (starts : List Pending) (around : List Open) (least : ℕ) (waiting : List Pending)
     (from : State) (before after : List Token) (value : Syntax) : Type 0 where
-  pub target : Bool
   pub unclosed : List Pending
   pub last : Syntax
-  pub runs : ran stop from before ≡ ran stop (live (operandDone ending target) (frame done starts unclosed last) around) after
+  pub runs : ran stop from before ≡ ran stop (live control (frame done starts unclosed last) around) after
   pub closes : (n : ℕ) → n ≤ least → reduce n done starts unclosed last ≡ reduce n done starts waiting value
+
+-- the same, and the control is one behind a Unary
+pub record Passed (stop : Spot) (ending : Ending) (done : Syntax) (starts : List Pending) (around : List Open) (least : ℕ) (waiting : List Pending)
+    (from : State) (before after : List Token) (value : Syntax) : Type 0 where
+  pub control : Control
+  pub ends : UnaryDone ending control
+  pub reached : Reached stop control done starts around least waiting from before after value
+
+module _ {stop : Spot} {ending : Ending} {done : Syntax} {starts : List Pending} {around : List Open} {least : ℕ} {waiting : List Pending}
+    {from : State} {before : List Token} {value : Syntax} where
+  -- the token behind it is looked up
+  met : {class : ℕ} {spot : Spot} {after : List Token}
+      (p : Passed stop ending done starts around least waiting from before (token class spot ∷ after) value) → T (isAmong behindUnary class)
+      → ran stop from before
+      ≡ ran stop (act (look class (afterUnary ending)) class spot (frame done starts (p .reached .unclosed) (p .reached .last)) around) after
+  met {class} {spot} {after} p h =
+      p .reached .runs
+      ∙ ap (λ (z : Action). ran stop (act z class spot (frame done starts (p .reached .unclosed) (p .reached .last)) around) after)
+      (look-behind-unary (p .ends) (spot .newline) class h)
+
+  pub passed-down : {lower : ℕ} {after : List Token} → lower ≤ least → Passed stop ending done starts around least waiting from before after value
+      → Passed stop ending done starts around lower waiting from before after value
+  passed-down {lower} down p = record {
+    control = p .control;
+    ends = p .ends;
+    reached = record {
+      unclosed = p .reached .unclosed;
+      last = p .reached .last;
+      runs = p .reached .runs;
+      closes = λ n h. p .reached .closes n (through n lower least h down);
+    };
+  }
 
 -- the endings that stand for a closer
 pub data ClosedBy : Ending → ℕ → Type 0 where
   by-paren : ClosedBy byParen closeParen
   by-bracket : ClosedBy byBracket closeBracket
 
+closer-listed : {ending : Ending} {class : ℕ} → ClosedBy ending class → T (isAmong behindUnary class)
+closer-listed by-paren = tt
+closer-listed by-bracket = tt
+
+list-closer-listed : (items : Items) → T (isAmong behindUnary (listCloser items))
+list-closer-listed callArguments = tt
+list-closer-listed arrayElements = tt
+list-closer-listed objectProperties = tt
+
 -- what the closer of a group does behind an expression, and that of a list behind an item
 module _ (behind : Control) (closing : Closing) (mark : ℕ) (f : Frame) (around : List Open) (closer : Spot) where
-  group-closed : {ending : Ending} {class : ℕ} → ClosedBy ending class → (target : Bool) (unclosed : List Pending) (last : Syntax)
-      → consume (live (operandDone ending target) (frame nil [] unclosed last) (grouped behind closing mark f ∷ around)) (token class closer)
+  group-closed : {ending : Ending} {class : ℕ} → ClosedBy ending class → (unclosed : List Pending) (last : Syntax)
+      → act (look class (afterUnary ending)) class closer (frame nil [] unclosed last) (grouped behind closing mark f ∷ around)
       ≡ live behind (close closing mark (operandOf (reduce 0 nil [] unclosed last)) f) around
-  group-closed by-paren target unclosed last = refl
-  group-closed by-bracket target unclosed last = refl
+  group-closed by-paren unclosed last = refl
+  group-closed by-bracket unclosed last = refl
 
-  last-closed : (items : Items) (target : Bool) (done : Syntax) (unclosed : List Pending) (last : Syntax)
-      → consume (live (operandDone (byItem items) target) (frame done [] unclosed last) (grouped behind closing mark f ∷ around)) (token (listCloser items) closer)
-      ≡ live behind (close closing mark (doneOf (completeValue (reduce 0 done [] unclosed last))) f) around
-  last-closed callArguments target done unclosed last = refl
-  last-closed arrayElements target done unclosed last = refl
-  last-closed objectProperties target done unclosed last = refl
+  last-closed : (items : Items) (done : Syntax) (unclosed : List Pending) (last : Syntax)
+      → act (look (listCloser items) (afterUnary (byItem items))) (listCloser items) closer (frame done [] unclosed last)
+      (grouped behind closing mark f ∷ around) ≡ live behind (close closing mark (doneOf (completeValue (reduce 0 done [] unclosed last))) f) around
+  last-closed callArguments done unclosed last = refl
+  last-closed arrayElements done unclosed last = refl
+  last-closed objectProperties done unclosed last = refl
 
 -- the ends of an expression: a group's closer, `;`, and `,`
-module _ {stop : Spot} {behind : Control} {closing : Closing} {mark : ℕ} {f : Frame} {around : List Open} {closer : Spot} {inside after : List Token}
-    {value : Syntax} where
+module _ {stop : Spot} {least : ℕ} {behind : Control} {closing : Closing} {mark : ℕ} {f : Frame} {around : List Open} {closer : Spot}
+    {inside after : List Token} {value : Syntax} where
   pub group-passed : {ending : Ending} {class : ℕ} → ClosedBy ending class
-      → Passed stop ending nil [] (grouped behind closing mark f ∷ around) 0 []
+      → Passed stop ending nil [] (grouped behind closing mark f ∷ around) least []
       (live (operandDue ending true) empty (grouped behind closing mark f ∷ around)) inside (token class closer ∷ after) value
       → ran stop (live (operandDue ending true) empty (grouped behind closing mark f ∷ around)) inside
       ≡ ran stop (live behind (close closing mark value f) around) after
   group-passed closed p =
-      p .runs
-      ∙ ap (λ (z : State). ran stop z after) (group-closed behind closing mark f around closer closed (p .target) (p .unclosed) (p .last))
-      ∙ ap (λ (z : Frame). ran stop (live behind (close closing mark (operandOf z) f) around) after) (p .closes 0 (omega arith))
+      met p (closer-listed closed)
+      ∙ ap (λ (z : State). ran stop z after)
+      (group-closed behind closing mark f around closer closed (p .reached .unclosed) (p .reached .last))
+      ∙ ap (λ (z : Frame). ran stop (live behind (close closing mark (operandOf z) f) around) after) (p .reached .closes 0 (from-none least))
 
-module _ {stop : Spot} {setting : Setting} {done : Syntax} {starts : List Pending} {around : List Open} {from : State} {end : Spot} {before after : List Token}
+module _ {stop : Spot} {least : ℕ} {done : Syntax} {starts : List Pending} {around : List Open} {from : State} {before after : List Token}
     {value : Syntax} where
-  pub expression-passed : Passed stop (byStatement setting) done starts around 0 [] from before (token semicolon end ∷ after) value
+  pub expression-passed : {setting : Setting} {end : Spot}
+      → Passed stop (byStatement setting) done starts around least [] from before (token semicolon end ∷ after) value
       → ran stop from before
       ≡ ran stop (live (behindStatement setting) (completeStatement done starts (node expressionSyntax (end .mark) value nil)) around) after
-  expression-passed p =
-      p .runs ∙ ap (λ (z : Frame). ran stop (live (behindStatement setting) (completeExpression (end .mark) z) around) after) (p .closes 0 (omega arith))
+  expression-passed {setting} {end} p =
+      met p tt
+      ∙ ap (λ (z : Frame). ran stop (live (behindStatement setting) (completeExpression (end .mark) z) around) after)
+      (p .reached .closes 0 (from-none least))
 
-  pub return-passed : Passed stop (byReturn setting) done starts around 0 [] from before (token semicolon end ∷ after) value
+  pub return-passed : {setting : Setting} {end : Spot}
+      → Passed stop (byReturn setting) done starts around least [] from before (token semicolon end ∷ after) value
       → ran stop from before ≡ ran stop (live (behindStatement setting) (completeStatement done starts value) around) after
-  return-passed p =
-      p .runs ∙ ap (λ (z : Frame). ran stop (live (behindStatement setting) (completeValue z) around) after) (p .closes 0 (omega arith))
+  return-passed {setting} p =
+      met p tt
+      ∙ ap (λ (z : Frame). ran stop (live (behindStatement setting) (completeValue z) around) after) (p .reached .closes 0 (from-none least))
 
-module _ {stop : Spot} {items : Items} {done : Syntax} {around : List Open} {from : State} {before after : List Token} {value : Syntax} where
   -- behind an item stands a `,`
-  pub item-passed : {sign : Spot} → Passed stop (byItem items) done [] around 0 [] from before (token comma sign ∷ after) value
-      → ran stop from before ≡ ran stop (live (behindComma items) (frame (snoc done value) [] [] nil) around) after
-  item-passed p = p .runs ∙ ap (λ (z : Frame). ran stop (live (behindComma items) (completeValue z) around) after) (p .closes 0 (omega arith))
+  pub item-passed : {items : Items} {sign : Spot} → Passed stop (byItem items) done starts around least [] from before (token comma sign ∷ after) value
+      → ran stop from before ≡ ran stop (live (behindComma items) (completeStatement done starts value) around) after
+  item-passed {items} p =
+      met p tt ∙ ap (λ (z : Frame). ran stop (live (behindComma items) (completeValue z) around) after) (p .reached .closes 0 (from-none least))
 
 -- The run comes from the tokens of a list to those after it, where the closer ends the list with its value.
 pub record ListPassed (stop : Spot) (items : Items) (behind : Control) (closing : Closing) (mark : ℕ) (f : Frame) (around : List Open) (before after : List Token)
@@ -128,69 +208,116 @@ module _ {stop : Spot} {behind : Control} {closing : Closing} {mark : ℕ} {f : 
   list-passed {closer = closer} p = p .runs ∙ ap (λ (z : State). ran stop z after) (p .closes closer)
 
   -- the list ends with an item
-  pub last-passed : {items : Items} {done : Syntax} {from : State} {middle : List Token}
+  pub last-passed : {items : Items} {least : ℕ} {done : Syntax} {from : State} {middle : List Token}
       → ran stop (live (itemDue items) empty (grouped behind closing mark f ∷ around)) before ≡ ran stop from middle
-      → Passed stop (byItem items) done [] (grouped behind closing mark f ∷ around) 0 [] from middle after value
+      → Passed stop (byItem items) done [] (grouped behind closing mark f ∷ around) least [] from middle after value
       → ListPassed stop items behind closing mark f around before after (snoc done value)
-  last-passed {items = items} {done = done} runs p = record {
-    control = operandDone (byItem items) (p .target);
-    last = frame done [] (p .unclosed) (p .last);
-    runs = runs ∙ p .runs;
-    closes = λ closer. last-closed behind closing mark f around closer items (p .target) done (p .unclosed) (p .last)
-        ∙ ap (λ (z : Frame). live behind (close closing mark (doneOf (completeValue z)) f) around) (p .closes 0 (omega arith));
+  last-passed {items} {least} {done} runs p =
+      let last = frame done [] (p .reached .unclosed) (p .reached .last) in
+      record {
+        control = p .control;
+        last = last;
+        runs = runs ∙ p .reached .runs;
+        closes = λ closer. ap (λ (z : Action). act z (listCloser items) closer last (grouped behind closing mark f ∷ around))
+            (look-behind-unary (p .ends) (closer .newline) (listCloser items) (list-closer-listed items))
+            ∙ last-closed behind closing mark f around closer items done (p .reached .unclosed) (p .reached .last)
+            ∙ ap (λ (z : Frame). live behind (close closing mark (doneOf (completeValue z)) f) around) (p .reached .closes 0 (from-none least));
+      }
+
+module _ {stop : Spot} {done : Syntax} {starts : List Pending} {around : List Open} {waiting : List Pending} {from : State}
+    {before after : List Token} where
+  -- what has no operators pending
+  pub operand-reached : {control : Control} {least : ℕ} {value : Syntax}
+      → ran stop from before ≡ ran stop (live control (frame done starts waiting value) around) after
+      → Reached stop control done starts around least waiting from before after value
+  operand-reached {value = value} runs = record { unclosed = waiting; last = value; runs = runs; closes = λ n h. refl }
+
+  -- `++` or `--` closes the `new`s that wait
+  pub postfix-passed : {ending : Ending} {target : Bool} {least class : ℕ} {sign : Spot} {value : Syntax} → T (isAmong postfixOperators class)
+      → T (not (sign .newline)) → Looser newPrecedence waiting
+      → Reached stop (operandDone ending target) done starts around newPrecedence waiting from before (token class sign ∷ after) value
+      → Passed stop ending done starts around least waiting from before after (node (postfixKind class) (sign .mark) value nil)
+  postfix-passed {ending} {target} {class = class} {sign = sign} {value = value} op same loose p = record {
+    control = postfixDone ending;
+    ends = past-postfix;
+    reached = operand-reached (p .runs
+        ∙ ap (λ (z : Action). ran stop (act z class sign (frame done starts (p .unclosed) (p .last)) around) after)
+        (look-postfix ending target (sign .newline) class op same)
+        ∙ ap (λ (z : Frame). ran stop (live (postfixDone ending) (postfixed (postfixKind class) (sign .mark) z) around) after)
+        (p .closes newPrecedence (itself newPrecedence) ∙ reduce-stops newPrecedence done starts waiting value loose));
   }
 
--- expressions of two parts
-module _ {stop : Spot} {ending : Ending} {done : Syntax} {starts : List Pending} {around : List Open} {waiting : List Pending} {from : State}
-    {before middle after : List Token} {left right : Syntax} where
-  pub operator-passed : {least class : ℕ} {sign : Spot} → T (isOperator class) → least ≤ precedence class → Looser (precedence class) waiting
+  -- what waits is closed with the part that it waits for
+  pub awaited-reached : {control : Control} {least more class mark : ℕ} {next : State} {middle : List Token} {left right : Syntax} → least ≤ tightness class
+      → least ≤ more → ran stop from before ≡ ran stop next middle
+      → Reached stop control done starts around more (pending class mark left ∷ waiting) next middle after right
+      → Reached stop control done starts around least waiting from before after (node class mark left right)
+  awaited-reached {least = least} {more = more} {class = class} {mark = mark} {left = left} {right = right} tight up runs q = record {
+    unclosed = q .unclosed;
+    last = q .last;
+    runs = runs ∙ q .runs;
+    closes = λ n h. q .closes n (through n least more h up)
+        ∙ reduce-closes n done starts class mark left waiting right (through n least (tightness class) h tight);
+  }
+
+  pub awaited-passed : {ending : Ending} {least more class mark : ℕ} {next : State} {middle : List Token} {left right : Syntax} → least ≤ tightness class
+      → least ≤ more → ran stop from before ≡ ran stop next middle
+      → Passed stop ending done starts around more (pending class mark left ∷ waiting) next middle after right
+      → Passed stop ending done starts around least waiting from before after (node class mark left right)
+  awaited-passed tight up runs q =
+      record { control = q .control; ends = q .ends; reached = awaited-reached tight up runs (q .reached) }
+
+-- operators between operands are taken: those that bind at least as tight as they say are closed, and they wait
+module _ {stop : Spot} {done : Syntax} {starts : List Pending} {around : List Open} {waiting : List Pending} {from : State} {before middle : List Token}
+    {left : Syntax} where
+  operator-taken : {control next : Control} {least class : ℕ} {sign : Spot} (n : ℕ) → threshold class ≡ n → n ≤ least → Looser n waiting
+      → look class (row control (sign .newline)) ≡ goto next (takeOperator class)
+      → Reached stop control done starts around least waiting from before (token class sign ∷ middle) left
+      → ran stop from before ≡ ran stop (live next (frame done starts (pending class (sign .mark) left ∷ waiting) nil) around) middle
+  operator-taken {next = next} {class = class} {sign = sign} n closed under loose looked p =
+      p .runs
+      ∙ ap (λ (z : Action). ran stop (act z class sign (frame done starts (p .unclosed) (p .last)) around) middle) looked
+      ∙ ap (λ (z : ℕ). ran stop (live next (await class (sign .mark) (reduce z done starts (p .unclosed) (p .last))) around) middle) closed
+      ∙ ap (λ (z : Frame). ran stop (live next (await class (sign .mark) z) around) middle)
+      (p .closes n under ∙ reduce-stops n done starts waiting left loose)
+
+  pub binary-taken : {ending : Ending} {class : ℕ} {sign : Spot} → T (isAmong binaryOperators class) → Looser (precedence class) waiting
       → Passed stop ending done starts around (precedence class) waiting from before (token class sign ∷ middle) left
-      → Passed stop ending done starts around (precedence class + 1) (pending class (sign .mark) left ∷ waiting)
-      (live (operandDue ending false) (frame done starts (pending class (sign .mark) left ∷ waiting) nil) around) middle after right
-      → Passed stop ending done starts around least waiting from before after (node class (sign .mark) left right)
-  operator-passed {least} {class} {sign} op tight loose p q = record {
-    target = q .target;
-    unclosed = q .unclosed;
-    last = q .last;
-    runs = p .runs
-        ∙ ap (λ (z : Action). ran stop (act z class sign (frame done starts (p .unclosed) (p .last)) around) middle)
-        (look-operator ending operators (besidesOperators ending (p .target)) class op)
-        ∙ ap (λ (z : ℕ). ran stop (live (operandDue ending false) (await class (sign .mark) (reduce z done starts (p .unclosed) (p .last))) around) middle)
-        (threshold-operator class op)
-        ∙ ap (λ (z : Frame). ran stop (live (operandDue ending false) (await class (sign .mark) z) around) middle)
-        (p .closes (precedence class) (itself (precedence class)) ∙ reduce-stops (precedence class) done starts waiting left loose)
-        ∙ q .runs;
-    closes = λ n h. q .closes n (up n least (precedence class) h tight)
-        ∙ reduce-closes n done starts class (sign .mark) left waiting right (through n least (precedence class) h tight);
-  }
-    where
-      itself : (n : ℕ) → n ≤ n
-      itself n = omega arith
+      → ran stop from before ≡ ran stop (live (operandDue ending false) (frame done starts (pending class (sign .mark) left ∷ waiting) nil) around) middle
+  binary-taken {class = class} {sign = sign} op loose p =
+      operator-taken (precedence class) (binary-threshold class op) (itself (precedence class)) loose (look-binary (p .ends) (sign .newline) class op)
+      (p .reached)
 
-      up : (a b c : ℕ) → a ≤ b → b ≤ c → a ≤ c + 1
-      up a b c h k = omega arith
+  pub assignment-taken : {ending : Ending} {class : ℕ} {sign : Spot} → T (isAmong assignmentOperators class) → Looser leastBinary waiting
+      → Reached stop (operandDone ending true) done starts around newPrecedence waiting from before (token class sign ∷ middle) left
+      → ran stop from before ≡ ran stop (live (operandDue ending true) (frame done starts (pending class (sign .mark) left ∷ waiting) nil) around) middle
+  assignment-taken {ending} {class} {sign} op loose p =
+      operator-taken leastBinary (assignment-threshold class op) (leb→le leastBinary newPrecedence tt) loose
+      (look-assignment ending (sign .newline) class op) p
 
-      through : (a b c : ℕ) → a ≤ b → b ≤ c → a ≤ c
-      through a b c h k = omega arith
+  -- `?` closes what is binary or tighter, and its middle part stands by itself
+  pub question-taken : {ending : Ending} {sign : Spot} → Looser leastBinary waiting
+      → Passed stop ending done starts around leastBinary waiting from before (token question sign ∷ middle) left
+      → ran stop from before
+      ≡ ran stop (live (operandDue byColon true) empty (asking ending (sign .mark) (frame done starts waiting left) ∷ around)) middle
+  question-taken {ending} {sign} loose p =
+      met p tt
+      ∙ ap (λ (z : Frame). ran stop (live (operandDue byColon true) empty (asking ending (sign .mark) z ∷ around)) middle)
+      (p .reached .closes leastBinary (itself leastBinary) ∙ reduce-stops leastBinary done starts waiting left loose)
 
-  pub assignment-passed : (sign : Spot) → Looser 1 waiting
-      → ran stop from before ≡ ran stop (live (operandDone ending true) (frame done starts waiting left) around) (token assign sign ∷ middle)
-      → Passed stop ending done starts around 0 (pending assign (sign .mark) left ∷ waiting)
-      (live (operandDue ending true) (frame done starts (pending assign (sign .mark) left ∷ waiting) nil) around) middle after right
-      → Passed stop ending done starts around 0 waiting from before after (node assign (sign .mark) left right)
-  assignment-passed sign loose runs q = record {
-    target = q .target;
-    unclosed = q .unclosed;
-    last = q .last;
-    runs = runs
-        ∙ ap (λ (z : Frame). ran stop (live (operandDue ending true) (await assign (sign .mark) z) around) middle)
-        (reduce-stops 1 done starts waiting left loose)
-        ∙ q .runs;
-    closes = λ n h. q .closes n h ∙ reduce-closes n done starts assign (sign .mark) left waiting right h;
-  }
+  -- its `:` answers it
+  pub answer-taken : {ending : Ending} {least mark : ℕ} {answer : Spot} {condition : Syntax}
+      → Passed stop byColon nil [] (asking ending mark (frame done starts waiting condition) ∷ around) least [] from before (token colon answer ∷ middle) left
+      → ran stop from before
+      ≡ ran stop (live (operandDue ending true) (frame done starts (pending question mark (snoc condition left) ∷ waiting) nil) around) middle
+  answer-taken {ending} {least} {mark} {condition = condition} p =
+      met p tt
+      ∙ ap (λ (z : Frame). ran stop (live (operandDue ending true) (answered mark (operandOf z) (frame done starts waiting condition)) around) middle)
+      (p .reached .closes 0 (from-none least))
 
-pub passed-down : {stop : Spot} {ending : Ending} {done : Syntax} {starts waiting : List Pending} {around : List Open} {from : State}
-    {before after : List Token} {value : Syntax} → Passed stop ending done starts around 1 waiting from before after value
-    → Passed stop ending done starts around 0 waiting from before after value
-passed-down p =
-    record { target = p .target; unclosed = p .unclosed; last = p .last; runs = p .runs; closes = λ n h. p .closes n (omega arith) }
+pub comma-taken : {stop : Spot} {ending : Ending} {done : Syntax} {starts : List Pending} {around : List Open} {from : State} {sign : Spot}
+    {before middle : List Token} {left : Syntax} → T (takesComma ending)
+    → Passed stop ending done starts around (precedence comma) [] from before (token comma sign ∷ middle) left
+    → ran stop from before ≡ ran stop (live (operandDue ending true) (frame done starts (pending comma (sign .mark) left ∷ []) nil) around) middle
+comma-taken {sign = sign} takes p =
+    operator-taken (precedence comma) refl (itself (precedence comma)) tt (look-comma (p .ends) (sign .newline) takes) (p .reached)

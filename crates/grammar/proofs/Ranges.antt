@@ -15,10 +15,10 @@ use mathlib.Core.List.{
 }
 use Prim.Native.Nat.{ℕ, _+_, _≤_, _<_}
 use native.Mathlib.Omega.{arith}
-use Rattle.grammar.specs.Syntax.{Syntax, nil, node, snoc, size}
-use Rattle.grammar.specs.Demand3.{marksOf, Distinct, distinct-none, distinct-more}
+use Rattle.machine.specs.Syntax.{Syntax, nil, node, snoc, size, marksOf, Distinct, distinct-none, distinct-more}
 
--- The marks of parts side by side lie in ranges side by side, and a part's own mark before, between or behind those of its parts.
+-- The marks of parts side by side lie in ranges side by side, and a part's own mark before, between or behind those of its parts, or between the
+-- two pieces of its left part.
 pub data Marks : ℕ → ℕ → Syntax → Type 0 where
   marks-none : {low high : ℕ} → low ≤ high → Marks low high nil
   marks-before : {low next middle high kind mark : ℕ} {left right : Syntax} → low ≤ mark → mark < next → Marks next middle left
@@ -27,6 +27,8 @@ pub data Marks : ℕ → ℕ → Syntax → Type 0 where
       → Marks next high right → Marks low high (node kind mark left right)
   marks-behind : {low middle next high kind mark : ℕ} {left right : Syntax} → Marks low middle left → Marks middle next right → next ≤ mark
       → mark < high → Marks low high (node kind mark left right)
+  marks-inside : {low middle next end high kind mark : ℕ} {before last right : Syntax} → Marks low middle before → middle ≤ mark → mark < next
+      → Marks next end last → Marks end high right → Marks low high (node kind mark (snoc before last) right)
   marks-both : {low middle high : ℕ} {before last : Syntax} → Marks low middle before → Marks middle high last → Marks low high (snoc before last)
 
 pub from-lower : {lower low high : ℕ} {value : Syntax} → lower ≤ low → Marks low high value → Marks lower high value
@@ -34,6 +36,7 @@ from-lower {lower} {low} {high} down (marks-none h) = let wide : lower ≤ high 
 from-lower {lower} down (marks-before {mark = mark} h k left right) = let over : lower ≤ mark = omega arith in marks-before over k left right
 from-lower down (marks-between left h k right) = marks-between (from-lower down left) h k right
 from-lower down (marks-behind left right h k) = marks-behind (from-lower down left) right h k
+from-lower down (marks-inside before h k last right) = marks-inside (from-lower down before) h k last right
 from-lower down (marks-both before last) = marks-both (from-lower down before) last
 
 pub to-higher : {low high higher : ℕ} {value : Syntax} → high ≤ higher → Marks low high value → Marks low higher value
@@ -41,12 +44,13 @@ to-higher {low} {high} {higher} up (marks-none h) = let wide : low ≤ higher = 
 to-higher up (marks-before h k left right) = marks-before h k left (to-higher up right)
 to-higher up (marks-between left h k right) = marks-between left h k (to-higher up right)
 to-higher {higher = higher} up (marks-behind {mark = mark} left right h k) = let under : mark < higher = omega arith in marks-behind left right h under
+to-higher up (marks-inside before h k last right) = marks-inside before h k last (to-higher up right)
 to-higher up (marks-both before last) = marks-both before (to-higher up last)
 
 pub no-marks : (low : ℕ) → Marks low low nil
 no-marks low = let same : low ≤ low = omega arith in marks-none same
 
--- a part whose own mark is the next one: before its parts, between them, and behind the only one
+-- a part whose own mark is the next one: before its parts, between them, behind the only one, and between the pieces of the left one
 pub before-parts : {low next middle high kind mark : ℕ} {left right : Syntax} → mark ≡ low → low < next → Marks next middle left
     → Marks middle high right → Marks low high (node kind mark left right)
 before-parts {low} {next} {mark = mark} own over left right =
@@ -65,12 +69,20 @@ pub behind-part : {low middle high kind mark : ℕ} {left : Syntax} → Marks lo
     → Marks low high (node kind mark left nil)
 behind-part {middle = middle} left here passed = marks-behind left (no-marks middle) here passed
 
+pub inside-parts : {low middle next end high kind mark : ℕ} {before last right : Syntax} → Marks low middle before → mark ≡ middle
+    → Marks (middle + 1) end last → end ≤ next → Marks next high right → Marks low high (node kind mark (snoc before last) right)
+inside-parts {middle = middle} {mark = mark} before own last up right =
+    let here : middle ≤ mark = omega arith in
+    let passed : mark < middle + 1 = omega arith in
+    marks-inside before here passed last (from-lower up right)
+
 -- as many records as the range has room for
 pub range-size : {low high : ℕ} {value : Syntax} → Marks low high value → low + size value ≤ high
 range-size (marks-none h) = omega arith
 range-size (marks-before h k left right) = omega (arith, range-size left, range-size right)
 range-size (marks-between left h k right) = omega (arith, range-size left, range-size right)
 range-size (marks-behind left right h k) = omega (arith, range-size left, range-size right)
+range-size (marks-inside before h k last right) = omega (arith, range-size before, range-size last, range-size right)
 range-size (marks-both before last) = omega (arith, range-size before, range-size last)
 
 pub record Within (low high mark : ℕ) : Type 0 where
@@ -101,6 +113,13 @@ within (marks-between {mark = mark} {left = first} {right = second} left h k rig
 within (marks-behind {mark = mark} {left = first} {right = second} left right h k) m member =
     in-node first second mark (λ e. omega (arith, within left m e, range-size left, range-size right))
     (λ e. omega (arith, within right m e, range-size left, range-size right)) (λ e. omega (arith, range-size left, range-size right)) member
+within (marks-inside {mark = mark} {before = first} {last = second} {right = third} before h k last right) m member =
+    in-node (snoc first second) third mark
+    (λ e.
+    in-either (marksOf first) (marksOf second) (λ g. omega (arith, within before m g, range-size before, range-size last, range-size right))
+    (λ g. omega (arith, within last m g, range-size before, range-size last, range-size right)) e)
+    (λ e. omega (arith, within right m e, range-size before, range-size last, range-size right))
+    (λ e. omega (arith, range-size before, range-size last, range-size right)) member
 within (marks-both {before = first} {last = second} before last) m member =
     in-either (marksOf first) (marksOf second) (λ e. omega (arith, within before m e, range-size before, range-size last))
     (λ e. omega (arith, within last m e, range-size before, range-size last)) member
@@ -135,5 +154,13 @@ distinct (marks-between {mark = mark} {left = first} {right = second} left h k r
 distinct (marks-behind {mark = mark} {left = first} {right = second} left right h k) =
     distinct-node first second mark (distinct left) (distinct right) (λ m e f. omega (arith, within left m e, within right m f))
     (λ e. omega (arith, within left mark e, range-size right)) (λ e. omega (arith, within right mark e))
+distinct (marks-inside {mark = mark} {before = first} {last = second} {right = third} before h k last right) =
+    distinct-node (snoc first second) third mark
+    (distinct-append (distinct before) (distinct last) λ m e f. omega (arith, within before m e, within last m f)) (distinct right)
+    (λ m e f.
+    in-either (marksOf first) (marksOf second) (λ g. omega (arith, within before m g, within right m f, range-size last))
+    (λ g. omega (arith, within last m g, within right m f)) e)
+    (λ e. in-either (marksOf first) (marksOf second) (λ g. omega (arith, within before mark g)) (λ g. omega (arith, within last mark g)) e)
+    (λ e. omega (arith, within right mark e, range-size last))
 distinct (marks-both before last) =
     distinct-append (distinct before) (distinct last) λ m e f. omega (arith, within before m e, within last m f)

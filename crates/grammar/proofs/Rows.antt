@@ -1,19 +1,33 @@
 -- The rows that several controls share: what an entry does keeps a partial derivation.
 use mathlib.Core.Path.{sym, _∙_, ap, subst}
-use mathlib.Core.Bool.{Bool, true, false}
+use mathlib.Core.Bool.{Bool, true, false, not}
 use mathlib.Core.List.{List, [], _∷_}
-use Prim.Native.Nat.{ℕ}
+use Prim.Native.Nat.{ℕ, _+_, _≤_, _<_}
+use native.Mathlib.Omega.{arith}
 use lib.Dec.{T}
-use Rattle.grammar.specs.Tokens.{Token, token, Spot, assign}
-use Rattle.grammar.specs.Syntax.{Syntax, nil}
+use Rattle.machine.specs.Tokens.{Token, token, Spot, newWord, question, comma, openParen, openBracket}
+use Rattle.machine.specs.Operators.{assignmentPrecedence}
+use Rattle.machine.specs.Syntax.{Syntax, nil}
 use Rattle.grammar.specs.Grammar.{
+  precedence,
+  leastBinary,
+  assignmentOperators,
+  binaryOperators,
+  prefixOperators,
+  prefixKind,
+  postfixOperators,
+  postfixKind,
+  isAmong,
+  Leaf,
   leaf-name,
   leaf-number,
   leaf-string,
   leaf-pattern,
-  operators,
-  isOperator,
-  precedence,
+  leaf-this,
+  leaf-null,
+  leaf-true,
+  leaf-false,
+  startsExpression,
   Scope,
   body,
   block,
@@ -25,10 +39,12 @@ use Rattle.grammar.specs.Grammar.{
   objectProperties,
   at-argument,
   at-element,
+  unaryForm,
   itemsForm,
   listForm,
   Derives,
   Chain,
+  unary-postfix,
   chain-leaf,
   no-items,
   add-hole,
@@ -36,17 +52,26 @@ use Rattle.grammar.specs.Grammar.{
   list-items,
   no-statements,
 }
-use Rattle.grammar.specs.Machinery.Machine.{
+use Rattle.machine.specs.Machinery.Machine.{
   Pending,
   Frame,
   frame,
+  empty,
+  prefixPrecedence,
+  newPrecedence,
   reduce,
   operandOf,
   doneOf,
   await,
   completeExpression,
   completeValue,
+  postfixed,
+  takeLeaf,
   takeOperator,
+  takePrefix,
+  takePostfix,
+  toParens,
+  toArray,
   Ending,
   Setting,
   among,
@@ -54,29 +79,78 @@ use Rattle.grammar.specs.Machinery.Machine.{
   byReturn,
   byParen,
   byBracket,
+  byColon,
   byItem,
   statementDue,
   behindStatement,
   operandDue,
+  memberDue,
+  operandDone,
+  postfixDone,
+  itemDue,
   Action,
   goto,
+  push,
+  ask,
+  Entry,
+  on,
+  values,
+  primaries,
+  beginnings,
+  operandBegins,
   operand,
+  member,
   noStatement,
-  endingRow,
   behindComma,
-  assignAction,
-  besidesOperators,
+  commaAction,
+  endingRow,
+  afterUnary,
+  assignmentRow,
+  postfixRow,
   afterOperand,
   itemRow,
   Open,
+  asking,
   popTo,
+  turnTo,
   act,
   row,
 }
-use Rattle.grammar.proofs.TableLaws.{EachEntry, map-entries, operator-entries, precedence-positive, threshold-operator}
-use Rattle.grammar.proofs.ReduceLaws.{reduce-stops}
-use Rattle.grammar.proofs.Waiting.{Waiting, none-waits, assign-waits, operator-waits, targets-looser, chain-closes, chain-closes-tight}
-use Rattle.grammar.proofs.Places.{statementAt, expressionAt, listAt, Reached, in-block, in-expression, in-parens, in-index, in-call, in-array, in-object, in-item}
+use Rattle.grammar.proofs.TableLaws.{
+  EachEntry,
+  map-entries,
+  at-class,
+  each-entry,
+  holds-at,
+  binary-precedence,
+  binary-threshold,
+  binary-under-prefix,
+  assignment-threshold,
+}
+use Rattle.grammar.proofs.Waiting.{
+  wholeLevel,
+  whole-level,
+  as-binary,
+  as-expression,
+  comma-begun,
+  assignment-begun,
+  binary-begun,
+  prefix-begun,
+  Waiting,
+  none-waits,
+  operator-waits,
+  new-waits,
+  mayCall,
+  target-level,
+  binary-level,
+  NewsClosed,
+  chain-closes,
+  chain-unary,
+  news-close,
+  unary-closes,
+  unary-closes-tight,
+}
+use Rattle.grammar.proofs.Places.{statementAt, expressionAt, listAt, Reached, in-block, in-expression, in-parens, in-index, in-call, in-array, in-object, in-conditional, in-item}
 use Rattle.grammar.proofs.Partial.{
   declaration-at,
   operand-at,
@@ -86,140 +160,263 @@ use Rattle.grammar.proofs.Partial.{
   behind-return,
   behind-if,
   at-operand,
+  at-member,
   behind-operand,
+  behind-postfix,
   behind-dot,
   behind-function,
   at-item,
   behind-property,
   PartialOf,
+  at-expression,
   statements-close,
   parens-close,
   index-closes,
   list-closes,
   item-ends,
   last-item-ends,
+  first-ends,
   expression-ends,
   return-ends,
   text-ends,
 }
+
+value-leaf : (class : ℕ) → T (isAmong values class) → Leaf class
+value-leaf = holds-at Leaf values (leaf-number, (leaf-string, (leaf-pattern, (leaf-this, (leaf-null, (leaf-true, (leaf-false, tt)))))))
 
 module _ (all : List Token) (spot : Spot) (rest : List Token) (around : List Open) where
   -- what stands before a token of a class is taken by an action to a partial derivation behind it
   abbrev pub Keeps : Frame → (List Token → Type 0) → ℕ → Action → Type 0
   Keeps f Stands class action = Stands (token class spot ∷ rest) → PartialOf all (act action class spot f around) rest
 
-  -- an operand comes
-  abbrev pub KeepsOperand : Ending → Bool → Syntax → List Pending → List Pending → Syntax → ℕ → Action → Type 0
-  KeepsOperand ending target done starts waiting last class action =
-      (first : List Token) → Reached all (expressionAt ending) done starts around first → Waiting target waiting first (token class spot ∷ rest)
+  -- an operand comes, or a member where `new` waits for it
+  abbrev pub KeepsMember : Ending → Bool → Syntax → List Pending → List Pending → Syntax → ℕ → Action → Type 0
+  KeepsMember ending target done starts waiting last class action =
+      (first : List Token) (level : ℕ) → Reached all (expressionAt ending) done starts around first
+      → Waiting ending target level waiting first (token class spot ∷ rest)
       → PartialOf all (act action class spot (frame done starts waiting last) around) rest
 
-  pub operand-row : (ending : Ending) (target : Bool) (done : Syntax) (starts waiting : List Pending) (last : Syntax)
-      → EachEntry (KeepsOperand ending target done starts waiting last) (operand ending target)
-  operand-row ending target done starts waiting last = (
-    (λ first outer waits. behind-operand outer waits (chain-leaf leaf-name)),
-    (
-      (λ first outer waits. at-item (in-object outer waits) no-items (list-items tt no-items)),
-      (
-        (λ first outer waits. behind-function (operand-at outer waits)),
-        (
-          (λ first outer waits. behind-operand outer waits (chain-leaf leaf-number)),
+  abbrev pub KeepsOperand : Ending → Bool → Syntax → List Pending → List Pending → Syntax → ℕ → Action → Type 0
+  KeepsOperand ending target done starts waiting last class action =
+      (first : List Token) (level : ℕ) → Reached all (expressionAt ending) done starts around first
+      → Waiting ending target level waiting first (token class spot ∷ rest) → level ≤ prefixPrecedence
+      → PartialOf all (act action class spot (frame done starts waiting last) around) rest
+
+  module _ (ending : Ending) (target : Bool) (done : Syntax) (starts waiting : List Pending) (last : Syntax) where
+    -- what may begin a statement
+    abbrev begins : ℕ → Bool
+    begins class = startsExpression (token class spot ∷ rest)
+
+    -- shared entries: they have what follows from that they keep it
+    primaries-row : (Holds : ℕ → Action → Type 0)
+        → ((class : ℕ) (action : Action) → T (begins class) → KeepsMember ending target done starts waiting last class action
+        → Holds class action)
+        → (more : List Entry) → EachEntry Holds more → EachEntry Holds (primaries ending target more)
+    primaries-row Holds so more others =
+        let leaf : ℕ → Action = λ class. goto (operandDone ending target) (takeLeaf class) in
+        let parens : Action = push (operandDue byParen true) (operandDone ending target) toParens in
+        let array : Action = push (itemDue arrayElements) (operandDone ending target) toArray in
+        let construct : Action = goto (memberDue ending target) (takePrefix newWord) in
+        each-entry Holds leaf values (on openParen parens ∷ on openBracket array ∷ on newWord construct ∷ more)
+        (λ class value.
+        so class (leaf class) (at-class begins values class value tt) (λ first level outer waits. behind-operand outer waits (chain-leaf (value-leaf class value)))) (
+          so openParen parens tt (λ first level outer waits. at-expression (in-parens outer waits)),
           (
-            (λ first outer waits. behind-operand outer waits (chain-leaf leaf-string)),
+            so openBracket array tt (λ first level outer waits. at-item (in-array outer waits) no-items (list-items tt no-items)),
             (
-              (λ first outer waits. behind-operand outer waits (chain-leaf leaf-pattern)),
-              (
-                (λ first outer waits. at-operand (in-parens outer waits) none-waits),
-                (
-                  (λ first outer waits. at-item (in-array outer waits) no-items (list-items tt no-items)),
-                  tt,
-                ),
-              ),
+              so newWord construct tt (λ first level outer waits. at-member outer (new-waits waits)),
+              others,
             ),
           ),
+        )
+
+    beginnings-row : (Holds : ℕ → Action → Type 0)
+        → ((class : ℕ) (action : Action) → T (begins class) → KeepsOperand ending target done starts waiting last class action
+        → Holds class action)
+        → (more : List Entry) → EachEntry Holds more → EachEntry Holds (beginnings ending target more)
+    beginnings-row Holds so more others =
+        let prefixed : ℕ → Action = λ class. goto (operandDue ending false) (takePrefix (prefixKind class)) in
+        each-entry Holds prefixed prefixOperators (primaries ending target more)
+        (λ class op.
+        so class (prefixed class) (at-class begins prefixOperators class op tt)
+        (λ first level outer waits fits. at-operand outer (operator-waits waits fits (prefix-begun op)) (omega arith)))
+        (primaries-row Holds (λ class action starts keeps. so class action starts (λ first level outer waits fits. keeps first level outer waits)) more others)
+
+    operand-begins-row : (Holds : ℕ → Action → Type 0)
+        → ((class : ℕ) (action : Action) → KeepsMember ending target done starts waiting last class action → Holds class action) → (more : List Entry)
+        → EachEntry Holds more → EachEntry Holds (operandBegins ending target more)
+    operand-begins-row Holds so more others = (
+      so _ _ (λ first level outer waits. behind-operand outer waits (chain-leaf leaf-name)),
+      (
+        so _ _ (λ first level outer waits. at-item (in-object outer waits) no-items (list-items tt no-items)),
+        (
+          so _ _ (λ first level outer waits. behind-function (operand-at outer waits)),
+          others,
         ),
       ),
-    ),
-  )
+    )
 
-  -- an operand has ended
-  abbrev pub KeepsChain : Ending → Bool → Syntax → List Pending → List Pending → Syntax → ℕ → Action → Type 0
-  KeepsChain ending target done starts waiting last class action =
-      (first before : List Token) → Reached all (expressionAt ending) done starts around first → Waiting target waiting first before
-      → Chain before (token class spot ∷ rest) last → PartialOf all (act action class spot (frame done starts waiting last) around) rest
+    pub member-row : EachEntry (KeepsMember ending target done starts waiting last) (member ending target)
+    member-row =
+        let Holds : ℕ → Action → Type 0 = KeepsMember ending target done starts waiting last in
+        operand-begins-row Holds (λ class action keeps. keeps) (primaries ending target []) (primaries-row Holds (λ class action starts keeps. keeps) [] tt)
 
-  module _ (target : Bool) (done : Syntax) (starts waiting : List Pending) (last : Syntax) where
-    operator-entry : (ending : Ending) (class : ℕ) → T (isOperator class)
-        → KeepsChain ending target done starts waiting last class (goto (operandDue ending false) (takeOperator class))
-    operator-entry ending class op first before outer waits chain =
-        let r = chain-closes-tight (precedence class) done starts (precedence-positive class op) waits chain in
+    pub operand-row : EachEntry (KeepsOperand ending target done starts waiting last) (operand ending target)
+    operand-row =
+        let Holds : ℕ → Action → Type 0 = KeepsOperand ending target done starts waiting last in
+        operand-begins-row Holds (λ class action keeps first level outer waits fits. keeps first level outer waits) (beginnings ending target [])
+        (beginnings-row Holds (λ class action starts keeps. keeps) [] tt)
+
+  -- a Unary has ended
+  abbrev pub KeepsUnary : Ending → Syntax → List Pending → List Pending → Syntax → ℕ → Action → Type 0
+  KeepsUnary ending done starts waiting last class action =
+      (first : List Token) (target : Bool) → Reached all (expressionAt ending) done starts around first
+      → NewsClosed ending done starts target unaryForm waiting first (token class spot ∷ rest) last
+      → PartialOf all (act action class spot (frame done starts waiting last) around) rest
+
+  module _ (done : Syntax) (starts waiting : List Pending) (last : Syntax) where
+    binary-entry : (ending : Ending) (class : ℕ) → T (isAmong binaryOperators class)
+        → KeepsUnary ending done starts waiting last class (goto (operandDue ending false) (takeOperator class))
+    binary-entry ending class op first target outer unary =
+        let from = binary-precedence class op in
+        let to = binary-under-prefix class op in
+        let r = unary-closes-tight ending done starts (precedence class) (loosest (precedence class) from) (under (precedence class) to) unary in
         subst (λ (f : Frame). Partial all (operandDue ending false) (await class (spot .mark) f) around rest)
-        (sym (ap (λ (least : ℕ). reduce least done starts waiting last) (threshold-operator class op) ∙ r .same))
-        (at-operand outer (operator-waits (r .waits) op (r .looser) (r .whole)))
+        (sym (ap (λ (least : ℕ). reduce least done starts waiting last) (binary-threshold class op) ∙ r .same))
+        (at-operand outer (operator-waits (r .waits) (r .fits) (binary-begun op (as-binary from (r .whole)))) (next (precedence class) to))
+      where
+        loosest : (a : ℕ) → leastBinary ≤ a → wholeLevel ending ≤ a
+        loosest a h = let w = whole-level ending in omega arith
 
-    ending-row : (ending : Ending) → EachEntry (KeepsChain ending target done starts waiting last) (endingRow ending)
+        under : (a : ℕ) → a < prefixPrecedence → a ≤ prefixPrecedence
+        under a h = omega arith
+
+        next : (a : ℕ) → a < prefixPrecedence → a + 1 ≤ prefixPrecedence
+        next a h = omega arith
+
+    question-entry : (ending : Ending) → KeepsUnary ending done starts waiting last question (ask ending)
+    question-entry ending first target outer unary =
+        let r = unary-closes-tight ending done starts leastBinary (loosest (whole-level ending)) (omega arith) unary in
+        subst (λ (f : Frame). Partial all (operandDue byColon true) empty (asking ending (spot .mark) f ∷ around) rest) (sym (r .same))
+        (at-expression (in-conditional outer (r .waits) (binary-level (r .waits) (r .fits)) (as-binary (omega arith) (r .whole))))
+      where
+        loosest : wholeLevel ending ≤ assignmentPrecedence → wholeLevel ending ≤ leastBinary
+        loosest h = omega arith
+
+    comma-entry : (ending : Ending) → wholeLevel ending ≤ 1 → KeepsUnary ending done starts waiting last comma (commaAction ending)
+    comma-entry ending may first target outer unary =
+        let r = unary-closes-tight ending done starts 1 may (omega arith) unary in
+        subst (λ (f : Frame). Partial all (operandDue ending true) (await comma (spot .mark) f) around rest) (sym (r .same))
+        (at-operand outer (operator-waits (r .waits) (r .fits) (comma-begun (as-expression (r .whole)))) (omega arith))
+
+    ending-row : (ending : Ending) → EachEntry (KeepsUnary ending done starts waiting last) (endingRow ending)
     ending-row (byStatement setting) = (
-      λ first before outer waits chain.
-          let r = chain-closes done starts waits chain in
+      (λ first target outer unary.
+          let r = unary-closes (byStatement setting) done starts unary in
           subst (λ (f : Frame). Partial all (behindStatement setting) (completeExpression (spot .mark) f) around rest) (sym (r .same))
-          (expression-ends outer (r .whole)),
-      tt,
+          (expression-ends outer (r .whole))),
+      (comma-entry (byStatement setting) (omega arith), tt),
     )
     ending-row (byReturn setting) = (
-      λ first before outer waits chain.
-          let r = chain-closes done starts waits chain in
-          subst (λ (f : Frame). Partial all (behindStatement setting) (completeValue f) around rest) (sym (r .same)) (return-ends outer (r .whole)),
-      tt,
+      (λ first target outer unary.
+          let r = unary-closes (byReturn setting) done starts unary in
+          subst (λ (f : Frame). Partial all (behindStatement setting) (completeValue f) around rest) (sym (r .same)) (return-ends outer (r .whole))),
+      (comma-entry (byReturn setting) (omega arith), tt),
     )
     ending-row byParen = (
-      λ first before outer waits chain.
-          let r = chain-closes done starts waits chain in
-          subst (λ (f : Frame). PartialOf all (popTo (spot .first) (operandOf f) around) rest) (sym (r .same)) (parens-close outer (r .whole) (spot .first)),
-      tt,
+      (λ first target outer unary.
+          let r = unary-closes byParen done starts unary in
+          subst (λ (f : Frame). PartialOf all (popTo (spot .first) (operandOf f) around) rest) (sym (r .same)) (parens-close outer (r .whole) (spot .first))),
+      (comma-entry byParen (omega arith), tt),
     )
     ending-row byBracket = (
-      λ first before outer waits chain.
-          let r = chain-closes done starts waits chain in
-          subst (λ (f : Frame). PartialOf all (popTo (spot .first) (operandOf f) around) rest) (sym (r .same)) (index-closes outer (r .whole) (spot .first)),
+      (λ first target outer unary.
+          let r = unary-closes byBracket done starts unary in
+          subst (λ (f : Frame). PartialOf all (popTo (spot .first) (operandOf f) around) rest) (sym (r .same)) (index-closes outer (r .whole) (spot .first))),
+      (comma-entry byBracket (omega arith), tt),
+    )
+    ending-row byColon = (
+      λ first target outer unary.
+          let r = unary-closes byColon done starts unary in
+          subst (λ (f : Frame). PartialOf all (turnTo (spot .first) (operandOf f) around) rest) (sym (r .same)) (first-ends outer (r .whole) (spot .first)),
       tt,
     )
     ending-row (byItem items) = (
-      (λ first before outer waits chain.
-          let r = chain-closes done starts waits chain in
+      (λ first target outer unary.
+          let r = unary-closes (byItem items) done starts unary in
           subst (λ (f : Frame). Partial all (behindComma items) (completeValue f) around rest) (sym (r .same)) (item-ends outer (r .whole))),
       (
-        (λ first before outer waits chain.
-            let r = chain-closes done starts waits chain in
+        (λ first target outer unary.
+            let r = unary-closes (byItem items) done starts unary in
             subst (λ (f : Frame). PartialOf all (popTo (spot .first) (doneOf (completeValue f)) around) rest) (sym (r .same))
             (last-item-ends outer (r .whole) (spot .first))),
         tt,
       ),
     )
 
-  assign-entry : (ending : Ending) (target : Bool) (done : Syntax) (starts waiting : List Pending) (last : Syntax)
-      → KeepsChain ending target done starts waiting last assign (assignAction ending target)
-  assign-entry ending true done starts waiting last first before outer waits chain =
-      subst (λ (f : Frame). Partial all (operandDue ending true) (await assign (spot .mark) f) around rest)
-      (sym (reduce-stops 1 done starts waiting last (targets-looser waits))) (at-operand outer (assign-waits waits chain))
-  assign-entry ending false done starts waiting last first before outer waits chain = tt
+    pub unary-row : (ending : Ending) → EachEntry (KeepsUnary ending done starts waiting last) (afterUnary ending)
+    unary-row ending =
+        each-entry (KeepsUnary ending done starts waiting last) (λ class. goto (operandDue ending false) (takeOperator class)) binaryOperators
+        (on question (ask ending) ∷ endingRow ending) (λ class op. binary-entry ending class op) (question-entry ending, ending-row ending)
 
-  pub chain-row : (ending : Ending) (target : Bool) (done : Syntax) (starts waiting : List Pending) (last : Syntax)
-      → EachEntry (KeepsChain ending target done starts waiting last) (afterOperand ending target)
-  chain-row ending target done starts waiting last =
-      operator-entries (KeepsChain ending target done starts waiting last) ending operators (besidesOperators ending target)
-      (λ class op. operator-entry target done starts waiting last ending class op) (
-        (λ first before outer waits chain. behind-dot outer waits chain),
+  -- an operand has ended
+  abbrev pub KeepsChain : Ending → Bool → Syntax → List Pending → List Pending → Syntax → ℕ → Action → Type 0
+  KeepsChain ending target done starts waiting last class action =
+      (first before : List Token) (level : ℕ) → Reached all (expressionAt ending) done starts around first
+      → Waiting ending target level waiting first before → Chain (mayCall waiting) before (token class spot ∷ rest) last
+      → PartialOf all (act action class spot (frame done starts waiting last) around) rest
+
+  module _ (ending : Ending) (done : Syntax) (starts waiting : List Pending) (last : Syntax) where
+    assignment-entry : (class : ℕ) → T (isAmong assignmentOperators class)
+        → KeepsChain ending true done starts waiting last class (goto (operandDue ending true) (takeOperator class))
+    assignment-entry class op first before level outer waits chain =
+        let r = chain-closes ending done starts waits chain in
+        let loose = target-level (r .waits) (r .fits) in
+        subst (λ (f : Frame). Partial all (operandDue ending true) (await class (spot .mark) f) around rest)
+        (sym
+        (ap (λ (least : ℕ). reduce least done starts waiting last) (assignment-threshold class op)
+        ∙ news-close ending done starts leastBinary r (omega arith) (omega arith)))
+        (at-operand outer (operator-waits (r .waits) loose (assignment-begun op (r .whole))) (omega arith))
+
+    assignment-row : (target : Bool) (more : List Entry) → EachEntry (KeepsChain ending target done starts waiting last) more
+        → EachEntry (KeepsChain ending target done starts waiting last) (assignmentRow ending target more)
+    assignment-row true more others =
+        each-entry (KeepsChain ending true done starts waiting last) (λ class. goto (operandDue ending true) (takeOperator class)) assignmentOperators more
+        assignment-entry others
+    assignment-row false more others = others
+
+    postfix-entry : (target : Bool) (class : ℕ) → T (isAmong postfixOperators class) → T (not (spot .newline))
+        → KeepsChain ending target done starts waiting last class (goto (postfixDone ending) (takePostfix (postfixKind class)))
+    postfix-entry target class op same first before level outer waits chain =
+        let r = chain-closes ending done starts waits chain in
+        let under = r .fits in
+        subst (λ (f : Frame). Partial all (postfixDone ending) (postfixed (postfixKind class) (spot .mark) f) around rest)
+        (sym (news-close ending done starts newPrecedence r (omega arith) (omega arith)))
+        (behind-postfix outer (r .waits) (r .fits) (unary-postfix op same (r .whole)))
+
+    postfix-row : (target newline : Bool) → (T (not newline) → T (not (spot .newline))) → (more : List Entry)
+        → EachEntry (KeepsChain ending target done starts waiting last) more
+        → EachEntry (KeepsChain ending target done starts waiting last) (postfixRow ending newline more)
+    postfix-row target true same more others = others
+    postfix-row target false same more others =
+        each-entry (KeepsChain ending target done starts waiting last) (λ class. goto (postfixDone ending) (takePostfix (postfixKind class)))
+        postfixOperators more (λ class op. postfix-entry target class op (same tt)) others
+
+    pub chain-row : (target : Bool) → EachEntry (KeepsChain ending target done starts waiting last) (afterOperand ending target (spot .newline))
+    chain-row target = (
+      (λ first before level outer waits chain. behind-dot outer waits chain),
+      (
+        (λ first before level outer waits chain. at-item (in-call outer waits chain) no-items list-empty),
         (
-          (λ first before outer waits chain. at-item (in-call outer waits chain) no-items list-empty),
-          (
-            (λ first before outer waits chain. at-operand (in-index outer waits chain) none-waits),
-            (
-              assign-entry ending target done starts waiting last,
-              ending-row target done starts waiting last ending,
-            ),
-          ),
+          (λ first before level outer waits chain. at-expression (in-index outer waits chain)),
+          assignment-row target (postfixRow ending (spot .newline) (afterUnary ending))
+              (postfix-row target (spot .newline) (λ same. same) (afterUnary ending)
+              (map-entries (KeepsUnary ending done starts waiting last) (KeepsChain ending target done starts waiting last) (afterUnary ending)
+              (λ class action keeps first before level outer waits chain. keeps first target outer (chain-unary ending done starts (chain-closes ending done starts waits chain)))
+              (unary-row done starts waiting last ending))),
         ),
-      )
+      ),
+    )
 
   -- an item may come, or the list may end
   abbrev KeepsItem : Items → List Token → Syntax → ℕ → Action → Type 0
@@ -231,14 +428,14 @@ module _ (all : List Token) (spot : Spot) (rest : List Token) (around : List Ope
   item-row callArguments first done outer = (
     (λ s. list-closes outer (s .1) (spot .first)),
     map-entries (KeepsOperand (byItem callArguments) true done [] [] nil) (KeepsItem callArguments first done) (operand (byItem callArguments) true)
-        (λ k action keeps s. keeps _ (in-item outer (s .0) at-argument) none-waits) (operand-row (byItem callArguments) true done [] [] nil),
+        (λ k action keeps s. keeps _ _ (in-item outer (s .0) at-argument) none-waits (omega arith)) (operand-row (byItem callArguments) true done [] [] nil),
   )
   item-row arrayElements first done outer = (
     (λ s. at-item outer (add-hole (s .0)) (list-items tt (add-hole (s .0)))),
     (
       (λ s. list-closes outer (s .1) (spot .first)),
       map-entries (KeepsOperand (byItem arrayElements) true done [] [] nil) (KeepsItem arrayElements first done) (operand (byItem arrayElements) true)
-          (λ k action keeps s. keeps _ (in-item outer (s .0) at-element) none-waits) (operand-row (byItem arrayElements) true done [] [] nil),
+          (λ k action keeps s. keeps _ _ (in-item outer (s .0) at-element) none-waits (omega arith)) (operand-row (byItem arrayElements) true done [] [] nil),
     ),
   )
   item-row objectProperties first done outer = (
@@ -280,22 +477,8 @@ module _ (all : List Token) (spot : Spot) (rest : List Token) (around : List Ope
         (λ place. behind-return place),
         (
           (λ place. behind-name place),
-          (
-            (λ place. behind-operand (in-expression tt place) none-waits (chain-leaf leaf-number)),
-            (
-              (λ place. behind-operand (in-expression tt place) none-waits (chain-leaf leaf-string)),
-              (
-                (λ place. behind-operand (in-expression tt place) none-waits (chain-leaf leaf-pattern)),
-                (
-                  (λ place. at-operand (in-parens (in-expression tt place) none-waits) none-waits),
-                  (
-                    (λ place. at-item (in-array (in-expression tt place) none-waits) no-items (list-items tt no-items)),
-                    more,
-                  ),
-                ),
-              ),
-            ),
-          ),
+          beginnings-row (byStatement setting) true done starts [] nil (KeepsStatement setting done starts)
+              (λ class action begins keeps place. keeps _ _ (in-expression begins place) none-waits (omega arith)) (noStatement must setting) more,
         ),
       ),
     ),

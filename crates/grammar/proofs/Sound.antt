@@ -1,13 +1,13 @@
 -- What the machine takes to where a program may end has a derivation, with the syntax that the machine has built.
-use mathlib.Core.Path.{_≡_, refl, sym, _∙_, subst}
+use mathlib.Core.Path.{_≡_, refl, sym, _∙_, ap, subst}
 use mathlib.Core.Bool.{Bool, true, false}
 use mathlib.Core.List.{List, [], _∷_, _++_}
 use Prim.Native.Nat.{ℕ}
 use native.Mathlib.Omega.{arith}
-use Rattle.grammar.specs.Tokens.{Token, token, Spot}
-use Rattle.grammar.specs.Syntax.{Syntax, nil}
+use Rattle.machine.specs.Tokens.{Token, token, Spot}
+use Rattle.machine.specs.Syntax.{Syntax, nil}
 use Rattle.grammar.specs.Grammar.{body, block, callArguments, arrayElements, objectProperties, statement-if, no-statements, Program}
-use Rattle.grammar.specs.Machinery.Machine.{endOfText, Frame, frame, doneOf, byStatement, byReturn, byParen, byBracket, byItem, among, declared, operandIn, Control, returnFirst, finished, look, row, Open, State, dead, live, finishIn, act, consume, run, start}
+use Rattle.machine.specs.Machinery.Machine.{endOfText, Frame, frame, doneOf, Ending, byStatement, byReturn, byParen, byBracket, byColon, byItem, among, declared, operandIn, Control, returnFirst, finished, Action, fail, look, afterUnary, afterOperand, row, Open, State, dead, live, finishIn, act, consume, run, start}
 use Rattle.grammar.proofs.Complete.{run-append}
 use Rattle.grammar.proofs.Places.{statementAt, Reached, in-program, in-declaration, in-function}
 use Rattle.grammar.proofs.Partial.{
@@ -21,7 +21,9 @@ use Rattle.grammar.proofs.Partial.{
   behind-if,
   behind-then,
   at-operand,
+  at-member,
   behind-operand,
+  behind-postfix,
   behind-dot,
   behind-function,
   behind-function-name,
@@ -43,6 +45,23 @@ pub run-partial : (all : List Token) (control : Control) (f : Frame) (around : L
 run-partial all control f around e =
     subst (λ (state : State). PartialOf all state []) e (run-keeps all all start (at-statement (in-program no-statements)))
 
+-- no expression ends with the text
+unary-at-end : (ending : Ending) → look endOfText (afterUnary ending) ≡ fail
+unary-at-end (byStatement setting) = refl
+unary-at-end (byReturn setting) = refl
+unary-at-end byParen = refl
+unary-at-end byBracket = refl
+unary-at-end byColon = refl
+unary-at-end (byItem callArguments) = refl
+unary-at-end (byItem arrayElements) = refl
+unary-at-end (byItem objectProperties) = refl
+
+operand-at-end : (ending : Ending) (target newline : Bool) → look endOfText (afterOperand ending target newline) ≡ fail
+operand-at-end ending true true = unary-at-end ending
+operand-at-end ending true false = unary-at-end ending
+operand-at-end ending false true = unary-at-end ending
+operand-at-end ending false false = unary-at-end ending
+
 -- behind the end of the text the machine lives only if the text was a program
 pub record Ended (all : List Token) (control : Control) (f : Frame) (around : List Open) : Type 0 where
   pub at-end : control ≡ finished
@@ -52,6 +71,9 @@ pub record Ended (all : List Token) (control : Control) (f : Frame) (around : Li
 module _ (all : List Token) (spot : Spot) (after : Control) (g : Frame) (outside : List Open) where
   never : {A : Type 0} {place : ℕ} → dead place ≡ live after g outside → A
   never e = absurd (let z : _≡_ {A = ℕ} 0 1 = cc in omega arith)
+
+  untaken : {A : Type 0} (f : Frame) (around : List Open) {action : Action} → action ≡ fail → act action endOfText spot f around ≡ live after g outside → A
+  untaken f around fails e = never (sym (ap (λ (z : Action). act z endOfText spot f around) fails) ∙ e)
 
   finish-taken : {done : Syntax} {around : List Open} → Reached all (statementAt (among body)) done [] around []
       → finishIn (spot .first) (frame done [] [] nil) around ≡ live after g outside → Ended all after g outside
@@ -74,7 +96,8 @@ module _ (all : List Token) (spot : Spot) (after : Control) (g : Frame) (outside
   end-taken later (at-statement {scope = body} place) e = finish-taken place e
   end-taken later (at-statement {scope = block} place) e = never e
   end-taken later (at-inner-statement place) e = never e
-  end-taken later (behind-name place) e = never e
+  end-taken {f = f} {around = around} later (behind-name {setting = setting} place) e =
+      untaken f around (operand-at-end (byStatement setting) true (spot .newline)) e
   end-taken {f = f} {around = around} later (behind-return {setting = setting} place) e = by-newline (spot .newline) e
     where
       by-newline : (newline : Bool) → act (look endOfText (row (returnFirst setting) newline)) endOfText spot f around ≡ live after g outside
@@ -83,14 +106,11 @@ module _ (all : List Token) (spot : Spot) (after : Control) (g : Frame) (outside
       by-newline false e = never e
   end-taken later (behind-if place) e = never e
   end-taken later (behind-then outer condition inner) e = later _ _ (with-statement outer (statement-if condition inner)) e
-  end-taken later (at-operand outer waits) e = never e
-  end-taken later (behind-operand {ending = byStatement setting} outer waits chain) e = never e
-  end-taken later (behind-operand {ending = byReturn setting} outer waits chain) e = never e
-  end-taken later (behind-operand {ending = byParen} outer waits chain) e = never e
-  end-taken later (behind-operand {ending = byBracket} outer waits chain) e = never e
-  end-taken later (behind-operand {ending = byItem callArguments} outer waits chain) e = never e
-  end-taken later (behind-operand {ending = byItem arrayElements} outer waits chain) e = never e
-  end-taken later (behind-operand {ending = byItem objectProperties} outer waits chain) e = never e
+  end-taken later (at-operand outer waits fits) e = never e
+  end-taken later (at-member outer waits) e = never e
+  end-taken {f = f} {around = around} later (behind-operand {ending = ending} {target = target} outer waits chain) e =
+      untaken f around (operand-at-end ending target (spot .newline)) e
+  end-taken {f = f} {around = around} later (behind-postfix {ending = ending} outer waits fits unary) e = untaken f around (unary-at-end ending) e
   end-taken later (behind-dot outer waits chain) e = never e
   end-taken later (behind-function {role = declared} place) e = never e
   end-taken later (behind-function {role = operandIn ending target} place) e = never e

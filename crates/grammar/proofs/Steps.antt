@@ -2,10 +2,11 @@
 use mathlib.Core.Bool.{true, false}
 use mathlib.Core.List.{List, [], _∷_}
 use Prim.Native.Nat.{ℕ}
-use Rattle.grammar.specs.Tokens.{Token, token, Spot, name, dot, openParen, closeParen, comma, returnWord, functionWord, ifWord}
-use Rattle.grammar.specs.Syntax.{nil, node, fullReturnSyntax}
+use native.Mathlib.Omega.{arith}
+use Rattle.machine.specs.Tokens.{Token, token, Spot, name, dot, openParen, closeParen, comma, returnWord, functionWord, ifWord}
+use Rattle.machine.specs.Syntax.{nil, node, fullReturnSyntax}
 use Rattle.grammar.specs.Grammar.{leaf-name, identifier, reserved-word, objectProperties, at-property, Names, one-name, more-names, Parameters, no-parameters, some-parameters, itemsForm, listForm, Derives, Chain, chain-leaf, chain-member, statement-if, statement-bare-return, no-statements}
-use Rattle.grammar.specs.Machinery.Machine.{
+use Rattle.machine.specs.Machinery.Machine.{
   pending,
   Frame,
   frame,
@@ -32,6 +33,8 @@ use Rattle.grammar.specs.Machinery.Machine.{
   Entry,
   look,
   operand,
+  member,
+  afterUnary,
   afterOperand,
   row,
   Open,
@@ -43,7 +46,7 @@ use Rattle.grammar.specs.Machinery.Machine.{
   run,
 }
 use Rattle.grammar.proofs.TableLaws.{EachEntry, looked-up, map-entries, unless-entries}
-use Rattle.grammar.proofs.Waiting.{none-waits}
+use Rattle.grammar.proofs.Waiting.{none-waits, mayCall, no-news}
 use Rattle.grammar.proofs.Places.{
   statementAt,
   Head,
@@ -70,7 +73,9 @@ use Rattle.grammar.proofs.Partial.{
   behind-if,
   behind-then,
   at-operand,
+  at-member,
   behind-operand,
+  behind-postfix,
   behind-dot,
   behind-function,
   behind-function-name,
@@ -82,9 +87,10 @@ use Rattle.grammar.proofs.Partial.{
   behind-property,
   behind-end,
   PartialOf,
+  at-expression,
   with-statement,
 }
-use Rattle.grammar.proofs.Rows.{Keeps, KeepsOperand, operand-row, KeepsChain, chain-row, item-row, no-statement-row, statement-row}
+use Rattle.grammar.proofs.Rows.{Keeps, KeepsMember, KeepsOperand, member-row, operand-row, KeepsUnary, unary-row, KeepsChain, chain-row, item-row, no-statement-row, statement-row}
 
 module _ (all : List Token) (class : ℕ) (spot : Spot) (rest : List Token) where
   -- by the row of a control, of which each entry keeps what stands there
@@ -112,9 +118,9 @@ module _ (all : List Token) (class : ℕ) (spot : Spot) (rest : List Token) wher
       by-row (row (nameFirst setting) (spot .newline)) f around Stands (
         (λ s. at-inner-statement (after-label s)),
         map-entries (KeepsChain all spot rest around (byStatement setting) true done starts [] (node name (before .mark) nil nil))
-            (Keeps all spot rest around f Stands) (afterOperand (byStatement setting) true)
-            (λ k action keeps s. keeps _ _ (in-expression tt s) none-waits (chain-leaf leaf-name))
-            (chain-row all spot rest around (byStatement setting) true done starts [] (node name (before .mark) nil nil)),
+            (Keeps all spot rest around f Stands) (afterOperand (byStatement setting) true (spot .newline))
+            (λ k action keeps s. keeps _ _ _ (in-expression tt s) none-waits (chain-leaf leaf-name))
+            (chain-row all spot rest around (byStatement setting) done starts [] (node name (before .mark) nil nil) true),
       )
       place
   step-keeps {f = f} {around = around} later (behind-return {setting = setting} {done = done} {starts = starts} {word = word} place) =
@@ -125,24 +131,33 @@ module _ (all : List Token) (class : ℕ) (spot : Spot) (rest : List Token) wher
             (λ same.
             map-entries (KeepsOperand all spot rest around (byReturn setting) true done (pending fullReturnSyntax (word .mark) nil ∷ starts) [] nil)
             (Keeps all spot rest around f Stands) (operand (byReturn setting) true)
-            (λ k action keeps s. keeps _ (in-return same s) none-waits)
+            (λ k action keeps s. keeps _ _ (in-return same s) none-waits (omega arith))
             (operand-row all spot rest around (byReturn setting) true done (pending fullReturnSyntax (word .mark) nil ∷ starts) [] nil)),
       )
       place
   step-keeps {f = f} later (behind-if {setting = setting} {done = done} {starts = starts} {around = around} {word = word} place) =
       by-row (row ifFirst (spot .newline)) f (nested (behindStatement setting) toStatement (word .mark) (frame done starts [] nil) ∷ around) (λ here. Reached all (statementAt setting) done starts around (token ifWord word ∷ here))
-      ((λ s. at-operand (in-condition s) none-waits), tt) place
-  step-keeps {around = around} later (at-operand {ending = ending} {target = target} {done = done} {operand = last} {starts = starts}
-      {waiting = waiting} {first = first} outer waits) =
+      ((λ s. at-expression (in-condition s)), tt) place
+  step-keeps {around = around} later (at-operand {ending = ending} {target = target} {level = level} {done = done} {operand = last} {starts = starts}
+      {waiting = waiting} {first = first} outer waits fits) =
       looked-up (KeepsOperand all spot rest around ending target done starts waiting last) (operand ending target)
-      (operand-row all spot rest around ending target done starts waiting last) (λ k first outer waits. tt) class first outer waits
-  step-keeps {around = around} later (behind-operand {ending = ending} {target = target} {done = done} {operand = last} {starts = starts}
+      (operand-row all spot rest around ending target done starts waiting last) (λ k first level outer waits fits. tt) class first level outer waits fits
+  step-keeps {around = around} later (at-member {ending = ending} {target = target} {level = level} {done = done} {operand = last} {starts = starts}
+      {waiting = waiting} {first = first} outer waits) =
+      looked-up (KeepsMember all spot rest around ending target done starts waiting last) (member ending target)
+      (member-row all spot rest around ending target done starts waiting last) (λ k first level outer waits. tt) class first level outer waits
+  step-keeps {around = around} later (behind-operand {ending = ending} {target = target} {level = level} {done = done} {operand = last} {starts = starts}
       {waiting = waiting} {first = first} {before = before} outer waits chain) =
-      looked-up (KeepsChain all spot rest around ending target done starts waiting last) (afterOperand ending target)
-      (chain-row all spot rest around ending target done starts waiting last) (λ k first before outer waits chain. tt) class first before outer waits chain
-  step-keeps {f = f} {around = around} later (behind-dot {ending = ending} {target = target} {operand = last} {sign = sign}
+      looked-up (KeepsChain all spot rest around ending target done starts waiting last) (afterOperand ending target (spot .newline))
+      (chain-row all spot rest around ending done starts waiting last target) (λ k first before level outer waits chain. tt) class first before level outer waits chain
+  step-keeps {around = around} later (behind-postfix {ending = ending} {target = target} {done = done} {operand = last} {starts = starts}
+      {waiting = waiting} {first = first} outer waits fits unary) =
+      looked-up (KeepsUnary all spot rest around ending done starts waiting last) (afterUnary ending)
+      (unary-row all spot rest around done starts waiting last ending) (λ k first target outer unary. tt) class first target outer
+      (no-news ending done starts waits fits unary)
+  step-keeps {f = f} {around = around} later (behind-dot {ending = ending} {target = target} {operand = last} {waiting = waiting} {sign = sign}
       {before = before} outer waits chain) =
-      by-row (row (dotLast ending target) (spot .newline)) f around (λ here. Chain before (token dot sign ∷ here) last)
+      by-row (row (dotLast ending target) (spot .newline)) f around (λ here. Chain (mayCall waiting) before (token dot sign ∷ here) last)
       ((λ s. behind-operand outer waits (chain-member identifier s)), ((λ s. behind-operand outer waits (chain-member reserved-word s)), tt)) chain
   step-keeps {f = f} {around = around} later (behind-function {role = declared} {done = done} {starts = starts} {waiting = waiting} {word = word} place) =
       by-row (row (functionFirst declared) (spot .newline)) f around
@@ -177,7 +192,7 @@ module _ (all : List Token) (class : ℕ) (spot : Spot) (rest : List Token) wher
       (item-row all spot rest around items first done outer) (values, list)
   step-keeps {f = f} {around = around} later (behind-property {class = property} {called = called} {done = done} {first = first} outer values identified) =
       by-row (row propertyNamed (spot .newline)) f around (λ here. Derives (itemsForm objectProperties) first (token property called ∷ here) done)
-      ((λ s. at-operand (in-item outer s (at-property identified)) none-waits), tt) values
+      ((λ s. at-expression (in-item outer s (at-property identified))), tt) values
   step-keeps later (behind-then outer condition inner) = later _ _ (with-statement outer (statement-if condition inner))
   step-keeps later (behind-end statements) = tt
 

@@ -1,7 +1,7 @@
 -- A part leads to tokens that stand behind it: the tokens after it end the tokens before it.
 use mathlib.Core.List.{List, _∷_}
-use Rattle.grammar.specs.Tokens.{Token}
-use Rattle.grammar.specs.Syntax.{Syntax}
+use Rattle.machine.specs.Tokens.{Token}
+use Rattle.machine.specs.Syntax.{Syntax}
 use Rattle.grammar.specs.Grammar.{
   Items,
   ItemStart,
@@ -23,18 +23,27 @@ use Rattle.grammar.specs.Grammar.{
   chain-function,
   chain-unnamed,
   chain-index,
-  chain-call,
   chain-member,
+  chain-call,
+  chain-new,
   no-items,
   add-item,
   add-hole,
   list-empty,
   list-items,
   list-last,
-  binary-chain,
-  binary-operator,
+  expression-assign,
+  expression-comma,
   assign-binary,
   assign-to,
+  assign-conditional,
+  binary-unary,
+  binary-operator,
+  unary-target,
+  unary-prefix,
+  unary-postfix,
+  target-chain,
+  target-new,
   function-all,
   statement-block,
   statement-expression,
@@ -81,12 +90,21 @@ derived-end (chain-parens value) = behind (past (derived-end value))
 derived-end (chain-function function) = behind (behind (derived-end function))
 derived-end (chain-unnamed function) = behind (derived-end function)
 derived-end (chain-index object value) = then (past (derived-end object)) (past (derived-end value))
-derived-end (chain-call callee values) = then (past (derived-end callee)) (past (derived-end values))
 derived-end (chain-member called object) = past (past (derived-end object))
-derived-end (binary-chain chain) = derived-end chain
+derived-end (chain-call callee values) = then (past (derived-end callee)) (past (derived-end values))
+derived-end (chain-new callee values) = behind (then (past (derived-end callee)) (past (derived-end values)))
+derived-end (target-chain chain) = derived-end chain
+derived-end (target-new callee) = behind (derived-end callee)
+derived-end (unary-target target) = derived-end target
+derived-end (unary-prefix op operand) = behind (derived-end operand)
+derived-end (unary-postfix op same operand) = past (derived-end operand)
+derived-end (binary-unary unary) = derived-end unary
 derived-end (binary-operator op tight left right) = then (past (derived-end left)) (derived-end right)
 derived-end (assign-binary binary) = derived-end binary
-derived-end (assign-to target value) = then (past (derived-end target)) (derived-end value)
+derived-end (assign-to op target value) = then (past (derived-end target)) (derived-end value)
+derived-end (assign-conditional condition first second) = then (past (derived-end condition)) (then (past (derived-end first)) (derived-end second))
+derived-end (expression-assign value) = derived-end value
+derived-end (expression-comma left right) = then (past (derived-end left)) (derived-end right)
 derived-end (function-all parameters statements) = behind (then (past (past (parameters-end parameters))) (past (derived-end statements)))
 derived-end (statement-block statements) = behind (past (derived-end statements))
 derived-end (statement-expression allowed value) = past (derived-end value)

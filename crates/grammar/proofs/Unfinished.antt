@@ -2,8 +2,8 @@
 use mathlib.Core.Path.{_≡_, refl, subst}
 use mathlib.Core.List.{List, [], _∷_}
 use Prim.Native.Nat.{ℕ}
-use Rattle.grammar.specs.Tokens.{Token, token, Spot}
-use Rattle.grammar.specs.Machinery.Machine.{endOfText, Frame, Control, finished, Open, live, run, start}
+use Rattle.machine.specs.Tokens.{Token, token, Spot}
+use Rattle.machine.specs.Machinery.Machine.{endOfText, Frame, Control, finished, Open, live, run, start}
 use Rattle.grammar.proofs.Partial.{Partial, behind-end}
 use Rattle.grammar.proofs.Suffix.{EndsWith, itself, behind, derived-end}
 use Rattle.grammar.proofs.Sound.{run-partial}

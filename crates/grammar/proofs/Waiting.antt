@@ -1,173 +1,450 @@
 -- Operators that wait for their right parts, as derivations of the tokens before the operand that comes next.
-use mathlib.Core.Path.{_≡_, refl, _∙_}
-use mathlib.Core.Bool.{Bool, true, false, not}
+use mathlib.Core.Path.{_≡_, refl, sym, _∙_}
+use mathlib.Core.Bool.{Bool, true, false, not, cond}
 use mathlib.Core.List.{List, [], _∷_}
 use Prim.Native.Nat.{ℕ, _+_, _≤_, _<_}
 use native.Mathlib.Omega.{arith}
-use lib.Dec.{T, leb, leb→le, nleb→lt}
-use Rattle.grammar.specs.Tokens.{Token, token, Spot, assign}
-use Rattle.grammar.specs.Syntax.{Syntax, node}
-use Rattle.grammar.specs.Grammar.{isOperator, precedence, Chain, Binary, Assign, binary-chain, binary-operator, assign-binary, assign-to}
-use Rattle.grammar.specs.Machinery.Machine.{Pending, pending, frame, reduce}
-use Rattle.grammar.proofs.TableLaws.{precedence-positive}
-use Rattle.grammar.proofs.ReduceLaws.{Looser, reduce-stops, reduce-closes}
+use lib.Dec.{T, eqb, leb, eqb→eq, leb→le, nleb→lt}
+use Rattle.machine.specs.Tokens.{Token, token, Spot, newWord, question, comma, colon}
+use Rattle.machine.specs.Syntax.{Syntax, nil, node, snoc}
+use Rattle.machine.specs.Operators.{assignmentPrecedence}
+use Rattle.grammar.specs.Grammar.{
+  precedence,
+  leastBinary,
+  assignmentOperators,
+  binaryOperators,
+  prefixOperators,
+  prefixKind,
+  isAmong,
+  Form,
+  expressionForm,
+  assignForm,
+  unaryForm,
+  targetForm,
+  Derives,
+  Chain,
+  Target,
+  Unary,
+  Binary,
+  Assign,
+  Expression,
+  expression-assign,
+  expression-comma,
+  assign-binary,
+  assign-to,
+  assign-conditional,
+  binary-unary,
+  binary-operator,
+  unary-target,
+  unary-prefix,
+  target-chain,
+  target-new,
+}
+use Rattle.machine.specs.Machinery.Machine.{
+  Pending,
+  pending,
+  frame,
+  reduce,
+  tightness,
+  prefixPrecedence,
+  newPrecedence,
+  Ending,
+}
+use Rattle.grammar.proofs.TableLaws.{binary-precedence, binary-tightness, binary-under-prefix, assignment-tightness, prefix-tightness}
+use Rattle.grammar.proofs.ReduceLaws.{Looser, clash, reduce-stops, reduce-closes}
+use Rattle.grammar.proofs.Following.{takesComma}
 
--- From the tokens that an expression starts with to those of the operand that comes next. The Boolean says whether the next
--- chain may be assigned to.
-pub data Waiting : Bool → List Pending → List Token → List Token → Type 0 where
-  none-waits : {here : List Token} → Waiting true [] here here
-  assign-waits : {sign : Spot} {waiting : List Pending} {first before here : List Token} {left : Syntax}
-      → Waiting true waiting first before → Chain before (token assign sign ∷ here) left
-      → Waiting true (pending assign (sign .mark) left ∷ waiting) first here
-  operator-waits : {target : Bool} {class : ℕ} {sign : Spot} {waiting : List Pending} {first before here : List Token} {left : Syntax}
-      → Waiting target waiting first before → T (isOperator class) → Looser (precedence class) waiting
-      → Binary (precedence class) before (token class sign ∷ here) left
-      → Waiting false (pending class (sign .mark) left ∷ waiting) first here
+-- an expression is an Expression where it may have `,` operators, else an Assign
+abbrev pub wholeForm : Ending → Form
+wholeForm ending = cond (takesComma ending) expressionForm assignForm
 
-pub targets-looser : {waiting : List Pending} {first here : List Token} → Waiting true waiting first here → Looser 1 waiting
-targets-looser none-waits = tt
-targets-looser (assign-waits w left) = omega arith
+-- Levels say how tight a part binds at least: an Expression has 1, an Assign 2, a Binary its least precedence, from 3 to 12, and a Unary 13; what
+-- stands behind `new` binds tighter than all of them
+abbrev pub wholeLevel : Ending → ℕ
+wholeLevel ending = cond (takesComma ending) 1 assignmentPrecedence
+
+abbrev pub memberLevel : ℕ
+memberLevel = 15
+
+pub whole-level : (ending : Ending) → wholeLevel ending ≤ assignmentPrecedence
+whole-level ending = go (takesComma ending)
+  where
+    go : (b : Bool) → cond b 1 assignmentPrecedence ≤ assignmentPrecedence
+    go true = omega arith
+    go false = omega arith
+
+-- a part of a level, or of a tighter one
+pub data Operand : ℕ → List Token → List Token → Syntax → Type 0 where
+  unary-operand : {level : ℕ} {before after : List Token} {value : Syntax} → Unary before after value → Operand level before after value
+  binary-operand : {level least : ℕ} {before after : List Token} {value : Syntax} → level ≤ least → leastBinary ≤ least → least < prefixPrecedence
+      → Binary least before after value → Operand level before after value
+  assign-operand : {level : ℕ} {before after : List Token} {value : Syntax} → level ≤ assignmentPrecedence → Assign before after value
+      → Operand level before after value
+  expression-operand : {level : ℕ} {before after : List Token} {value : Syntax} → level ≤ 1 → Expression before after value
+      → Operand level before after value
+
+at-most : (a b c : ℕ) → a ≤ b → b ≤ c → a ≤ c
+at-most a b c h k = omega arith
+
+looser-operand : {level least : ℕ} {before after : List Token} {value : Syntax} → least ≤ level → Operand level before after value
+    → Operand least before after value
+looser-operand down (unary-operand whole) = unary-operand whole
+looser-operand {level} {least} down (binary-operand {least = precedence} tight from to whole) =
+    binary-operand (at-most least level precedence down tight) from to whole
+looser-operand {level} {least} down (assign-operand low whole) = assign-operand (at-most least level assignmentPrecedence down low) whole
+looser-operand {level} {least} down (expression-operand low whole) = expression-operand (at-most least level 1 down low) whole
 
 binary-down : {most least : ℕ} {before after : List Token} {value : Syntax} → least ≤ most → Binary most before after value
     → Binary least before after value
-binary-down down (binary-chain chain) = binary-chain chain
+binary-down down (binary-unary whole) = binary-unary whole
 binary-down {most} {least} down (binary-operator {class = class} op tight left right) =
-    binary-operator op (through least most (precedence class) down tight) left right
-  where
-    through : (a b c : ℕ) → a ≤ b → b ≤ c → a ≤ c
-    through a b c h k = omega arith
+    binary-operator op (at-most least most (precedence class) down tight) left right
 
--- an operand that binds tighter than a waiting operator is its right part
-join : {class most : ℕ} {sign : Spot} {before middle after : List Token} {left right : Syntax} → T (isOperator class) → precedence class < most
-    → Binary (precedence class) before (token class sign ∷ middle) left → Binary most middle after right
-    → Binary (precedence class) before after (node class (sign .mark) left right)
-join {class} {most} op loose left right =
-    binary-operator op (itself (precedence class)) left (binary-down (next (precedence class) most loose) right)
+module _ {level : ℕ} {before after : List Token} {value : Syntax} where
+  as-unary : prefixPrecedence ≤ level → Operand level before after value → Unary before after value
+  as-unary high (unary-operand whole) = whole
+  as-unary high (binary-operand {least = least} tight from to whole) = absurd (omega arith)
+  as-unary high (assign-operand low whole) = absurd (omega arith)
+  as-unary high (expression-operand low whole) = absurd (omega arith)
+
+  pub as-binary : leastBinary ≤ level → Operand level before after value → Binary level before after value
+  as-binary high (unary-operand whole) = binary-unary whole
+  as-binary high (binary-operand tight from to whole) = binary-down tight whole
+  as-binary high (assign-operand low whole) = absurd (omega arith)
+  as-binary high (expression-operand low whole) = absurd (omega arith)
+
+  as-assign : assignmentPrecedence ≤ level → Operand level before after value → Assign before after value
+  as-assign high (unary-operand whole) = assign-binary (binary-unary whole)
+  as-assign high (binary-operand tight from to whole) = assign-binary (binary-down from whole)
+  as-assign high (assign-operand low whole) = whole
+  as-assign high (expression-operand low whole) = absurd (omega arith)
+
+  pub as-expression : Operand level before after value → Expression before after value
+  as-expression (unary-operand whole) = expression-assign (assign-binary (binary-unary whole))
+  as-expression (binary-operand tight from to whole) = expression-assign (assign-binary (binary-down from whole))
+  as-expression (assign-operand low whole) = expression-assign whole
+  as-expression (expression-operand low whole) = whole
+
+as-whole : (ending : Ending) {before after : List Token} {value : Syntax} → Operand (wholeLevel ending) before after value
+    → Derives (wholeForm ending) before after value
+as-whole ending {before} {after} {value} = go (takesComma ending)
+  where
+    go : (b : Bool) → Operand (cond b 1 assignmentPrecedence) before after value → Derives (cond b expressionForm assignForm) before after value
+    go true operand = as-expression operand
+    go false operand = as-assign (omega arith) operand
+
+-- An operator with what is before it: its kind, its mark and its left part; how tight it binds; the level of its right part, and whether the
+-- next chain may be assigned to; the tokens before it and those behind it.
+pub data Begun : ℕ → ℕ → Syntax → ℕ → ℕ → Bool → List Token → List Token → Type 0 where
+  comma-begun : {sign : Spot} {before here : List Token} {left : Syntax} → Expression before (token comma sign ∷ here) left
+      → Begun comma (sign .mark) left 1 assignmentPrecedence true before here
+  assignment-begun : {class : ℕ} {sign : Spot} {before here : List Token} {left : Syntax} → T (isAmong assignmentOperators class)
+      → Target true before (token class sign ∷ here) left → Begun class (sign .mark) left assignmentPrecedence assignmentPrecedence true before here
+  conditional-begun : {sign answer : Spot} {before inside here : List Token} {condition first : Syntax}
+      → Binary leastBinary before (token question sign ∷ inside) condition → Assign inside (token colon answer ∷ here) first
+      → Begun question (sign .mark) (snoc condition first) assignmentPrecedence assignmentPrecedence true before here
+  binary-begun : {class : ℕ} {sign : Spot} {before here : List Token} {left : Syntax} → T (isAmong binaryOperators class)
+      → Binary (precedence class) before (token class sign ∷ here) left
+      → Begun class (sign .mark) left (precedence class) (precedence class + 1) false before here
+  prefix-begun : {class : ℕ} {sign : Spot} {here : List Token} → T (isAmong prefixOperators class)
+      → Begun (prefixKind class) (sign .mark) nil prefixPrecedence prefixPrecedence false (token class sign ∷ here) here
+
+-- its right part makes it whole
+begun-closes : {kind mark tight level : ℕ} {next : Bool} {before middle after : List Token} {left right : Syntax}
+    → Begun kind mark left tight level next before middle → Operand level middle after right → Operand tight before after (node kind mark left right)
+begun-closes (comma-begun left) right = expression-operand {level = 1} (omega arith) (expression-comma left (as-assign (omega arith) right))
+begun-closes (assignment-begun op left) right = assign-operand {level = assignmentPrecedence} (omega arith) (assign-to op left (as-assign (omega arith) right))
+begun-closes (conditional-begun condition first) right = assign-operand {level = assignmentPrecedence} (omega arith) (assign-conditional condition first (as-assign (omega arith) right))
+begun-closes (binary-begun {class = class} op left) right =
+    let from = binary-precedence class op in
+    binary-operand (itself (precedence class)) from (binary-under-prefix class op)
+    (binary-operator op (itself (precedence class)) left (as-binary (next (precedence class) from) right))
   where
     itself : (a : ℕ) → a ≤ a
     itself a = omega arith
 
-    next : (a b : ℕ) → a < b → a + 1 ≤ b
-    next a b h = omega arith
+    next : (a : ℕ) → leastBinary ≤ a → leastBinary ≤ a + 1
+    next a h = omega arith
+begun-closes (prefix-begun op) right = unary-operand (unary-prefix op (as-unary (omega arith) right))
 
--- all of them close: the expression is whole
-pub record AllClosed (done : Syntax) (starts waiting : List Pending) (first after : List Token) (last : Syntax) : Type 0 where
-  pub value : Syntax
-  pub same : reduce 0 done starts waiting last ≡ frame done starts [] value
-  pub whole : Assign first after value
+-- the numbers of an operator
+record Numbers (kind tight level : ℕ) (next : Bool) : Type 0 where
+  binds : tightness kind ≡ tight
+  as-tight : tight ≤ level
+  next-level : level ≤ tight + 1
+  under : level ≤ prefixPrecedence
+  assignable : T next → level ≤ assignmentPrecedence
+  loose : level ≤ leastBinary → level ≤ assignmentPrecedence
 
--- those that bind at least as tight close
-pub record TightClosed (least : ℕ) (done : Syntax) (starts waiting : List Pending) (first after : List Token) (last : Syntax) : Type 0 where
-  pub target : Bool
-  pub left : List Pending
-  pub before : List Token
-  pub value : Syntax
-  pub same : reduce least done starts waiting last ≡ frame done starts left value
-  pub waits : Waiting target left first before
-  pub looser : Looser least left
-  pub whole : Binary least before after value
+loose-numbers : (kind tight : ℕ) → tightness kind ≡ tight → 1 ≤ tight → tight ≤ assignmentPrecedence → Numbers kind tight assignmentPrecedence true
+loose-numbers kind tight e from to = record {
+  binds = e;
+  as-tight = to;
+  next-level = omega arith;
+  under = omega arith;
+  assignable = λ h. omega arith;
+  loose = λ h. omega arith;
+}
 
-module _ (done : Syntax) (starts : List Pending) where
-  assignments-close : {waiting : List Pending} {first before after : List Token} {last : Syntax} → Waiting true waiting first before
-      → Assign before after last → AllClosed done starts waiting first after last
-  assignments-close {last = last} none-waits whole = record { value = last; same = refl; whole = whole }
-  assignments-close (assign-waits w left) whole =
-      let r = assignments-close w (assign-to left whole) in
-      record { value = r .value; same = r .same; whole = r .whole }
+tight-numbers : (kind tight level : ℕ) → tightness kind ≡ tight → leastBinary < level → tight ≤ level → level ≤ tight + 1 → level ≤ prefixPrecedence
+    → Numbers kind tight level false
+tight-numbers kind tight level e from up near to = record {
+  binds = e;
+  as-tight = up;
+  next-level = near;
+  under = to;
+  assignable = λ h. absurd h;
+  loose = λ h. omega arith;
+}
 
-  operators-close : {target : Bool} {waiting : List Pending} {first before after : List Token} {last : Syntax} (most : ℕ)
-      → Waiting target waiting first before → Looser most waiting → 1 ≤ most → Binary most before after last
-      → AllClosed done starts waiting first after last
-  operators-close most none-waits loose positive whole = assignments-close none-waits (assign-binary (binary-down positive whole))
-  operators-close most (assign-waits w left) loose positive whole =
-      assignments-close (assign-waits w left) (assign-binary (binary-down positive whole))
-  operators-close {last = last} most (operator-waits {class = class} {sign = sign} {waiting = waiting}
-      {left = first} w op looser left) loose positive whole =
-      let r = operators-close (precedence class) w looser (precedence-positive class op) (join op loose left whole) in
+begun-numbers : {kind mark tight level : ℕ} {next : Bool} {before here : List Token} {left : Syntax}
+    → Begun kind mark left tight level next before here → Numbers kind tight level next
+begun-numbers (comma-begun left) = loose-numbers comma 1 refl (omega arith) (omega arith)
+begun-numbers (assignment-begun {class = class} op left) =
+    loose-numbers class assignmentPrecedence (assignment-tightness class op) (omega arith) (omega arith)
+begun-numbers (conditional-begun condition first) = loose-numbers question assignmentPrecedence refl (omega arith) (omega arith)
+begun-numbers (binary-begun {class = class} op left) =
+    go (precedence class) (binary-tightness class op) (binary-precedence class op) (binary-under-prefix class op)
+  where
+    go : (tight : ℕ) → tightness class ≡ tight → leastBinary ≤ tight → tight < prefixPrecedence → Numbers class tight (tight + 1) false
+    go tight e from to = tight-numbers class tight (tight + 1) e (omega arith) (omega arith) (omega arith) (omega arith)
+begun-numbers (prefix-begun {class = class} op) =
+    tight-numbers (prefixKind class) prefixPrecedence prefixPrecedence (prefix-tightness class op) (omega arith) (omega arith) (omega arith) (omega arith)
+
+-- From the tokens that an expression with an ending starts with to those of the operand that comes next. The Boolean says whether the next
+-- chain may be assigned to, the number is the level of the part that comes next.
+pub data Waiting (ending : Ending) : Bool → ℕ → List Pending → List Token → List Token → Type 0 where
+  none-waits : {here : List Token} → Waiting ending true (wholeLevel ending) [] here here
+  operator-waits : {target next : Bool} {outer kind mark tight level : ℕ} {waiting : List Pending} {first before here : List Token} {left : Syntax}
+      → Waiting ending target outer waiting first before → outer ≤ tight → Begun kind mark left tight level next before here
+      → Waiting ending next level (pending kind mark left ∷ waiting) first here
+  new-waits : {target : Bool} {outer : ℕ} {word : Spot} {waiting : List Pending} {first here : List Token}
+      → Waiting ending target outer waiting first (token newWord word ∷ here)
+      → Waiting ending target memberLevel (pending newWord (word .mark) nil ∷ waiting) first here
+
+-- the next chain may have calls in it, unless `new` waits for it: arguments are then its own
+abbrev pub mayCall : List Pending → Bool
+mayCall [] = true
+mayCall (pending kind mark left ∷ waiting) = not (eqb kind newWord)
+
+pub begun-calls : {kind mark tight level : ℕ} {next : Bool} {before here : List Token} {left : Syntax}
+    → Begun kind mark left tight level next before here → eqb kind newWord ≡ false
+begun-calls {kind} {tight = tight} {level = level} begun =
+    let n = begun-numbers begun in
+    go (eqb kind newWord) (λ h. h) (n .binds) (at-most tight level prefixPrecedence (n .as-tight) (n .under))
+  where
+    go : (b : Bool) → (T b → T (eqb kind newWord)) → tightness kind ≡ tight → tight ≤ prefixPrecedence → b ≡ false
+    go true h e low =
+        let same : kind ≡ newWord = eqb→eq kind newWord (h tt) in
+        clash tight prefixPrecedence low (rw (sym e, same) (omega arith))
+    go false h e low = refl
+
+-- what waits for a part of a level binds less tight than any above
+looser-than : {ending : Ending} {target : Bool} {level : ℕ} {waiting : List Pending} {first here : List Token} (least : ℕ)
+    → Waiting ending target level waiting first here → level < least → Looser least waiting
+looser-than least none-waits h = tt
+looser-than {level = level} least (operator-waits {tight = tight} w fits begun) h =
+    let n = begun-numbers begun in
+    rw (n .binds) (under tight level (n .as-tight) h)
+  where
+    under : (a b : ℕ) → a ≤ b → b < least → a < least
+    under a b h k = omega arith
+looser-than least (new-waits w) h = omega arith
+
+-- where the next chain may be assigned to, and no `new` waits for it, only assignments and looser ones wait
+pub target-level : {ending : Ending} {level : ℕ} {waiting : List Pending} {first here : List Token} → Waiting ending true level waiting first here
+    → level ≤ prefixPrecedence → level ≤ assignmentPrecedence
+target-level {ending} none-waits h = whole-level ending
+target-level (operator-waits w fits begun) h = begun-numbers begun .assignable tt
+target-level (new-waits w) h = omega arith
+
+-- and so they do where a Binary by all operators may be the next part
+pub binary-level : {ending : Ending} {target : Bool} {level : ℕ} {waiting : List Pending} {first here : List Token}
+    → Waiting ending target level waiting first here → level ≤ leastBinary → level ≤ assignmentPrecedence
+binary-level {ending} none-waits h = whole-level ending
+binary-level (operator-waits w fits begun) h = begun-numbers begun .loose h
+binary-level (new-waits w) h = omega arith
+
+module _ (ending : Ending) (done : Syntax) (starts : List Pending) where
+  -- all of them close: the expression is whole
+  pub record AllClosed (waiting : List Pending) (first after : List Token) (last : Syntax) : Type 0 where
+    pub value : Syntax
+    pub same : reduce 0 done starts waiting last ≡ frame done starts [] value
+    pub whole : Derives (wholeForm ending) first after value
+
+  -- those that bind at least as tight close
+  pub record TightClosed (least : ℕ) (waiting : List Pending) (first after : List Token) (last : Syntax) : Type 0 where
+    pub target : Bool
+    pub level : ℕ
+    pub left : List Pending
+    pub before : List Token
+    pub value : Syntax
+    pub same : reduce least done starts waiting last ≡ frame done starts left value
+    pub waits : Waiting ending target level left first before
+    pub fits : level ≤ least
+    pub whole : Operand least before after value
+
+  -- each `new` next to the operand closes, wherever operators close
+  pub record NewsClosed (target : Bool) (form : Form) (waiting : List Pending) (first after : List Token) (last : Syntax) : Type 0 where
+    pub level : ℕ
+    pub left : List Pending
+    pub before : List Token
+    pub value : Syntax
+    pub same : (least : ℕ) → least ≤ newPrecedence → reduce least done starts waiting last ≡ reduce least done starts left value
+    pub waits : Waiting ending target level left first before
+    pub fits : level ≤ prefixPrecedence
+    pub whole : Derives form before after value
+
+  operators-close : {target : Bool} {level : ℕ} {waiting : List Pending} {first before after : List Token} {last : Syntax} (most : ℕ)
+      → Waiting ending target level waiting first before → level ≤ most → most ≤ prefixPrecedence → Operand most before after last
+      → AllClosed waiting first after last
+  operators-close {last = last} most none-waits fits under whole =
+      record { value = last; same = refl; whole = as-whole ending (looser-operand fits whole) }
+  operators-close {level = level} {last = last} most (operator-waits {kind = kind} {mark = mark} {tight = tight} {waiting = waiting}
+      {left = left} w loose begun) fits under whole =
+      let n = begun-numbers begun in
+      let r = operators-close tight w loose (at-most tight level prefixPrecedence (n .as-tight) (n .under))
+      (begun-closes begun (looser-operand fits whole)) in
       record {
         value = r .value;
-        same = reduce-closes 0 done starts class (sign .mark) first waiting last (omega arith) ∙ r .same;
+        same = reduce-closes 0 done starts kind mark left waiting last (omega arith) ∙ r .same;
         whole = r .whole;
       }
+  operators-close most (new-waits w) fits under whole = absurd (omega arith)
 
-  tight-close : {target : Bool} {waiting : List Pending} {first before after : List Token} {last : Syntax} (least most : ℕ)
-      → 1 ≤ least → least ≤ most → Waiting target waiting first before → Looser most waiting → Binary most before after last
-      → TightClosed least done starts waiting first after last
-  tight-close {before = before} {last = last} least most positive down none-waits loose whole = record {
+  tight-close : {target : Bool} {level : ℕ} {waiting : List Pending} {first before after : List Token} {last : Syntax} (least most : ℕ)
+      → wholeLevel ending ≤ least → least ≤ most → Waiting ending target level waiting first before → level ≤ most → most ≤ prefixPrecedence
+      → Operand most before after last → TightClosed least waiting first after last
+  tight-close {before = before} {last = last} least most from down none-waits fits under whole = record {
     target = true;
+    level = wholeLevel ending;
     left = [];
     before = before;
     value = last;
     same = refl;
     waits = none-waits;
-    looser = tt;
-    whole = binary-down down whole;
+    fits = from;
+    whole = looser-operand down whole;
   }
-  tight-close {before = before} {last = last} least most positive down (assign-waits {sign = sign} {waiting = waiting}
-      {left = first} w left) loose whole = record {
-        target = true;
-        left = pending assign (sign .mark) first ∷ waiting;
-        before = before;
-        value = last;
-        same = reduce-stops least done starts (pending assign (sign .mark) first ∷ waiting) last positive;
-        waits = assign-waits w left;
-        looser = positive;
-        whole = binary-down down whole;
-      }
-  tight-close {first = first} {before = before} {after = after} {last = last} least most positive down
-      (operator-waits {class = class} {sign = sign} {waiting = waiting} {left = part} w op looser left) loose whole =
-      go (leb least (precedence class)) (λ t. t) (λ t. t)
-      (λ tight. tight-close least (precedence class) positive tight w looser (join op loose left whole))
+  tight-close {level = level} {first = first} {before = before} {after = after} {last = last} least most from down
+      (operator-waits {next = next} {kind = kind} {mark = mark} {tight = tight} {waiting = waiting} {left = left} w loose begun) fits under whole =
+      let n = begun-numbers begun in
+      go n (leb least tight) (λ t. t) (λ t. t)
+      (λ closes. tight-close least tight from closes w loose (at-most tight level prefixPrecedence (n .as-tight) (n .under))
+      (begun-closes begun (looser-operand fits whole)))
     where
-      go : (b : Bool) → (T b → T (leb least (precedence class))) → (T (not b) → T (not (leb least (precedence class))))
-          → (least ≤ precedence class → TightClosed least done starts waiting first after (node class (sign .mark) part last))
-          → TightClosed least done starts (pending class (sign .mark) part ∷ waiting) first after last
-      go true passed failed rest =
-          let tight = leb→le least (precedence class) (passed tt) in
-          let r = rest tight in
+      go : Numbers kind tight level next → (b : Bool) → (T b → T (leb least tight)) → (T (not b) → T (not (leb least tight)))
+          → (least ≤ tight → TightClosed least waiting first after (node kind mark left last))
+          → TightClosed least (pending kind mark left ∷ waiting) first after last
+      go n true passed failed rest =
+          let closes = leb→le least tight (passed tt) in
+          let r = rest closes in
           record {
             target = r .target;
+            level = r .level;
             left = r .left;
             before = r .before;
             value = r .value;
-            same = reduce-closes least done starts class (sign .mark) part waiting last tight ∙ r .same;
+            same = reduce-closes least done starts kind mark left waiting last (rw (n .binds) closes) ∙ r .same;
             waits = r .waits;
-            looser = r .looser;
+            fits = r .fits;
             whole = r .whole;
           }
-      go false passed failed rest =
-          let under = nleb→lt least (precedence class) (failed tt) in
+      go n false passed failed rest =
+          let stops = nleb→lt least tight (failed tt) in
           record {
-            target = false;
-            left = pending class (sign .mark) part ∷ waiting;
+            target = next;
+            level = level;
+            left = pending kind mark left ∷ waiting;
             before = before;
             value = last;
-            same = reduce-stops least done starts (pending class (sign .mark) part ∷ waiting) last under;
-            waits = operator-waits w op looser left;
-            looser = under;
-            whole = binary-down down whole;
+            same = reduce-stops least done starts (pending kind mark left ∷ waiting) last (rw (n .binds) stops);
+            waits = operator-waits w loose begun;
+            fits = next-fits level tight (n .next-level) stops;
+            whole = looser-operand down whole;
           }
+        where
+          next-fits : (level tight : ℕ) → level ≤ tight + 1 → tight < least → level ≤ least
+          next-fits level tight h k = omega arith
+  tight-close least most from down (new-waits w) fits under whole = absurd (omega arith)
 
--- a precedence above a given one and above what waits
-above : (least : ℕ) (waiting : List Pending) → (most : ℕ) × (least ≤ most) × Looser most waiting
-above least [] = (least, (omega arith), tt)
-above least (pending class mark left ∷ waiting) = (least + precedence class + 1, up least (precedence class), over least (precedence class))
-  where
-    up : (a b : ℕ) → a ≤ a + b + 1
-    up a b = omega arith
+  -- none waits
+  pub no-news : {target : Bool} {level : ℕ} {form : Form} {waiting : List Pending} {first before after : List Token} {last : Syntax}
+      → Waiting ending target level waiting first before → level ≤ prefixPrecedence → Derives form before after last
+      → NewsClosed target form waiting first after last
+  no-news {level = level} {waiting = waiting} {before = before} {last = last} w fits whole = record {
+    level = level;
+    left = waiting;
+    before = before;
+    value = last;
+    same = λ least h. refl;
+    waits = w;
+    fits = fits;
+    whole = whole;
+  }
 
-    over : (a b : ℕ) → b < a + b + 1
-    over a b = omega arith
+  target-closes : {target : Bool} {level : ℕ} {waiting : List Pending} {first before after : List Token} {last : Syntax}
+      → Waiting ending target level waiting first before → Target (mayCall waiting) before after last
+      → NewsClosed target (targetForm true) waiting first after last
+  target-closes none-waits whole =
+      no-news none-waits (at-most (wholeLevel ending) assignmentPrecedence prefixPrecedence (whole-level ending) (omega arith)) whole
+  target-closes (operator-waits w fits begun) whole =
+      no-news (operator-waits w fits begun) (begun-numbers begun .under) (rw (begun-calls begun) at whole)
+  target-closes {last = last} (new-waits {word = word} {waiting = waiting} w) whole =
+      let r = target-closes w (target-new whole) in
+      record {
+        level = r .level;
+        left = r .left;
+        before = r .before;
+        value = r .value;
+        same = λ least h. reduce-closes least done starts newWord (word .mark) nil waiting last h ∙ r .same least h;
+        waits = r .waits;
+        fits = r .fits;
+        whole = r .whole;
+      }
 
-pub chain-closes : (done : Syntax) (starts : List Pending) {target : Bool} {waiting : List Pending} {first before after : List Token}
-    {last : Syntax} → Waiting target waiting first before → Chain before after last → AllClosed done starts waiting first after last
-chain-closes done starts {waiting = waiting} w chain =
-    let most = above 1 waiting in
-    operators-close done starts (most .0) w (most .2) (most .1) (binary-chain chain)
+  pub chain-closes : {target : Bool} {level : ℕ} {waiting : List Pending} {first before after : List Token} {last : Syntax}
+      → Waiting ending target level waiting first before → Chain (mayCall waiting) before after last
+      → NewsClosed target (targetForm true) waiting first after last
+  chain-closes w chain = target-closes w (target-chain chain)
 
-pub chain-closes-tight : (least : ℕ) (done : Syntax) (starts : List Pending) {target : Bool} {waiting : List Pending}
-    {first before after : List Token} {last : Syntax} → 1 ≤ least → Waiting target waiting first before → Chain before after last
-    → TightClosed least done starts waiting first after last
-chain-closes-tight least done starts {waiting = waiting} positive w chain =
-    let most = above least waiting in
-    tight-close done starts least (most .0) positive (most .1) w (most .2) (binary-chain chain)
+  pub chain-unary : {target : Bool} {waiting : List Pending} {first after : List Token} {last : Syntax}
+      → NewsClosed target (targetForm true) waiting first after last → NewsClosed target unaryForm waiting first after last
+  chain-unary r = record {
+    level = r .level;
+    left = r .left;
+    before = r .before;
+    value = r .value;
+    same = r .same;
+    waits = r .waits;
+    fits = r .fits;
+    whole = unary-target (r .whole);
+  }
+
+  -- nothing closes but them, where nothing else binds as tight
+  pub news-close : {target : Bool} {form : Form} {waiting : List Pending} {first after : List Token} {last : Syntax} (least : ℕ)
+      → (r : NewsClosed target form waiting first after last) → least ≤ newPrecedence → r .level < least
+      → reduce least done starts waiting last ≡ frame done starts (r .left) (r .value)
+  news-close least r h above = r .same least h ∙ reduce-stops least done starts (r .left) (r .value) (looser-than least (r .waits) above)
+
+  pub unary-closes : {target : Bool} {waiting : List Pending} {first after : List Token} {last : Syntax}
+      → NewsClosed target unaryForm waiting first after last → AllClosed waiting first after last
+  unary-closes u =
+      let r = operators-close prefixPrecedence (u .waits) (u .fits) (omega arith) (unary-operand (u .whole)) in
+      record { value = r .value; same = u .same 0 (omega arith) ∙ r .same; whole = r .whole }
+
+  pub unary-closes-tight : {target : Bool} {waiting : List Pending} {first after : List Token} {last : Syntax} (least : ℕ) → wholeLevel ending ≤ least
+      → least ≤ prefixPrecedence → NewsClosed target unaryForm waiting first after last → TightClosed least waiting first after last
+  unary-closes-tight least from to u =
+      let r = tight-close least prefixPrecedence from to (u .waits) (u .fits) (omega arith) (unary-operand (u .whole)) in
+      record {
+        target = r .target;
+        level = r .level;
+        left = r .left;
+        before = r .before;
+        value = r .value;
+        same = u .same least (at-most least prefixPrecedence newPrecedence to (omega arith)) ∙ r .same;
+        waits = r .waits;
+        fits = r .fits;
+        whole = r .whole;
+      }

@@ -1,11 +1,10 @@
--- Document 01, Grammar, and document 02, U1 and U2: derivations, one constructor for each step. Each part leads from the tokens before it to the tokens
--- after it, and has a syntax tree.
-use Prim.Native.Nat.{ℕ, zero, suc, _+_, _≤_}
-use mathlib.Core.Bool.{Bool, true, false, not, cond, _||_}
-use mathlib.Core.List.{List, [], _∷_, _++_}
+-- Document 01, Grammar, and document 02, U1, U2 and U4: derivations, one constructor for each step. Each part leads from the tokens before it to the
+-- tokens after it, and has a syntax tree.
+use Prim.Native.Nat.{ℕ, _+_, _≤_}
+use mathlib.Core.Bool.{Bool, true, false, not, _||_}
+use mathlib.Core.List.{List, [], _∷_}
 use lib.Dec.{T, eqb}
-use Rattle.vocabulary.specs.Vocabulary.{Row, barred, taken, words, signs}
-use Rattle.grammar.specs.Tokens.{
+use Rattle.machine.specs.Tokens.{
   Token,
   token,
   Spot,
@@ -13,7 +12,13 @@ use Rattle.grammar.specs.Tokens.{
   number,
   string,
   pattern,
-  assign,
+  thisWord,
+  nullWord,
+  trueWord,
+  falseWord,
+  newWord,
+  question,
+  comma,
   colon,
   semicolon,
   dot,
@@ -27,49 +32,26 @@ use Rattle.grammar.specs.Tokens.{
   wordName,
   openBracket,
   closeBracket,
-  comma,
 }
-use Rattle.grammar.specs.Syntax.{Syntax, nil, node, snoc, objectSyntax, parenthesisedSyntax, functionSyntax, memberSyntax, callSyntax, expressionSyntax, bareReturnSyntax, fullReturnSyntax, blockSyntax, labelSyntax, ifSyntax, declarationSyntax, arraySyntax, indexSyntax}
+pub use Rattle.machine.specs.Operators.{precedence, leastBinary, assignmentOperators, binaryOperators, prefixOperators, prefixKind, postfixOperators, postfixKind, isAmong}
+pub use Rattle.machine.specs.Scopes.{Scope, body, block, Items, callArguments, arrayElements, objectProperties}
+use Rattle.machine.specs.Syntax.{Syntax, nil, node, snoc, objectSyntax, parenthesisedSyntax, functionSyntax, memberSyntax, callSyntax, constructSyntax, expressionSyntax, bareReturnSyntax, fullReturnSyntax, blockSyntax, labelSyntax, ifSyntax, declarationSyntax, arraySyntax, indexSyntax}
 
--- "name, number, string, regular expression": the class of the token is the kind of the part
+-- "name, number, string, regular expression", and the four value words of document 02, U4: the class of the token is the kind of the part
 pub data Leaf : ℕ → Type 0 where
   leaf-name : Leaf name
   leaf-number : Leaf number
   leaf-string : Leaf string
   leaf-pattern : Leaf pattern
+  leaf-this : Leaf thisWord
+  leaf-null : Leaf nullWord
+  leaf-true : Leaf trueWord
+  leaf-false : Leaf falseWord
 
 -- what "`. name`" and a property take: a name, or (document 02, U1 and U2) a reserved word that is taken as a name. No other step takes such a word
 pub data IdentifierName : ℕ → Type 0 where
   identifier : IdentifierName name
   reserved-word : IdentifierName wordName
-
--- "`/` and `+`; `/` binds tighter": the class of an operator, which is the kind of its part, and its precedence, from 1 up
-pub data Operator : Type 0 where
-  operator : ℕ → ℕ → Operator
-
--- the words and signs that have a precedence
-abbrev pub operatorsIn : List Row → List Operator
-operatorsIn [] = []
-operatorsIn (barred t ∷ rows) = operatorsIn rows
-operatorsIn (taken t rule class zero ∷ rows) = operatorsIn rows
-operatorsIn (taken t rule class (suc precedence) ∷ rows) = operator class (suc precedence) ∷ operatorsIn rows
-
-abbrev pub operators : List Operator
-operators = operatorsIn (words ++ signs)
-
-abbrev pub isAmong : List Operator → ℕ → Bool
-isAmong [] class = false
-isAmong (operator x precedence ∷ rest) class = cond (eqb class x) true (isAmong rest class)
-
-abbrev pub isOperator : ℕ → Bool
-isOperator class = isAmong operators class
-
-abbrev pub precedenceAmong : List Operator → ℕ → ℕ
-precedenceAmong [] class = 0
-precedenceAmong (operator x precedence ∷ rest) class = cond (eqb class x) precedence (precedenceAmong rest class)
-
-abbrev pub precedence : ℕ → ℕ
-precedence class = precedenceAmong operators class
 
 -- "not starting with `{` or `function`"
 abbrev pub startsExpression : List Token → Bool
@@ -80,15 +62,6 @@ startsExpression (token class spot ∷ rest) = not (eqb class openBrace || eqb c
 abbrev pub onSameLine : List Token → Bool
 onSameLine [] = true
 onSameLine (token class spot ∷ rest) = not (spot .newline)
-
--- what may hold a declaration: a program or function body, and what may not: a block
-pub data Scope : Type 0 where
-  body : Scope
-  block : Scope
-
--- Lists of document 02, U2: their items that have values
-pub data Items : Type 0 where
-  callArguments arrayElements objectProperties : Items
 
 -- where the value of an item starts: with the item, or behind "name `:`" of a property
 pub data ItemStart : Items → List Token → List Token → Type 0 where
@@ -113,13 +86,15 @@ pub data Parameters : List Token → List Token → Type 0 where
   no-parameters : {here : List Token} → Parameters here here
   some-parameters : {before after : List Token} → Names before after → Parameters before after
 
--- what is derived: the statements of a scope, a statement, a Function behind its word and its name, if it has one, an Assign, a Binary by operators
--- of at least a precedence, a Chain, the items of a list as far as each has a `,` behind it, and a whole list
+-- What is derived: the statements of a scope, a statement, a Function behind its word and its name, if it has one, an Expression, an Assign, a Binary
+-- by operators of at least a precedence, a Unary, a Target (ES5.1 11.2: LeftHandSideExpression or, with no calls, NewExpression), a Chain
+-- (CallExpression or MemberExpression or, with no calls, MemberExpression), the items of a list as far as each has a `,` behind it, and a whole list
 pub data Form : Type 0 where
   statementsForm : Scope → Form
-  statementForm functionForm assignForm : Form
+  statementForm functionForm expressionForm assignForm : Form
   binaryForm : ℕ → Form
-  chainForm : Form
+  unaryForm : Form
+  targetForm chainForm : Bool → Form
   itemsForm listForm : Items → Form
 
 pub data Derives : Form → List Token → List Token → Syntax → Type 0 where
@@ -135,20 +110,21 @@ pub data Derives : Form → List Token → List Token → Syntax → Type 0 wher
   statement-block : {opener closer : Spot} {inside after : List Token} {statements : Syntax}
       → Derives (statementsForm block) inside (token closeBrace closer ∷ after) statements
       → Derives statementForm (token openBrace opener ∷ inside) after (node blockSyntax (opener .mark) statements nil)
-  -- "expression (an Assign) `;` not starting with `{` or `function`"
+  -- "expression .. `;` not starting with `{` or `function`". Where document 01 has an Assign here, in `if ( )`, `return` and `( )`, and U2 behind a Chain in `[ ]`,
+  -- document 02, U4, has "the comma operator where ES5.1 has Expression"
   statement-expression : {end : Spot} {before after : List Token} {value : Syntax}
-      → T (startsExpression before) → Derives assignForm before (token semicolon end ∷ after) value
+      → T (startsExpression before) → Derives expressionForm before (token semicolon end ∷ after) value
       → Derives statementForm before after (node expressionSyntax (end .mark) value nil)
-  -- "`if ( Assign )` statement"
+  -- "`if ( Assign )` statement", with an Expression
   statement-if : {word opener closer : Spot} {inside middle after : List Token} {condition inner : Syntax}
-      → Derives assignForm inside (token closeParen closer ∷ middle) condition → Derives statementForm middle after inner
+      → Derives expressionForm inside (token closeParen closer ∷ middle) condition → Derives statementForm middle after inner
       → Derives statementForm (token ifWord word ∷ token openParen opener ∷ inside) after (node ifSyntax (word .mark) condition inner)
   -- "`return ;`". "Return may stand anywhere": no form asks what stands around it
   statement-bare-return : {word end : Spot} {after : List Token}
       → Derives statementForm (token returnWord word ∷ token semicolon end ∷ after) after (node bareReturnSyntax (word .mark) nil nil)
-  -- "`return Assign ;` with no line end after `return`"
+  -- "`return Assign ;` with no line end after `return`", with an Expression
   statement-full-return : {word end : Spot} {before after : List Token} {value : Syntax}
-      → T (onSameLine before) → Derives assignForm before (token semicolon end ∷ after) value
+      → T (onSameLine before) → Derives expressionForm before (token semicolon end ∷ after) value
       → Derives statementForm (token returnWord word ∷ before) after (node fullReturnSyntax (word .mark) nil value)
   -- "name `:` statement"
   statement-label : {label sign : Spot} {middle after : List Token} {inner : Syntax} → Derives statementForm middle after inner
@@ -158,51 +134,78 @@ pub data Derives : Form → List Token → List Token → Syntax → Type 0 wher
       → Parameters named (token closeParen closer ∷ token openBrace openBody ∷ inside)
       → Derives (statementsForm body) inside (token closeBrace closeBody ∷ after) statements
       → Derives functionForm (token openParen opener ∷ named) after statements
-  -- "Assign: Binary, or Chain `=` Assign."
-  assign-binary : {before after : List Token} {value : Syntax} → Derives (binaryForm 1) before after value → Derives assignForm before after value
-  assign-to : {sign : Spot} {before middle after : List Token} {target value : Syntax}
-      → Derives chainForm before (token assign sign ∷ middle) target → Derives assignForm middle after value
-      → Derives assignForm before after (node assign (sign .mark) target value)
-  -- "Binary: Chains joined by `/` and `+`; `/` binds tighter, both group to the left."
-  binary-chain : {least : ℕ} {before after : List Token} {value : Syntax} → Derives chainForm before after value
+  -- ES5.1 11.14: Expression: an Assign, or Expression `,` Assign
+  expression-assign : {before after : List Token} {value : Syntax} → Derives assignForm before after value → Derives expressionForm before after value
+  expression-comma : {sign : Spot} {before middle after : List Token} {left right : Syntax}
+      → Derives expressionForm before (token comma sign ∷ middle) left → Derives assignForm middle after right
+      → Derives expressionForm before after (node comma (sign .mark) left right)
+  -- "Assign: Binary, or Chain `=` Assign.", with all twelve operators (11.13)
+  assign-binary : {before after : List Token} {value : Syntax} → Derives (binaryForm leastBinary) before after value → Derives assignForm before after value
+  assign-to : {class : ℕ} {sign : Spot} {before middle after : List Token} {target value : Syntax} → T (isAmong assignmentOperators class)
+      → Derives (targetForm true) before (token class sign ∷ middle) target → Derives assignForm middle after value
+      → Derives assignForm before after (node class (sign .mark) target value)
+  -- 11.12: the conditional
+  assign-conditional : {sign answer : Spot} {before inside middle after : List Token} {condition first second : Syntax}
+      → Derives (binaryForm leastBinary) before (token question sign ∷ inside) condition → Derives assignForm inside (token colon answer ∷ middle) first
+      → Derives assignForm middle after second
+      → Derives assignForm before after (node question (sign .mark) (snoc condition first) second)
+  -- "Binary: Chains joined by `/` and `+`; `/` binds tighter, both group to the left.", with all binary operators (11.5 to 11.11)
+  binary-unary : {least : ℕ} {before after : List Token} {value : Syntax} → Derives unaryForm before after value
       → Derives (binaryForm least) before after value
   binary-operator : {least class : ℕ} {sign : Spot} {before middle after : List Token} {left right : Syntax}
-      → T (isOperator class) → least ≤ precedence class
+      → T (isAmong binaryOperators class) → least ≤ precedence class
       → Derives (binaryForm (precedence class)) before (token class sign ∷ middle) left
       → Derives (binaryForm (precedence class + 1)) middle after right
       → Derives (binaryForm least) before after (node class (sign .mark) left right)
+  -- 11.4 and 11.3: a Unary is a Target, has an operator before it, or is a Target with one after it and no line end between
+  unary-target : {before after : List Token} {value : Syntax} → Derives (targetForm true) before after value → Derives unaryForm before after value
+  unary-prefix : {class : ℕ} {sign : Spot} {middle after : List Token} {value : Syntax} → T (isAmong prefixOperators class)
+      → Derives unaryForm middle after value → Derives unaryForm (token class sign ∷ middle) after (node (prefixKind class) (sign .mark) nil value)
+  unary-postfix : {class : ℕ} {sign : Spot} {before after : List Token} {value : Syntax} → T (isAmong postfixOperators class) → T (not (sign .newline))
+      → Derives (targetForm true) before (token class sign ∷ after) value
+      → Derives unaryForm before after (node (postfixKind class) (sign .mark) value nil)
+  -- 11.2: a Target is a Chain, or `new` without arguments
+  target-chain : {calls : Bool} {before after : List Token} {value : Syntax} → Derives (chainForm calls) before after value
+      → Derives (targetForm calls) before after value
+  target-new : {calls : Bool} {word : Spot} {middle after : List Token} {value : Syntax} → Derives (targetForm false) middle after value
+      → Derives (targetForm calls) (token newWord word ∷ middle) after (node newWord (word .mark) nil value)
   -- "Chain: name, number, string, regular expression, `{ }`, `{ name : Assign }`, `( Assign )` or function, then any run of
-  -- `( Assign )` and `. name`."
-  chain-leaf : {class : ℕ} {spot : Spot} {after : List Token} → Leaf class
-      → Derives chainForm (token class spot ∷ after) after (node class (spot .mark) nil nil)
+  -- `( Assign )` and `. name`.", with lists of any length (U2), an Expression in `( )` (U4) and the value words
+  chain-leaf : {calls : Bool} {class : ℕ} {spot : Spot} {after : List Token} → Leaf class
+      → Derives (chainForm calls) (token class spot ∷ after) after (node class (spot .mark) nil nil)
   -- document 02, U2: "arrays with holes"
-  chain-array : {opener closer : Spot} {inside after : List Token} {values : Syntax}
+  chain-array : {calls : Bool} {opener closer : Spot} {inside after : List Token} {values : Syntax}
       → Derives (listForm arrayElements) inside (token closeBracket closer ∷ after) values
-      → Derives chainForm (token openBracket opener ∷ inside) after (node arraySyntax (opener .mark) values nil)
+      → Derives (chainForm calls) (token openBracket opener ∷ inside) after (node arraySyntax (opener .mark) values nil)
   -- "any number of .. properties": `{ }` has none
-  chain-object : {opener closer : Spot} {inside after : List Token} {values : Syntax}
+  chain-object : {calls : Bool} {opener closer : Spot} {inside after : List Token} {values : Syntax}
       → Derives (listForm objectProperties) inside (token closeBrace closer ∷ after) values
-      → Derives chainForm (token openBrace opener ∷ inside) after (node objectSyntax (opener .mark) values nil)
-  chain-parens : {opener closer : Spot} {inside after : List Token} {value : Syntax}
-      → Derives assignForm inside (token closeParen closer ∷ after) value
-      → Derives chainForm (token openParen opener ∷ inside) after (node parenthesisedSyntax (opener .mark) value nil)
-  chain-function : {word called : Spot} {rest after : List Token} {inside : Syntax} → Derives functionForm rest after inside
-      → Derives chainForm (token functionWord word ∷ token name called ∷ rest) after (node functionSyntax (word .mark) inside nil)
+      → Derives (chainForm calls) (token openBrace opener ∷ inside) after (node objectSyntax (opener .mark) values nil)
+  chain-parens : {calls : Bool} {opener closer : Spot} {inside after : List Token} {value : Syntax}
+      → Derives expressionForm inside (token closeParen closer ∷ after) value
+      → Derives (chainForm calls) (token openParen opener ∷ inside) after (node parenthesisedSyntax (opener .mark) value nil)
+  chain-function : {calls : Bool} {word called : Spot} {rest after : List Token} {inside : Syntax} → Derives functionForm rest after inside
+      → Derives (chainForm calls) (token functionWord word ∷ token name called ∷ rest) after (node functionSyntax (word .mark) inside nil)
   -- "unnamed function expressions"
-  chain-unnamed : {word : Spot} {rest after : List Token} {inside : Syntax} → Derives functionForm rest after inside
-      → Derives chainForm (token functionWord word ∷ rest) after (node functionSyntax (word .mark) inside nil)
+  chain-unnamed : {calls : Bool} {word : Spot} {rest after : List Token} {inside : Syntax} → Derives functionForm rest after inside
+      → Derives (chainForm calls) (token functionWord word ∷ rest) after (node functionSyntax (word .mark) inside nil)
   -- "indexing"
-  chain-index : {opener closer : Spot} {before inside after : List Token} {object value : Syntax}
-      → Derives chainForm before (token openBracket opener ∷ inside) object → Derives assignForm inside (token closeBracket closer ∷ after) value
-      → Derives chainForm before after (node indexSyntax (opener .mark) object value)
-  -- "any number of arguments"
+  chain-index : {calls : Bool} {opener closer : Spot} {before inside after : List Token} {object value : Syntax}
+      → Derives (chainForm calls) before (token openBracket opener ∷ inside) object
+      → Derives expressionForm inside (token closeBracket closer ∷ after) value
+      → Derives (chainForm calls) before after (node indexSyntax (opener .mark) object value)
+  chain-member : {calls : Bool} {class : ℕ} {sign property : Spot} {before after : List Token} {object : Syntax} → IdentifierName class
+      → Derives (chainForm calls) before (token dot sign ∷ token class property ∷ after) object
+      → Derives (chainForm calls) before after (node memberSyntax (property .mark) object nil)
+  -- "any number of arguments": of a call, and of `new` with what it makes, which has no calls
   chain-call : {opener closer : Spot} {before inside after : List Token} {callee values : Syntax}
-      → Derives chainForm before (token openParen opener ∷ inside) callee
+      → Derives (chainForm true) before (token openParen opener ∷ inside) callee
       → Derives (listForm callArguments) inside (token closeParen closer ∷ after) values
-      → Derives chainForm before after (node callSyntax (opener .mark) callee values)
-  chain-member : {class : ℕ} {sign property : Spot} {before after : List Token} {object : Syntax} → IdentifierName class
-      → Derives chainForm before (token dot sign ∷ token class property ∷ after) object
-      → Derives chainForm before after (node memberSyntax (property .mark) object nil)
+      → Derives (chainForm true) before after (node callSyntax (opener .mark) callee values)
+  chain-new : {calls : Bool} {word opener closer : Spot} {before inside after : List Token} {callee values : Syntax}
+      → Derives (chainForm false) before (token openParen opener ∷ inside) callee
+      → Derives (listForm callArguments) inside (token closeParen closer ∷ after) values
+      → Derives (chainForm calls) (token newWord word ∷ before) after (node constructSyntax (word .mark) callee values)
   -- items with a `,` behind each; a `,` makes no record. In an array a `,` that stands where an element would is a hole, and so makes none either
   no-items : {items : Items} {here : List Token} → Derives (itemsForm items) here here nil
   add-item : {items : Items} {sign : Spot} {before middle first after : List Token} {values last : Syntax}
@@ -226,14 +229,23 @@ Statement before after value = Derives statementForm before after value
 abbrev pub Function : List Token → List Token → Syntax → Type 0
 Function before after value = Derives functionForm before after value
 
+abbrev pub Expression : List Token → List Token → Syntax → Type 0
+Expression before after value = Derives expressionForm before after value
+
 abbrev pub Assign : List Token → List Token → Syntax → Type 0
 Assign before after value = Derives assignForm before after value
 
 abbrev pub Binary : ℕ → List Token → List Token → Syntax → Type 0
 Binary least before after value = Derives (binaryForm least) before after value
 
-abbrev pub Chain : List Token → List Token → Syntax → Type 0
-Chain before after value = Derives chainForm before after value
+abbrev pub Unary : List Token → List Token → Syntax → Type 0
+Unary before after value = Derives unaryForm before after value
+
+abbrev pub Target : Bool → List Token → List Token → Syntax → Type 0
+Target calls before after value = Derives (targetForm calls) before after value
+
+abbrev pub Chain : Bool → List Token → List Token → Syntax → Type 0
+Chain calls before after value = Derives (chainForm calls) before after value
 
 -- the steps "lead from Program to exactly these elements"
 abbrev pub Program : List Token → Syntax → Type 0

@@ -1,9 +1,2 @@
-pub mod Cuts
-pub mod Tokens
-pub mod Syntax
 pub mod Grammar
-pub mod Derivations
-pub mod TreeElements
-pub mod Demand3
-pub mod Shown
-pub mod Machinery
+pub mod Recorded

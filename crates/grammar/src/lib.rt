@@ -1,3 +1,1 @@
-// The grammar: derivations, the token machine, and what they have in common with the prefix rule. It is theory alone but for the
-// numbers of the classes, and the parser's contracts cite it.
-pub mod tokens;
+// The grammar over tokens: derivations, and that the token machine takes what has one and nothing else. It is theory alone.

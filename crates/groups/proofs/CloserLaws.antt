@@ -6,14 +6,14 @@ use Prim.Native.Nat.{ℕ}
 use native.Mathlib.Omega.{arith}
 use borrow.Author.Tests.{ne-eqb}
 use lib.Dec.{T}
-use Rattle.grammar.specs.Tokens.{Token}
-use Rattle.grammar.specs.Syntax.{Syntax}
-use Rattle.grammar.specs.Grammar.{Items, callArguments, arrayElements, objectProperties, body, block}
-use Rattle.grammar.specs.Machinery.Machine.{endOfText, Frame, Control, operandDone, itemDue, Action, fail, pop, finish, Value, byStatement, byReturn, byParen, byBracket, byItem, look, row, Open, act, run}
-use Rattle.grammar.specs.Machinery.Classes.{isEnd}
-use Rattle.grammar.proofs.Ran.{stays-dead}
+use Rattle.machine.specs.Tokens.{Token}
+use Rattle.machine.specs.Syntax.{Syntax}
+use Rattle.machine.specs.Scopes.{Items, callArguments, arrayElements, objectProperties, body, block}
+use Rattle.machine.specs.Machinery.Machine.{endOfText, Frame, Control, itemDue, Action, fail, pop, finish, Value, Ending, byStatement, byReturn, byParen, byBracket, byColon, byItem, look, endingRow, row, Open, act, run}
+use Rattle.machine.specs.Machinery.Classes.{isEnd}
+use Rattle.machine.proofs.Ran.{stays-dead}
 use Rattle.controls.specs.Machinery.Numbers.{controlOf}
-use Rattle.controls.specs.Machinery.Steps.{Settled, Ends, ends-statements, ends-text, ends-expression, ends-item, ends-items, ends-no-parameter, ends-parameter, goes-on}
+use Rattle.controls.specs.Machinery.Steps.{Ended, ended-operand, ended-postfix, Settled, Ends, ends-statements, ends-text, ends-expression, ends-item, ends-items, ends-no-parameter, ends-parameter, goes-on}
 use Rattle.controls.specs.declared.Control as code
 use Rattle.waiting.specs.Machinery.Waiting.{Backed}
 use Rattle.waiting.specs.declared.Level.{Level}
@@ -29,14 +29,21 @@ no-finish e = absurd (let z : _≡_ {A = ℕ} 0 1 = cc in omega arith)
 no-fail : {A : Type 0} {value : Value} → fail ≡ pop value → A
 no-fail e = absurd (let z : _≡_ {A = ℕ} 0 1 = cc in omega arith)
 
--- no list takes the text's end
-item-text : (items : Items) (target : Bool) → look endOfText (row (operandDone (byItem items) target) false) ≡ fail
-item-text callArguments true = refl
-item-text callArguments false = refl
-item-text arrayElements true = refl
-item-text arrayElements false = refl
-item-text objectProperties true = refl
-item-text objectProperties false = refl
+-- no expression takes the text's end, and no list
+ending-text : (ending : Ending) → look endOfText (endingRow ending) ≡ fail
+ending-text (byStatement setting) = refl
+ending-text (byReturn setting) = refl
+ending-text byParen = refl
+ending-text byBracket = refl
+ending-text byColon = refl
+ending-text (byItem callArguments) = refl
+ending-text (byItem arrayElements) = refl
+ending-text (byItem objectProperties) = refl
+
+expression-text : {from : Control} {ending : Ending} → Ended from ending → look endOfText (row from false) ≡ fail
+expression-text (ended-operand {ending = ending} {target = true}) = ending-text ending
+expression-text (ended-operand {ending = ending} {target = false}) = ending-text ending
+expression-text (ended-postfix {ending = ending}) = ending-text ending
 
 items-text : (items : Items) → look endOfText (row (itemDue items) false) ≡ fail
 items-text callArguments = refl
@@ -47,14 +54,8 @@ items-text objectProperties = refl
 never-text : {c : Control} {class : ℕ} {value : Value} → Ends class c true (pop value) → look class (row c false) ≡ pop value → class ≡ endOfText → ⊥
 never-text (ends-statements {scope = body}) e q = no-finish (rw q at e)
 never-text (ends-statements {scope = block}) e q = no-fail (rw q at e)
-never-text (ends-expression {ending = byStatement setting} t) e q = absurd t
-never-text (ends-expression {ending = byReturn setting} t) e q = absurd t
-never-text (ends-expression {ending = byParen} {target = true} t) e q = no-fail (rw q at e)
-never-text (ends-expression {ending = byParen} {target = false} t) e q = no-fail (rw q at e)
-never-text (ends-expression {ending = byBracket} {target = true} t) e q = no-fail (rw q at e)
-never-text (ends-expression {ending = byBracket} {target = false} t) e q = no-fail (rw q at e)
-never-text (ends-expression {ending = byItem items} t) e q = absurd t
-never-text (ends-item {items = items} {target = target}) e q = no-fail (sym (item-text items target) ∙ rw q at e)
+never-text (ends-expression t there) e q = no-fail (sym (expression-text there) ∙ rw q at e)
+never-text (ends-item there) e q = no-fail (sym (expression-text there) ∙ rw q at e)
 never-text (ends-items {items = items}) e q = no-fail (sym (items-text items) ∙ rw q at e)
 never-text ends-no-parameter e q = no-fail (rw q at e)
 never-text ends-parameter e q = no-fail (rw q at e)

@@ -1,19 +1,24 @@
 -- What a group that closes does to the frame around it, as the level has it.
-use mathlib.Core.Path.{_≡_, refl}
+use mathlib.Core.Path.{_≡_, refl, _∙_}
 use mathlib.Core.Bool.{Bool, true, false}
-use mathlib.Core.List.{List}
+use mathlib.Core.List.{List, [], _∷_, _++_}
+use mathlib.Core.Logic.{_⊎_, inl, inr}
 use Prim.Native.Nat.{ℕ, _+_, _-_, _*_, _≤_, _<_}
 use native.Mathlib.Omega.{arith}
 use borrow.Author.Tests.{ne-eqb}
-use lib.ListN.{length}
+use lib.ListN.{length, getD}
 use Rattle.tables.specs.Records.{mostTrees}
-use Rattle.grammar.specs.Syntax.{Syntax, nil, node, objectSyntax, parenthesisedSyntax, functionSyntax, callSyntax, blockSyntax, ifSyntax, declarationSyntax, arraySyntax, indexSyntax}
-use Rattle.grammar.specs.Grammar.{body}
-use Rattle.grammar.specs.Machinery.Machine as machine
-use Rattle.grammar.specs.Machinery.Machine.{
+use Rattle.machine.specs.Tokens.{newWord}
+use Rattle.machine.specs.Syntax.{Syntax, nil, node, objectSyntax, parenthesisedSyntax, functionSyntax, callSyntax, constructSyntax, blockSyntax, ifSyntax, declarationSyntax, arraySyntax, indexSyntax}
+use Rattle.machine.specs.Scopes.{body}
+use Rattle.machine.specs.Machinery.Machine as machine
+use Rattle.machine.specs.Machinery.Machine.{
   Pending,
+  pending,
   Frame,
   frame,
+  newPrecedence,
+  called,
   ifNest,
   Setting,
   among,
@@ -42,13 +47,55 @@ use Rattle.grammar.specs.Machinery.Machine.{
 use Rattle.controls.specs.Machinery.Numbers.{closingBy}
 use Rattle.controls.specs.Machinery.Steps.{Due, Spans, past-parens, past-object, past-array, past-index, past-call, past-condition, past-parameter, past-unnamed, past-block, past-declaration, past-function}
 use Rattle.controls.specs.Machinery.Written.{putRecord}
-use Rattle.waiting.specs.Machinery.Waiting.{width, binding, Backed, Completes, stackWith, waitingOne, madeOne}
+use Rattle.waiting.specs.Machinery.Waiting.{width, binding, Holds, Backed, Completes, stackWith, waitingOne, madeOne}
 use Rattle.waiting.specs.declared.Level.{Level}
-use Rattle.waiting.proofs.HoldLaws.{backed}
-use Rattle.frames.specs.Machinery.Stands.{Stands}
+use Rattle.waiting.proofs.HoldLaws.{backed, bottom-top, uppermost}
+use Rattle.waiting.proofs.CloseLaws.{Usable, usable}
+use Rattle.frames.specs.Machinery.Stands.{Operators, no-operators, more-operators, Beginnings, Stands}
 use Rattle.frames.specs.Machinery.Effects.{Valued, MayClose, ClosesGroup}
-use Rattle.frames.proofs.CarryLaws.{withCount, carried, stands, carries-made, carries-valued, carries-alone, carries-both, carries-beginning, carries-statement, completes-lightens}
+use Rattle.frames.proofs.CloseLaws.{Stops, stops-none, stops-at, below-stops, starts-stop}
+use Rattle.frames.proofs.CarryLaws.{withCount, leftOne, carried, stands, carries-made, carries-valued, carries-alone, carries-both, carries-dropped, carries-beginning, carries-statement, completes-lightens}
 use Rattle.frames.proofs.EffectLaws.{at-statement, at-operand, behind}
+
+-- the `new` that waits uppermost, with nothing on its left
+record NewWaits (stack : List ℕ) (top : ℕ) (waiting : List Pending) : Type 0 where
+  word : ℕ
+  rest : List Pending
+  is : waiting ≡ pending newWord word nil ∷ rest
+  word-is : getD stack ((top - 1) * width + 1) 0 ≡ word
+  some : 1 ≤ top
+
+module _ {table : List ℕ} {first : ℕ} {base last : Syntax} {l : Level} {stack cells : List ℕ} where
+  -- nothing else is of its kind
+  none-newer : {least : ℕ} {ps : List Pending} → least ≤ newPrecedence → Stops least ps → Holds table first base ps last l stack cells → l .floor < l .top
+      → getD stack ((l .top - 1) * width) 0 ≡ newWord → ⊥
+  unfolding binding
+  none-newer few stops-none h more is-new = let z = bottom-top h in omega arith
+  none-newer few (stops-at {kind = kind} less) h more is-new =
+      let u = uppermost h in
+      let same : kind ≡ newWord = omega (arith, u .kind-is) in
+      let b : binding newWord < _ = rw same at less in
+      omega (arith, b)
+
+  new-waits : {waiting starts tail : List Pending} → Operators waiting → Beginnings starts → Stops 1 tail → Holds table first base (waiting ++ (starts ++ tail)) last l stack cells
+      → l .floor < l .top → getD stack ((l .top - 1) * width) 0 ≡ newWord → NewWaits stack (l .top) waiting
+  new-waits no-operators beginnings stops h more is-new = absurd (none-newer (omega arith) (starts-stop beginnings stops) h more is-new)
+  new-waits (more-operators {kind = kind} {mark = mark} {ps = ps} tight alone others) beginnings stops h more is-new =
+      let u = uppermost h in
+      let same : kind ≡ newWord = omega (arith, u .kind-is) in
+      record { word = mark; rest = ps; is = rw (alone same, same); word-is = u .mark-is; some = u .some }
+
+  -- where none waits, arguments make a call
+  makes-call : (waiting below : List Pending) (mark : ℕ) (value done : Syntax) (starts : List Pending) (operand : Syntax)
+      → Holds table first base (waiting ++ below) last l stack cells → (l .floor < l .top → getD stack ((l .top - 1) * width) 0 ≡ newWord → ⊥)
+      → called mark value done starts waiting operand ≡ frame done starts waiting (node callSyntax mark operand value)
+  makes-call [] below mark value done starts operand h none = refl
+  makes-call (pending kind word left ∷ waiting) below mark value done starts operand h none =
+      let u = uppermost h in rw (ne-eqb kind newWord (λ e. none (u .higher) (u .kind-is ∙ e)))
+
+makes-construct : {waiting rest : List Pending} {word : ℕ} (mark : ℕ) (value done : Syntax) (starts : List Pending) (operand : Syntax) → waiting ≡ pending newWord word nil ∷ rest
+    → called mark value done starts waiting operand ≡ frame done starts rest (node constructSyntax word operand value)
+makes-construct mark value done starts operand e = rw e
 
 module _ {g : Frame} {nests : List machine.Open} {table stack₀ : List ℕ} {first floor passed next n : ℕ} {l : Level} {stackBefore stack cellsBefore cells : List ℕ} (value : Syntax)
     (valued : Valued l n value stackBefore stack cellsBefore cells) (fits : n + l .top < first + floor + next) (few : first + floor + next ≤ mostTrees) where
@@ -83,6 +130,28 @@ module _ {g : Frame} {nests : List machine.Open} {table stack₀ : List ℕ} {fi
       rw (s .is, both (s .done) (s .starts) (s .waiting) (s .operand))
       (stands (node kind mark (s .operand) value) (carries-both kind mark (carries-valued (carried s) n value valued (omega arith)) (omega arith)) (s .shaped) tt
       (omega arith) few)
+
+  -- arguments
+  pub closes-call : {ending : Ending} {target : Bool} (mark : ℕ) → (l .floor < l .top → getD stack ((l .top - 1) * width) 0 ≡ newWord → ⊥)
+      → Stands (operandDone ending target) g nests table stack₀ first floor passed l stackBefore cellsBefore
+      → Stands (operandDone ending target) (machine.close toCall mark value g) nests table stack₀ first floor next (madeOne (withCount n l)) stack
+      (putRecord cells n callSyntax mark (n - l .start + 1))
+  closes-call mark none s =
+      let h = carries-valued (carried s) n value valued (omega arith) in
+      rw (s .is, makes-call (s .waiting) (s .starts ++ h .tail) mark value (s .done) (s .starts) (s .operand) (h .holds) none)
+      (stands (node callSyntax mark (s .operand) value) (carries-both callSyntax mark h (omega arith)) (s .shaped) tt (omega arith) few)
+
+  pub closes-construct : {ending : Ending} {target : Bool} (mark word : ℕ) → l .floor < l .top → getD stack ((l .top - 1) * width) 0 ≡ newWord
+      → getD stack ((l .top - 1) * width + 1) 0 ≡ word → Stands (operandDone ending target) g nests table stack₀ first floor passed l stackBefore cellsBefore
+      → Stands (operandDone ending target) (machine.close toCall mark value g) nests table stack₀ first floor next (madeOne (leftOne (withCount n l) stack)) stack
+      (putRecord cells n constructSyntax word (n - getD stack ((l .top - 1) * width + 2) 0 + 1))
+  closes-construct mark word more is-new is-word s =
+      let h = carries-valued (carried s) n value valued (omega arith) in
+      let w = new-waits (h .operators) (h .beginnings) (below-stops (h .below)) (h .holds) more is-new in
+      let same : word ≡ w .word = omega (arith, w .word-is) in
+      rw (s .is, same, makes-construct mark value (s .done) (s .starts) (s .operand) (w .is))
+      (stands (node constructSyntax (w .word) (s .operand) value)
+      (carries-both constructSyntax (w .word) (carries-dropped (rw (w .is) at h)) (omega (arith, w .some))) (s .shaped) tt (omega (arith, w .some)) few)
 
   -- the value waits as a beginning's left side
   pub closes-condition : (mark : ℕ) → (l .top + 1) * width ≤ length stack → Stands ifFirst g nests table stack₀ first floor passed l stackBefore cellsBefore
@@ -148,10 +217,19 @@ module _ {l : Level} {stack cells : List ℕ} (mark n : ℕ) where
   parens-close e from to g nests table stack₀ first floor passed next value stackBefore cellsBefore s (past-parens due) valued none fits few =
       rw (e .0, e .1) (closes-alone value valued fits few toParens parenthesisedSyntax mark (λ done starts waiting. refl) due s)
 
-  pub call-closes : {r : Level} {cells′ : List ℕ} → (r ≡ madeOne (withCount n l)) × (cells′ ≡ putRecord cells n callSyntax mark (n - l .start + 1)) → ClosesGroup 1 mark n l stack cells r stack cells′
+  pub call-closes : {r : Level} {cells′ : List ℕ} → (l .floor < l .top → getD stack ((l .top - 1) * width) 0 ≡ newWord → ⊥)
+      → (r ≡ madeOne (withCount n l)) × (cells′ ≡ putRecord cells n callSyntax mark (n - l .start + 1)) → ClosesGroup 1 mark n l stack cells r stack cells′
   unfolding closingBy
-  call-closes e from to g nests table stack₀ first floor passed next value stackBefore cellsBefore s past-call valued none fits few =
-      rw (e .0, e .1) (closes-behind value valued fits few toCall callSyntax mark (λ done starts waiting operand. refl) s)
+  call-closes none-new e from to g nests table stack₀ first floor passed next value stackBefore cellsBefore s past-call valued none fits few =
+      rw (e .0, e .1) (closes-call value valued fits few mark none-new s)
+
+  pub construct-closes : {r : Level} {cells′ : List ℕ} (word : ℕ) → l .floor < l .top → getD stack ((l .top - 1) * width) 0 ≡ newWord
+      → getD stack ((l .top - 1) * width + 1) 0 ≡ word
+      → (r ≡ madeOne (leftOne (withCount n l) stack)) × (cells′ ≡ putRecord cells n constructSyntax word (n - getD stack ((l .top - 1) * width + 2) 0 + 1))
+      → ClosesGroup 1 mark n l stack cells r stack cells′
+  unfolding closingBy
+  construct-closes word more is-new is-word e from to g nests table stack₀ first floor passed next value stackBefore cellsBefore s past-call valued none fits few =
+      rw (e .0, e .1) (closes-construct value valued fits few mark word more is-new is-word s)
 
   pub object-closes : {r : Level} {cells′ : List ℕ} → (r ≡ madeOne (withCount n l)) × (cells′ ≡ putRecord cells n objectSyntax mark (n - l .start + 1)) → ClosesGroup 2 mark n l stack cells r stack cells′
   unfolding closingBy
@@ -203,9 +281,17 @@ module _ {l : Level} {stack cells : List ℕ} (mark n : ℕ) where
   index-closes closing is e from to g nests table stack₀ first floor passed next value stackBefore cellsBefore s spans valued none fits few =
       rw (is, e .0, e .1) (index-closed value s (rw is at spans) valued fits few)
 
+-- two ways to where none waits
+pub by-either : {A B C : Type 0} → (A → C) → (B → C) → A ⊎ B → C
+by-either f g (inl a) = f a
+by-either f g (inr b) = g b
+
 -- what the call in between asks for
 pub group-held : {closing mark n : ℕ} {l r : Level} {stack cells cells′ : List ℕ} (kind m : ℕ) → MayClose closing mark n l stack cells
     → (r ≡ madeOne (withCount n l)) × (cells′ ≡ putRecord cells n kind m (n - l .start + 1)) → Backed r stack cells′
 group-held {n = n} kind m may e =
     rw (e .0, e .1)
     (backed ((carries-made (carries-valued (carried (may .somewhere .stands)) n (may .value) (may .valued) (omega (arith, may .more))) kind m (omega (arith, may .more))) .holds))
+
+pub call-asks : {closing mark n : ℕ} {l : Level} {stack cells : List ℕ} → MayClose closing mark n l stack cells → l .floor < l .top → Usable (withCount n l) stack
+call-asks {n = n} may more = usable (backed ((carries-valued (carried (may .somewhere .stands)) n (may .value) (may .valued) (omega (arith, may .more))) .holds)) more

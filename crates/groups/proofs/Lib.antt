@@ -1,2 +1,3 @@
 pub mod GroupLaws
 pub mod CloserLaws
+pub mod AskLaws

@@ -1,12 +1,18 @@
-// A level's end, what a group does to the level around it, and the beginning of a nest.
+// A level's end, what a group does to the level around it, the beginning of a nest, and a `?` and its `:`.
+ghost use mathlib.Core.Path.{_≡_};
+ghost use Prim.Native.Nat.{_≤_, _<_};
 ghost use lib.Dec.{T};
-ghost use Rattle.grammar.specs.Machinery.Classes.{isEnd};
-ghost use Rattle.controls.specs.Machinery.Numbers.{controlOf};
-ghost use Rattle.frames.specs.Machinery.Effects.{StandsSomewhere, MayClose, ClosesGroup, MayEnter, Enters};
+ghost use Rattle.machine.specs.Machinery.Classes.{isEnd};
+ghost use Rattle.controls.specs.Machinery.Numbers.{endingBy, controlOf};
+ghost use Rattle.waiting.specs.Machinery.Waiting.{askKind};
+ghost use Rattle.frames.specs.Machinery.Stands.{askedIn};
+ghost use Rattle.frames.specs.Machinery.Effects.{StandsSomewhere, MayClose, ClosesGroup, MayEnter, Enters, MayAsk, Asks, MayTurn, Turns};
 ghost use Rattle.groups.specs.Machinery.Closers.{ComesTo};
 use controls::Control;
 use controls::ends;
 use controls::records;
+use frames::Standing;
+use machine::tokens;
 use waiting::Level;
 
 // What a parser answers: the number of syntax records so far; or the place of the first element with which those so far
@@ -56,7 +62,7 @@ pub fn close(
     };
     match closing {
         controls::TO_PARENS => waiting::made(g, records::PARENTHESISED, mark, syntax),
-        controls::TO_CALL => waiting::made(g, records::CALL, mark, syntax),
+        controls::TO_CALL => called(l, mark, count, waiting, syntax),
         controls::TO_OBJECT => waiting::made(g, records::OBJECT, mark, syntax),
         controls::TO_CONDITION => waiting::wait(g, records::IF, l.held, waiting),
         controls::TO_PARAMETER => g,
@@ -71,6 +77,93 @@ pub fn close(
         controls::TO_FUNCTION => waiting::made(g, records::FUNCTION, l.held, syntax),
         controls::TO_ARRAY => waiting::made(g, records::ARRAY, mark, syntax),
         _ => waiting::made(g, records::INDEX, mark, syntax),
+    }
+}
+
+// Arguments belong to the `new` that waits uppermost, if one does, or make a call.
+fn called(l: Level, mark: usize, count: usize, waiting: &[u16], syntax: &mut [u32]) -> Level
+    requires { ⌜ MayClose 1 mark count l (now waiting) (now syntax) ⌝ }
+    ensures { λ r. ⌜ ClosesGroup 1 mark count l (now (waiting .entry)) (now (syntax .entry)) r (now (waiting .entry)) (now (syntax .exit)) ⌝ }
+{
+    if l.floor < l.top {
+        let at = (l.top - 1) * waiting::WIDTH;
+        if waiting[at] as u32 == tokens::NEW {
+            let word = waiting[at + 1] as usize;
+            let construct = Level {
+                count: count,
+                top: l.top - 1,
+                floor: l.floor,
+                start: waiting[at + 2] as usize,
+                held: l.held,
+            };
+            return waiting::made(construct, records::CONSTRUCT, word, syntax);
+        }
+    }
+    let call = Level {
+        count: count,
+        top: l.top,
+        floor: l.floor,
+        start: l.start,
+        held: l.held,
+    };
+    waiting::made(call, records::CALL, mark, syntax)
+}
+
+// A number, or the last of those that are told apart where it is past that one.
+fn at_most(number: u32, last: u32) -> u32
+    ensures { λ r. ⌜ (r ≤ last) × (number ≤ last → r ≡ number) × (last < number → r ≡ last) ⌝ }
+{
+    if number <= last {
+        return number;
+    }
+    last
+}
+
+// The number that stands for an open `?` tells what ends the expression that it is in.
+fn asking(ending: u32, setting: u32) -> u32
+    ensures { λ r. ⌜ (askKind ≤ r) × (r < 65536) × (askedIn r ≡ endingBy ending setting) ⌝ }
+{
+    let by = at_most(ending, controls::BY_PROPERTY);
+    let among = at_most(setting, controls::IF_NEST);
+    waiting::ASK + by * 4 + among
+}
+
+// A `?` is open: what is binary or tighter is closed, the operand is its condition, and behind it an expression is due that a `:` ends.
+pub fn asked(
+    at: Control,
+    l: Level,
+    mark: usize,
+    waiting: &mut [u16],
+    syntax: &mut [u32],
+) -> Standing
+    requires { ⌜ MayAsk at mark l (now waiting) (now syntax) ⌝ }
+    ensures { λ r. ⌜ Asks at mark l (now (waiting .entry)) (now (syntax .entry)) r (now (waiting .exit)) (now (syntax .exit)) ⌝ }
+{
+    let condition = waiting::closed(l, 4, waiting, syntax);
+    let number = asking(at.ending, at.setting);
+    let level = waiting::wait(condition, number, mark, waiting);
+    Standing {
+        control: controls::stand(
+            controls::OPERAND_DUE,
+            controls::BY_COLON,
+            controls::BODY,
+            true,
+        ),
+        level: level,
+    }
+}
+
+// The innermost `?` is answered: what stands behind it is closed, and it waits for its last part.
+pub fn turned(l: Level, waiting: &mut [u16], syntax: &mut [u32]) -> Standing
+    requires { ⌜ MayTurn l (now waiting) (now syntax) ⌝ }
+    ensures { λ r. ⌜ Turns l (now (waiting .entry)) (now (syntax .entry)) r (now (waiting .exit)) (now (syntax .exit)) ⌝ }
+{
+    let answer = waiting::closed(l, 2, waiting, syntax);
+    let number = waiting[(answer.top - 1) * waiting::WIDTH] as u32 - waiting::ASK;
+    let level = waiting::answered(answer, waiting);
+    Standing {
+        control: controls::stand(controls::OPERAND_DUE, number / 4, number % 4, true),
+        level: level,
     }
 }
 

@@ -7,19 +7,20 @@ use native.Mathlib.Omega.{arith}
 use borrow.Author.Tests.{lt-ltb, ne-eqb}
 use lib.Dec.{T, ltb}
 use lib.ListN.{length}
-use Rattle.grammar.specs.Tokens.{Token, token, Spot}
-use Rattle.grammar.specs.Syntax.{nil}
-use Rattle.grammar.specs.Machinery.Machine.{endOfText, Frame, frame, empty, heldWord, Effect, affect, Closing, toStatement, close, Control, ifFirst, Action, fail, goto, push, enter, look, row, Open, grouped, nested, dead, live, act, run}
-use Rattle.grammar.proofs.Ran.{stays-dead}
+use Rattle.machine.specs.Tokens.{Token, token, Spot}
+use Rattle.machine.specs.Syntax.{nil}
+use Rattle.machine.specs.Operators.{leastBinary}
+use Rattle.machine.specs.Machinery.Machine.{endOfText, Frame, frame, empty, heldWord, Effect, affect, reduced, answered, Closing, toStatement, close, expressionValue, valueOf, Ending, byColon, Control, ifFirst, operandDue, Action, fail, goto, push, enter, ask, turn, look, row, Open, grouped, nested, asking, dead, live, turnTo, act, run}
+use Rattle.machine.proofs.Ran.{stays-dead}
 use Rattle.controls.specs.Machinery.Numbers.{controlOf}
-use Rattle.grammar.specs.Machinery.Classes.{isOpener, isEnd, isSingle}
+use Rattle.machine.specs.Machinery.Classes.{isOpener, isEnd, isSingle}
 use Rattle.controls.specs.Machinery.Steps.{Settled}
 use Rattle.controls.specs.declared.Control as code
 use Rattle.controls.specs.Machinery.Written.{putSyntax}
 use Rattle.waiting.specs.Machinery.Waiting.{width, bare}
 use Rattle.waiting.specs.declared.Level.{Level}
 use Rattle.frames.specs.Machinery.Stands.{Shaped, written, HeldAt, owed, Stands, no-operators, no-beginnings, below-none}
-use Rattle.frames.specs.Machinery.Effects.{StandsSomewhere, Readies, Readied, ofParameter}
+use Rattle.frames.specs.Machinery.Effects.{StandsSomewhere, Readies, Readied, TurnedTo, ofParameter}
 use Rattle.frames.specs.declared.Standing.{Standing}
 use Rattle.segments.specs.Machinery.Segments.{Segment, inside, countOf, classAt, sizeAt, placeAt, lineAt, tokensAt, spotAt, closerSpot, Fine}
 use Rattle.segments.proofs.SegmentLaws.{at-openers, element-then, group-then, end-then}
@@ -193,6 +194,43 @@ module _ {p : Segment} (fine : Fine p) {from : Control} {count top : ℕ} {table
           ∙ ap (λ (ts : List Token). run (live c (h .g) (h .nests ++ around)) ts) (singly single u)
           ∙ step-run c (h .g) (h .nests ++ around) class (spotAt p at) (tokensAt p (at + 1) ++ u) entry;
       stands = s;
+      kind = kind ∙ h .kind;
+      low = h .low;
+      deep = omega (arith, h .deep);
+      within = omega arith;
+    }
+
+    pub goes-asking : {ending : Ending} → look class (row c (lineAt (p .cells) at)) ≡ ask ending
+        → Stands (operandDue byColon true) empty (asking ending (p .base + at) (reduced leastBinary (h .g)) ∷ h .nests) table before count top (at + 1) l′ stack′ cells′
+        → false ≡ ofParameter c → length stack′ ≡ length stack
+        → Underway p from count top table before (operandDue byColon true) l′ (at + 1) cells′ stack′
+    goes-asking {ending = ending} entry s kind long = record {
+      g = empty;
+      nests = asking ending (p .base + at) (reduced leastBinary (h .g)) ∷ h .nests;
+      runs = λ around u.
+          h .runs around u
+          ∙ ap (λ (ts : List Token). run (live c (h .g) (h .nests ++ around)) ts) (singly single u)
+          ∙ step-run c (h .g) (h .nests ++ around) class (spotAt p at) (tokensAt p (at + 1) ++ u) entry;
+      stands = s;
+      kind = kind ∙ h .kind;
+      low = h .low;
+      deep = omega (arith, h .deep);
+      within = omega arith;
+    }
+
+  module _ (single : T (isSingle class)) {cells′ stack′ : List ℕ} where
+    pub goes-turning : {r : Standing} → look class (row c (lineAt (p .cells) at)) ≡ turn → (s : TurnedTo (h .g) (h .nests) table before count top (at + 1) r stack′ cells′)
+        → false ≡ ofParameter c → length stack′ ≡ length stack
+        → Underway p from count top table before (operandDue (s .ending) true) (r .level) (at + 1) cells′ stack′
+    goes-turning entry s kind long = record {
+      g = answered (s .mark) (valueOf expressionValue (h .g)) (s .f);
+      nests = s .rest;
+      runs = λ around u.
+          h .runs around u
+          ∙ ap (λ (ts : List Token). run (live c (h .g) (h .nests ++ around)) ts) (singly single u)
+          ∙ step-run c (h .g) (h .nests ++ around) class (spotAt p at) (tokensAt p (at + 1) ++ u) entry
+          ∙ ap (λ (ns : List Open). run (turnTo (spotAt p at .first) (valueOf expressionValue (h .g)) (ns ++ around)) (tokensAt p (at + 1) ++ u)) (s .is);
+      stands = s .stands;
       kind = kind ∙ h .kind;
       low = h .low;
       deep = omega (arith, h .deep);

@@ -8,20 +8,20 @@ use borrow.Author.Tests.{eqb-true, eqb-false}
 use lib.Dec.{T, eqb}
 use lib.ListN.{length}
 use Rattle.tables.specs.Records.{mostTrees}
-use Rattle.grammar.specs.Tokens.{openBracket}
-use Rattle.grammar.specs.Grammar.{body}
-use Rattle.grammar.specs.Machinery.Machine.{among, behindStatement, toStatement, Control, statementDue, ifFirst, Action, fail, goto, push, enter, look, row}
+use Rattle.machine.specs.Tokens.{openBracket}
+use Rattle.machine.specs.Scopes.{body}
+use Rattle.machine.specs.Machinery.Machine.{among, behindStatement, toStatement, Ending, byColon, Control, statementDue, ifFirst, Action, fail, goto, push, enter, ask, turn, look, row}
 use Rattle.controls.specs.Machinery.Numbers.{settingBy, controlBy, controlOf, effectBy, closingBy, insideBy}
-use Rattle.grammar.specs.Machinery.Classes.{isOpener, isEnd, isSingle}
-use Rattle.controls.specs.Machinery.Steps.{Leads, Spans, Settled, Means, means-end, means-fail, means-goto, means-push, means-enter, goes-on}
+use Rattle.machine.specs.Machinery.Classes.{isOpener, isEnd, isSingle}
+use Rattle.controls.specs.Machinery.Steps.{Ended, Leads, Spans, Settled, Means, means-end, means-fail, means-goto, means-push, means-enter, means-ask, means-turn, goes-on}
 use Rattle.controls.specs.declared.Control as code
 use Rattle.controls.specs.declared.Step.{Step}
-use Rattle.controls.specs.declared.Step.the-variants.{Fail, Goto, Push, Enter}
+use Rattle.controls.specs.declared.Step.the-variants.{Fail, Goto, Push, Enter, Ask, Turn}
 use Rattle.waiting.specs.Machinery.Waiting.{width}
 use Rattle.waiting.specs.declared.Level.{Level}
-use Rattle.frames.specs.Machinery.Effects.{StandsSomewhere, Readies, MayAffect, Affects, MayEnter, Enters, Valued, MayClose, ClosesGroup, ofParameter}
+use Rattle.frames.specs.Machinery.Effects.{StandsSomewhere, Readies, MayAffect, Affects, MayEnter, Enters, MayAsk, Asks, MayTurn, Turns, Valued, MayClose, ClosesGroup, ofParameter}
 use Rattle.frames.specs.declared.Standing.{Standing}
-use Rattle.frames.proofs.ParameterLaws.{leads-kind, spans-kind, parameter-inside}
+use Rattle.frames.proofs.ParameterLaws.{ended-kind, leads-kind, spans-kind, parameter-inside}
 use Rattle.segments.specs.Machinery.Segments.{Segment, segment, inside, countOf, classAt, sizeAt, placeAt, closerAt, lineAt, contentOf, Fine}
 use Rattle.segments.proofs.SegmentLaws.{at-openers, inside-fine, inside-count, never-ends}
 use Rattle.levels.specs.Machinery.Runs.{Begins, begins-statements, begins-expression, begins-index, begins-items, begins-parameter, Through, Ran, ran-through, ran-dead, MayRun, MayOpen}
@@ -68,6 +68,23 @@ record EnterEntry (c : Control) (class : ℕ) (to : Control) (number : ℕ) (act
 enter-entry : {c : Control} {class number : ℕ} {to : code.Control} {action : Action} → Means c class (Enter to number) action
     → EnterEntry c class (controlOf to) number action
 enter-entry (means-enter t n e i) = record { must = _; entry = refl; single = t; small = n; there = e; inside = i }
+
+record AskEntry (c : Control) (class : ℕ) (action : Action) : Type 0 where
+  ending : Ending
+  entry : action ≡ ask ending
+  single : T (isSingle class)
+  ended : Ended c ending
+
+ask-entry : {c : Control} {class : ℕ} {action : Action} → Means c class Ask action → AskEntry c class action
+ask-entry (means-ask t e) = record { ending = _; entry = refl; single = t; ended = e }
+
+record TurnEntry (c : Control) (class : ℕ) (action : Action) : Type 0 where
+  entry : action ≡ turn
+  single : T (isSingle class)
+  ended : Ended c byColon
+
+turn-entry : {c : Control} {class : ℕ} {action : Action} → Means c class Turn action → TurnEntry c class action
+turn-entry (means-turn t e) = record { entry = refl; single = t; ended = e }
 
 -- the class behind an opener's is a closer's
 opener-is : (class : ℕ) → T (isOpener class) → (class ≤ openBracket) × T (isEnd (class + 1))
@@ -172,6 +189,36 @@ module _ {p : Segment} {from : Control} {count top : ℕ} {table before : List �
         (runs.goes-in fine h class (sym is) here (enters .single) (entry-at (enters .entry))
         (opens (enters .must) (h .g) (h .nests) table before count top at
         (rw (enters .there) at (h .stands)) below-most (omega (arith, fine .few))) (sym (ap ofParameter (enters .there))) long)
+
+  -- it asks
+  module _ (e : step ≡ Ask) where
+    asks : AskEntry c class (look class (row c newline))
+    asks = ask-entry (means-as e)
+
+    pub may-ask : MayAsk (s .control) (p .base + at) l stack cells
+    may-ask = record { ending = asks .ending; ends = asks .ended; somewhere = somewhere; room = room; marked = omega (arith, fine .few) }
+
+    pub asked : {r : Standing} {cells′ stack′ : List ℕ} → Asks (s .control) (p .base + at) l stack cells r stack′ cells′ → length stack′ ≡ length stack
+        → Underway p from count top table before (controlOf (r .control)) (r .level) (at + 1) cells′ stack′
+    asked opens long =
+        let a = opens (asks .ending) (h .g) (h .nests) table before count top at (h .stands) (asks .ended) below-most in
+        rw (a .control-is)
+        (runs.goes-asking fine h class (sym is) here (asks .single) (entry-at (asks .entry)) (a .stands) (sym (ended-kind (asks .ended))) long)
+
+  -- and is answered
+  module _ (e : step ≡ Turn) where
+    turns : TurnEntry c class (look class (row c newline))
+    turns = turn-entry (means-as e)
+
+    pub may-turn : MayTurn l stack cells
+    may-turn = record { from = c; ends = turns .ended; somewhere = somewhere }
+
+    pub turned : {r : Standing} {cells′ stack′ : List ℕ} → Turns l stack cells r stack′ cells′ → length stack′ ≡ length stack
+        → Underway p from count top table before (controlOf (r .control)) (r .level) (at + 1) cells′ stack′
+    turned answers long =
+        let a = answers c (h .g) (h .nests) table before count top at (h .stands) (turns .ended) below-most in
+        rw (a .control-is)
+        (runs.goes-turning fine h class (sym is) here (turns .single) (entry-at (turns .entry)) a (sym (ended-kind (turns .ended))) long)
 
   -- it opens a group
   module _ {to : code.Control} {closing : ℕ} (e : step ≡ Push to closing) where

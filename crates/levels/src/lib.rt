@@ -49,6 +49,18 @@ fn level(
                 control = next;
                 at = at + 1;
             }
+            Step::Ask => {
+                let inner = groups::asked(s.control, s.level, base + at, waiting, syntax);
+                l = inner.level;
+                control = inner.control;
+                at = at + 1;
+            }
+            Step::Turn => {
+                let behind = groups::turned(s.level, waiting, syntax);
+                l = behind.level;
+                control = behind.control;
+                at = at + 1;
+            }
             Step::Push(behind, closing) => {
                 let inner = group(
                     text,

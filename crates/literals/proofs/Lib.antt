@@ -1,3 +1,5 @@
 pub mod NumberLaws
+pub mod NumberPlaces
 pub mod StringLaws
 pub mod PatternLaws
+pub mod LongestNumber

@@ -1,3 +1,4 @@
 pub mod Numbers
+pub mod NumericLiterals
 pub mod Strings
 pub mod Patterns

@@ -1,4 +1,4 @@
--- Document 01, Readings: those marked (M), as one table, with the two of document 02, U1, and six with lists (U2). Each has its text, and what reading, parsing and
+-- Document 01, Readings: those marked (M), as one table, with the two of document 02, U1, six with lists (U2) and twelve with operators and numbers (U4). Each has its text, and what reading, parsing and
 -- respacing give.
 use Prim.Native.Nat.{ℕ}
 use Prim.Native.String.{String}
@@ -9,7 +9,7 @@ use Rattle.text.specs.Runs.{same}
 use Rattle.prefix.specs.Reading.{Reading, accepted, refused}
 use Rattle.storing.specs.Records.{records}
 use Rattle.reading.specs.Read.{readingFor}
-use Rattle.grammar.specs.Syntax.{syntaxRecords}
+use Rattle.machine.specs.Syntax.{syntaxRecords}
 use Rattle.parsing.specs.Parse.{Parsing, program, denied, parsingFor}
 use Rattle.respacer.specs.Respace.{Respacing, written, respacingFor}
 use Rattle.respacer.specs.Respace
@@ -135,6 +135,42 @@ readings =
     (gets 13 8)
     (writes "function ( ) { } /a/ ;\n") ∷
     marked "(a,{}/b/c);" (hasTrees (tree 7 0 10 8 0 ∷ tree 1 1 2 1 0 ∷ tree 6 2 3 1 0 ∷ tree 8 3 5 1 0 ∷ tree 6 5 6 1 0 ∷ tree 1 6 7 1 0 ∷ tree 6 7 8 1 0 ∷ tree 1 8 9 1 0 ∷ tree 6 10 11 1 0 ∷ []))
-    (gets 13 2)
+    (hasParts (part 1 1 1 ∷ part 5 3 1 ∷ part 1 5 1 ∷ part 10 4 3 ∷ part 1 7 1 ∷ part 10 6 5 ∷ part 73 2 7 ∷ part 6 0 8 ∷ part 13 8 9 ∷ part 20 9 10 ∷ []))
     (writes "( a , { } / b / c ) ;\n") ∷
+    marked "a/=b;" (hasTrees (tree 1 0 1 1 0 ∷ tree 6 1 3 1 0 ∷ tree 1 3 4 1 0 ∷ tree 6 4 5 1 0 ∷ []))
+    (hasParts (part 1 0 1 ∷ part 1 2 1 ∷ part 63 1 3 ∷ part 13 3 4 ∷ part 20 4 5 ∷ []))
+    (writes "a /= b ;\n") ∷
+    marked "a++b" (hasTrees (tree 1 0 1 1 0 ∷ tree 12 1 3 1 0 ∷ tree 1 3 4 1 0 ∷ []))
+    (gets 13 3)
+    (writes "a ++ b\n") ∷
+    marked "a\n++/b/;" (hasTrees (tree 1 0 1 1 0 ∷ tree 11 2 4 1 1 ∷ tree 5 4 7 1 0 ∷ tree 6 7 8 1 0 ∷ []))
+    (gets 13 2)
+    (writes "a\n++ /b/ ;\n") ∷
+    marked "a?b:{}/c/d;" (hasTrees (tree 1 0 1 1 0 ∷ tree 6 1 2 1 0 ∷ tree 1 2 3 1 0 ∷ tree 13 3 4 1 0 ∷ tree 8 4 6 1 0 ∷ tree 6 6 7 1 0 ∷ tree 1 7 8 1 0 ∷ tree 6 8 9 1 0 ∷ tree 1 9 10 1 0 ∷ tree 6 10 11 1 0 ∷ []))
+    (hasParts (part 1 0 1 ∷ part 1 2 1 ∷ part 5 4 1 ∷ part 1 6 1 ∷ part 10 5 3 ∷ part 1 8 1 ∷ part 10 7 5 ∷ part 61 1 8 ∷ part 13 9 9 ∷ part 20 10 10 ∷ []))
+    (writes "a ? b : { } / c / d ;\n") ∷
+    marked "-this/a;" (hasTrees (tree 6 0 1 1 0 ∷ tree 2 1 5 1 0 ∷ tree 6 5 6 1 0 ∷ tree 1 6 7 1 0 ∷ tree 6 7 8 1 0 ∷ []))
+    (hasParts (part 23 1 1 ∷ part 37 0 2 ∷ part 1 3 1 ∷ part 10 2 4 ∷ part 13 4 5 ∷ part 20 5 6 ∷ []))
+    (writes "- this / a ;\n") ∷
+    marked "a++/b;" (hasTrees (tree 1 0 1 1 0 ∷ tree 12 1 3 1 0 ∷ tree 6 3 4 1 0 ∷ tree 1 4 5 1 0 ∷ tree 6 5 6 1 0 ∷ []))
+    (hasParts (part 1 0 1 ∷ part 29 1 2 ∷ part 1 3 1 ∷ part 10 2 4 ∷ part 13 4 5 ∷ part 20 5 6 ∷ []))
+    (writes "a ++ / b ;\n") ∷
+    marked "--/a/;" (hasTrees (tree 11 0 2 1 0 ∷ tree 5 2 5 1 0 ∷ tree 6 5 6 1 0 ∷ []))
+    (hasParts (part 4 1 1 ∷ part 35 0 2 ∷ part 13 2 3 ∷ part 20 3 4 ∷ []))
+    (writes "-- /a/ ;\n") ∷
+    marked "a?b;c:{}/d/;" (hasTrees (tree 1 0 1 1 0 ∷ tree 6 1 2 1 0 ∷ tree 1 2 3 1 0 ∷ tree 6 3 4 1 0 ∷ tree 1 4 5 1 0 ∷ tree 6 5 6 1 0 ∷ tree 9 6 8 1 0 ∷ tree 5 8 11 1 0 ∷ tree 6 11 12 1 0 ∷ []))
+    (gets 13 3)
+    (writes "a ? b ; c : { } /d/ ;\n") ∷
+    marked "new new a(b).c;" (hasTrees (tree 2 0 3 1 0 ∷ tree 2 4 7 1 0 ∷ tree 1 8 9 1 0 ∷ tree 7 9 12 2 0 ∷ tree 1 10 11 1 0 ∷ tree 6 12 13 1 0 ∷ tree 1 13 14 1 0 ∷ tree 6 14 15 1 0 ∷ []))
+    (hasParts (part 1 2 1 ∷ part 1 4 1 ∷ part 27 1 3 ∷ part 8 6 4 ∷ part 28 0 5 ∷ part 13 7 6 ∷ part 20 8 7 ∷ []))
+    (writes "new new a ( b ) . c ;\n") ∷
+    marked "a||b-1.5*.5;" (hasTrees (tree 1 0 1 1 0 ∷ tree 6 1 3 1 0 ∷ tree 1 3 4 1 0 ∷ tree 6 4 5 1 0 ∷ tree 3 5 8 1 0 ∷ tree 6 8 9 1 0 ∷ tree 3 9 11 1 0 ∷ tree 6 11 12 1 0 ∷ []))
+    (hasParts (part 1 0 1 ∷ part 1 2 1 ∷ part 2 4 1 ∷ part 2 6 1 ∷ part 40 5 3 ∷ part 42 3 5 ∷ part 60 1 7 ∷ part 13 7 8 ∷ part 20 8 9 ∷ []))
+    (writes "a || b - 1.5 * .5 ;\n") ∷
+    marked "0x1F in typeof a;" (hasTrees (tree 3 0 4 1 0 ∷ tree 2 5 7 1 0 ∷ tree 2 8 14 1 0 ∷ tree 1 15 16 1 0 ∷ tree 6 16 17 1 0 ∷ []))
+    (hasParts (part 2 0 1 ∷ part 1 3 1 ∷ part 33 2 2 ∷ part 51 1 4 ∷ part 13 4 5 ∷ part 20 5 6 ∷ []))
+    (writes "0x1F in typeof a ;\n") ∷
+    marked "1e+3in" (gets 6 0)
+    (gets 6 0)
+    (gets 6 0) ∷
     []

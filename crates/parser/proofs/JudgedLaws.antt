@@ -6,8 +6,8 @@ use native.Mathlib.Omega.{arith}
 use lib.ListN.{length}
 use Rattle.answers.specs.declared.Answer.{Answer}
 use Rattle.tables.specs.Records.{mostSyntax, syntaxRoom}
-use Rattle.grammar.specs.Syntax.{Syntax, size, programSyntax, programTree}
-use Rattle.grammar.specs.Machinery.Machine.{endOfText, dead}
+use Rattle.machine.specs.Syntax.{Syntax, size, programSyntax, programTree}
+use Rattle.machine.specs.Machinery.Machine.{endOfText, dead}
 use Rattle.controls.specs.Machinery.Numbers.{settingBy}
 use Rattle.controls.specs.Machinery.Written.{putRecord, putSyntax}
 use Rattle.segments.specs.Machinery.Segments.{Segment, countOf}

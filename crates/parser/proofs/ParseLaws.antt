@@ -15,12 +15,12 @@ use Rattle.storing.specs.Records.{records}
 use Rattle.reading.specs.Read
 use Rattle.reading.specs.Read.{readLimits, readingFor, tableAfter}
 use Rattle.storing.proofs.CellLaws.{records-length}
-use Rattle.grammar.specs.Tokens.{Token, tokens}
-use Rattle.grammar.specs.Syntax.{Syntax, size, syntaxRecords, programTree}
-use Rattle.grammar.specs.TreeElements.{elementsOf}
-use Rattle.grammar.specs.Machinery.Machine.{State, run, start}
+use Rattle.derivations.specs.Tokens.{Token, tokens}
+use Rattle.machine.specs.Syntax.{Syntax, size, syntaxRecords, programTree}
+use Rattle.derivations.specs.TreeElements.{elementsOf}
+use Rattle.machine.specs.Machinery.Machine.{State, run, start}
 use Rattle.segments.specs.Machinery.Segments.{Segment, segment, countOf, Fine}
-use Rattle.grammar.proofs.ReadNames.{recorded-run}
+use Rattle.derivations.proofs.ReadNames.{recorded-run}
 use Rattle.segments.proofs.ReadSegments.{reading-fine, reading-tokens}
 use Rattle.parsing.specs.Parse.{syntaxFull, Parsing, program, denied, endToken, stateAfter, judged, fitting, parsed, parsingFor, answerOf, treesAfter, syntaxAfter}
 use Rattle.parser.specs.Machinery.Judged.{stateBehind, Built, Judged, judged-bad, judged-full, judged-program}

@@ -9,7 +9,7 @@ use borrow.Author.Tests.{lt-ltb}
 use lib.ListN.{length, drop, set, length-append}
 use lib.Seq.{sets, sets-eq}
 use Rattle.tables.specs.Records.{syntaxWidth}
-use Rattle.grammar.specs.Syntax.{Syntax, nil, node, snoc, size, syntaxRecords}
+use Rattle.machine.specs.Syntax.{Syntax, nil, node, snoc, size, syntaxRecords}
 use Rattle.controls.specs.Machinery.Written.{putRecord, putSyntax}
 use Rattle.controls.proofs.KeptLength.{syntax-kept-length}
 

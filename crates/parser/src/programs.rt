@@ -6,8 +6,8 @@ ghost use Rattle.segments.specs.Machinery.Segments.{Fine, segment, countOf};
 ghost use Rattle.parser.specs.Machinery.Judged.{Judged};
 use answers::Answer;
 use controls::records;
-use grammar::tokens;
 use groups::Parsed;
+use machine::tokens;
 use tables::TreeRecord;
 
 // The numbers that document 01's table gives a text that is no program, and a syntax table that is too short.

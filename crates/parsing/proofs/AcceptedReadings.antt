@@ -13,9 +13,9 @@ use Rattle.prefix.proofs.Sizes.{accepted-fits}
 use Rattle.tables.specs.Records.{roomFor}
 use Rattle.reading.specs.Read.{longText, mostBytes, mostGroups, readLimits, readingFor}
 use Rattle.reading.proofs.Formed.{Formed, reading-formed}
-use Rattle.grammar.specs.Derivations.{countTrees, deepestFrom}
-use Rattle.grammar.specs.TreeElements.{elementsOf}
-use Rattle.grammar.proofs.TreeSizes.{count-elements, deepest-elements}
+use Rattle.derivations.specs.Derivations.{countTrees, deepestFrom}
+use Rattle.derivations.specs.TreeElements.{elementsOf}
+use Rattle.derivations.proofs.TreeSizes.{count-elements, deepest-elements}
 
 pub record AcceptedReading (bytes : List ℕ) (cells : ℕ) (trees : Trees) : Type 0 where
   pub reads : reading bytes (readLimits cells) ≡ accepted trees

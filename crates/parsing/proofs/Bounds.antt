@@ -13,9 +13,9 @@ use Rattle.elements.specs.declared.Stated.{Stated}
 use Rattle.elements.proofs.Bounds.{found-placed}
 use Rattle.reading.specs.Read.{mostBytes, readLimits}
 use Rattle.reading.proofs.Theorems.{refused-place}
-use Rattle.grammar.specs.Cuts.{recorded, Cuts, cut-end, cut-element, cut-slash, cut-word}
-use Rattle.grammar.specs.Syntax.{size}
-use Rattle.grammar.proofs.ReadCuts.{reading-cuts}
+use Rattle.derivations.specs.Cuts.{recorded, Cuts, cut-end, cut-element, cut-slash, cut-word}
+use Rattle.machine.specs.Syntax.{size}
+use Rattle.derivations.proofs.ReadCuts.{reading-cuts}
 use Rattle.parsing.specs.Parse.{Parsing, parsingFor, answerOf}
 use Rattle.parsing.proofs.AcceptedReadings.{accepted-reading}
 use Rattle.parsing.specs.Verdict.{Refuses, at-element, at-end, Verdict, as-read, no-program, syntax-full, accepts}

@@ -6,10 +6,10 @@ use native.Mathlib.Omega.{arith}
 use Rattle.elements.specs.declared.Element.{Element}
 use Rattle.rule.specs.Trees.{Trees}
 use Rattle.prefix.specs.Reading.{Reading, accepted, refused}
-use Rattle.grammar.specs.Syntax.{size}
-use Rattle.grammar.specs.Derivations.{Derivation, syntaxTree, BeginsProgram}
-use Rattle.grammar.specs.TreeElements.{elementsOf}
-use Rattle.grammar.proofs.Theorems.{any-two-derivations, begins-shorter}
+use Rattle.machine.specs.Syntax.{size}
+use Rattle.derivations.specs.Derivations.{Derivation, syntaxTree, BeginsProgram}
+use Rattle.derivations.specs.TreeElements.{elementsOf}
+use Rattle.derivations.proofs.Theorems.{any-two-derivations, begins-shorter}
 use Rattle.parsing.specs.Parse.{Parsing}
 use Rattle.parsing.specs.Verdict.{Refuses, at-element, at-end, Verdict, as-read, no-program, syntax-full, accepts}
 

@@ -11,17 +11,17 @@ use Rattle.answers.specs.declared.Answer.{Answer}
 use Rattle.rule.specs.Trees.{Trees, count, deepest}
 use Rattle.prefix.specs.Reading.{Reading, accepted, refused, unlimited}
 use Rattle.reading.specs.Read.{readLimits, readingFor, tableAfter}
-use Rattle.reading.proofs.Theorems.{read-fits}
+use Rattle.reading.proofs.Theorems.{no-barred-sign, read-fits}
 use Rattle.reading.proofs.Formed.{Formed, reading-formed}
-use Rattle.grammar.specs.Syntax.{Syntax, size, programTree}
-use Rattle.grammar.specs.Derivations.{Derivation, countTrees, syntaxTree, deepestFrom}
-use Rattle.grammar.specs.TreeElements.{elementsOf}
-use Rattle.grammar.specs.Machinery.Machine.{State, dead, live, Control, Frame, Open, doneOf}
-use Rattle.grammar.proofs.TreeSizes.{count-elements, deepest-elements}
-use Rattle.grammar.proofs.Theorems.{no-program-differs, read-shown, few-parts-each-marked}
+use Rattle.machine.specs.Syntax.{Syntax, size, programTree}
+use Rattle.derivations.specs.Derivations.{Derivation, countTrees, syntaxTree, deepestFrom}
+use Rattle.derivations.specs.TreeElements.{elementsOf}
+use Rattle.machine.specs.Machinery.Machine.{State, dead, live, Control, Frame, Open, doneOf}
+use Rattle.derivations.proofs.TreeSizes.{count-elements, deepest-elements}
+use Rattle.derivations.proofs.Theorems.{no-program-differs, read-shown, few-parts-each-marked}
 use Rattle.tables.specs.Records.{syntaxRoom}
 use Rattle.parsing.specs.Limits.{WithinLimits, LongEnough}
-use Rattle.parsing.specs.Parse.{syntaxFull, Parses, Parsing, program, denied, stateAfter, judged, fitting, parsed, parsingFor, answerOf, treesAfter, syntaxAfter}
+use Rattle.parsing.specs.Parse.{noProgram, syntaxFull, Parses, Parsing, program, denied, stateAfter, judged, fitting, parsed, parsingFor, answerOf, treesAfter, syntaxAfter}
 use Rattle.parsing.proofs.AcceptedReadings.{AcceptedReading, accepted-reading}
 use Rattle.parsing.specs.Verdict.{Verdict, as-read, no-program, syntax-full, accepts, Left, CallVerdict, call-accepts, call-refuses}
 use Rattle.parsing.proofs.OneVerdict.{one-verdict}
@@ -94,6 +94,16 @@ module _ (text : List ℕ) (treeCells syntaxCells : ℕ) where
 -- One verdict: its cases exclude each other, and 13 has one place. So what `Verdict` says of an answer is said of no other one.
 pub only-verdict : (text : List ℕ) (treeCells syntaxCells : ℕ) {p : Parsing} → Verdict text treeCells syntaxCells p → p ≡ parsingFor text treeCells syntaxCells
 only-verdict text treeCells syntaxCells v = one-verdict text v (verdict text treeCells syntaxCells)
+
+-- Document 02, U4: "8 no longer occurs".
+pub parse-no-barred-sign : (text : List ℕ) (treeCells syntaxCells place : ℕ) → parsingFor text treeCells syntaxCells ≡ denied 8 place → ⊥
+parse-no-barred-sign text treeCells syntaxCells place = by (verdict text treeCells syntaxCells)
+  where
+    by : {q : Parsing} → Verdict text treeCells syntaxCells q → q ≡ denied 8 place → ⊥
+    by (as-read r) e = no-barred-sign text treeCells place (cc)
+    by (no-program n) e = let z : noProgram ≡ 8 = cc in omega arith
+    by (syntax-full f) e = let z : syntaxFull ≡ 8 = cc in omega arith
+    by (accepts a) e = let z : _≡_ {A = ℕ} 0 1 = cc in omega arith
 
 -- What has a derivation within the limits and tables is accepted.
 pub accepts-all : (text : List ℕ) (treeCells syntaxCells : ℕ) (d : Derivation text) → WithinLimits d → LongEnough d treeCells syntaxCells

@@ -10,20 +10,20 @@ use Rattle.elements.specs.declared.Element.{Element}
 use Rattle.rule.specs.Trees.{Trees}
 use Rattle.prefix.specs.Reading.{Limits, accepted, reading}
 use Rattle.prefix.proofs.LimitLaws.{accepted-unlimited}
-use Rattle.grammar.specs.Cuts.{isCloser}
-use Rattle.grammar.specs.Tokens.{Token, token, Spot, tokenOf, tokensFrom, tokens}
-use Rattle.grammar.specs.Syntax.{nil}
+use Rattle.derivations.specs.Cuts.{isCloser}
+use Rattle.derivations.specs.Tokens.{Token, token, Spot, tokenOf, tokensFrom, tokens}
+use Rattle.machine.specs.Syntax.{nil}
 use Rattle.grammar.specs.Grammar.{Program}
-use Rattle.grammar.specs.Derivations.{Derivation}
-use Rattle.grammar.specs.TreeElements.{elementsOf}
-use Rattle.grammar.specs.Machinery.Machine.{dead, live, Control, finished, Frame, frame, Open, doneOf, run, start}
+use Rattle.derivations.specs.Derivations.{Derivation}
+use Rattle.derivations.specs.TreeElements.{elementsOf}
+use Rattle.machine.specs.Machinery.Machine.{dead, live, Control, finished, Frame, frame, Open, doneOf, run, start}
 use Rattle.grammar.proofs.Complete.{complete-to-end}
 use Rattle.grammar.proofs.Sound.{sound-to-end}
-use Rattle.grammar.proofs.ReadCuts.{reading-cuts}
+use Rattle.derivations.proofs.ReadCuts.{reading-cuts}
 use Rattle.grammar.proofs.Deaths.{Death, death}
-use Rattle.grammar.proofs.Begins.{begins, still-going}
-use Rattle.grammar.proofs.FirstRefused.{first-refused}
-use Rattle.grammar.proofs.Theorems.{no-program-differs}
+use Rattle.derivations.proofs.Begins.{begins, still-going}
+use Rattle.derivations.proofs.FirstRefused.{first-refused}
+use Rattle.derivations.proofs.Theorems.{no-program-differs}
 use Rattle.parsing.specs.Parse.{endSpot, endToken, stateAfter}
 use Rattle.parsing.specs.Verdict.{Refuses, at-element, at-end}
 

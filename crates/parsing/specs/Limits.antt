@@ -4,8 +4,8 @@ use mathlib.Core.List.{List}
 use lib.ListN.{length}
 use Rattle.tables.specs.Records.{treeWidth, mostTrees, syntaxWidth, mostSyntax}
 use Rattle.reading.specs.Read.{mostBytes, mostGroups}
-use Rattle.grammar.specs.Syntax.{size}
-use Rattle.grammar.specs.Derivations.{Derivation, countTrees, syntaxTree, deepestFrom}
+use Rattle.machine.specs.Syntax.{size}
+use Rattle.derivations.specs.Derivations.{Derivation, countTrees, syntaxTree, deepestFrom}
 
 -- "A derivation is within the limits if its text has at most 262,144 bytes, at most 16,384 of its elements are not closers, its
 -- syntax tree has at most 16,385 records, and no opener stands inside 100 open groups."

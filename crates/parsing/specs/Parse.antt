@@ -10,11 +10,11 @@ use Rattle.answers.specs.declared.Answer.{Answer}
 use Rattle.rule.specs.Trees.{Trees, count}
 use Rattle.prefix.specs.Reading.{Reading, accepted, refused}
 use Rattle.reading.specs.Read.{readingFor, tableAfter}
-use Rattle.grammar.specs.Tokens.{Token, token, Spot, tokens}
+use Rattle.derivations.specs.Tokens.{Token, token, Spot, tokens}
 use Rattle.tables.specs.Records.{syntaxWidth, syntaxRoom}
-use Rattle.grammar.specs.Syntax.{Syntax, size, syntaxRecords, programTree}
-use Rattle.grammar.specs.TreeElements.{elementsOf}
-use Rattle.grammar.specs.Machinery.Machine.{endOfText, State, dead, live, doneOf, run, start}
+use Rattle.machine.specs.Syntax.{Syntax, size, syntaxRecords, programTree}
+use Rattle.derivations.specs.TreeElements.{elementsOf}
+use Rattle.machine.specs.Machinery.Machine.{endOfText, State, dead, live, doneOf, run, start}
 
 -- Document 01, Refused texts, row 13, no program: "first element with which the elements so far begin no program (limits aside);
 -- text length if none"

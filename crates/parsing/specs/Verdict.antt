@@ -9,10 +9,10 @@ use Rattle.rule.specs.Trees.{Trees}
 use Rattle.prefix.specs.Reading.{accepted, refused}
 use Rattle.reading.specs.Read.{readingFor, tableAfter}
 use Rattle.tables.specs.Records.{treeWidth, syntaxWidth}
-use Rattle.grammar.specs.Syntax.{Syntax, size, syntaxRecords}
-use Rattle.grammar.specs.Derivations.{Derivation, countTrees, syntaxTree, BeginsProgram}
-use Rattle.grammar.specs.TreeElements.{elementsOf}
-use Rattle.grammar.specs.Shown.{Shown}
+use Rattle.machine.specs.Syntax.{Syntax, size, syntaxRecords}
+use Rattle.derivations.specs.Derivations.{Derivation, countTrees, syntaxTree, BeginsProgram}
+use Rattle.derivations.specs.TreeElements.{elementsOf}
+use Rattle.derivations.specs.Shown.{Shown}
 use Rattle.parsing.specs.Limits.{WithinLimits, LongEnough}
 use Rattle.parsing.specs.Parse.{noProgram, syntaxFull, Parsing, program, denied, answerOf, treesAfter, syntaxAfter}
 
@@ -58,7 +58,8 @@ pub data Verdict (text : List ℕ) (treeCells syntaxCells : ℕ) : Parsing → T
   accepts : {trees : Trees} {syntax : Syntax} → Accepts text treeCells syntaxCells trees syntax → Verdict text treeCells syntaxCells (program trees syntax)
 
 -- what the call answers and leaves, of an accepted text: the count of the derivation's syntax records, these records and then the
--- old cells, and the tree cells that reading leaves, whose records show the derivation's regular expressions, words, objects and blocks, each record at its element's index
+-- old cells, and the tree cells that reading leaves, whose records show the derivation's regular expressions, words, objects and blocks, `++` and `--` before and after, and `:` of conditionals, each record at its element's
+-- index
 pub record Left (text trees syntax : List ℕ) (d : Derivation text) (parsing : Parsing) : Type 0 where
   pub counts : answerOf parsing ≡ Answer.Accepted (size (syntaxTree d))
   pub tree-cells : treesAfter parsing trees ≡ tableAfter (readingFor text (length trees)) trees

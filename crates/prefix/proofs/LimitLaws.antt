@@ -1,4 +1,4 @@
--- Laws of the limits of a reading: they change nothing that fits them, and refuse nothing else than what passes them.
+-- Laws of the limits of a reading: they change nothing that fits them, and of texts that are read without limits they refuse only those that pass them.
 use mathlib.Core.Path.{_≡_, refl, sym, _∙_}
 use mathlib.Core.Logic.{_⊎_, inl, inr}
 use mathlib.Core.List.{List}

@@ -5,7 +5,7 @@ use Prim.Native.Nat.{ℕ, _+_, max, _≤_, _<_}
 use native.Mathlib.Omega.{arith}
 use Rattle.elements.specs.declared.Element.{Element}
 use Rattle.rule.specs.Trees.{Trees, leaf, group, count, deepest}
-use Rattle.rule.specs.Levels.{Levels, wholeText, inside, depth, countSoFar, onTop}
+use Rattle.rule.specs.Levels.{Levels, wholeText, inside, settledIn, depth, countSoFar, onTop}
 use Rattle.prefix.specs.Reading.{Limits, accepted, readOn, reading}
 use Rattle.prefix.proofs.Induction.{Accepts, read-on-accepts, reading-accepts}
 use Rattle.prefix.proofs.StateLaws.{depth-on-top, count-on-top}
@@ -37,7 +37,7 @@ pub record Grown (limits : Limits) (levels after : Levels) : Type 0 where
 pub taken-grown : (e : Element) {limits : Limits} {levels after : Levels} → Taken limits e levels after → Grown limits levels after
 unfolding count deepest
 taken-grown e (leaf-taken {levels = levels} k r) =
-    let add : Trees → Trees = λ before. leaf before e in
+    let add : Trees → Trees = λ before. leaf before (settledIn levels e) in
     omega (arith, count-on-top add 1 (λ t. refl) levels, depth-on-top add levels, reached-on-top add 0 (λ t. omega arith) levels, depth-reached levels)
 taken-grown e (open-taken {levels = levels} l h d r) = omega arith
 taken-grown e (close-taken {around = around} {kind = kind} {first = first} {newline = newline} {trees = trees}) =

@@ -9,12 +9,12 @@ use Rattle.elements.specs.Elements.{delimiterKind, parenOpener, braceOpener, br
 use Rattle.elements.specs.declared.Element.{Element}
 use Rattle.elements.proofs.Choices.{cond-both, cond-known}
 use Rattle.rule.specs.Trees.{Trees, none, leaf, group, parenKind, objectKind, blockKind, bracketKind}
-use Rattle.rule.specs.Levels.{Levels, wholeText, inside, braceOpens, depth, countSoFar, onTop}
+use Rattle.rule.specs.Levels.{Levels, wholeText, inside, braceOpens, settledIn, depth, countSoFar, onTop}
 use Rattle.prefix.specs.Reading.{Limits, Step, stop, more, addLeaf, openGroup, closes, closeGroup, delimit, step, deep, wrongCloser, treesFull}
 
--- one element more, one group more, or one group ended; the first two within the limits
+-- one element more, of its settled kind, one group more, or one group ended; the first two within the limits
 pub data Taken (limits : Limits) (e : Element) : Levels → Levels → Type 0 where
-  leaf-taken : {levels : Levels} → (e .kind ≡ 0 → ⊥) → countSoFar levels < limits .room → Taken limits e levels (onTop (λ before. leaf before e) levels)
+  leaf-taken : {levels : Levels} → (e .kind ≡ 0 → ⊥) → countSoFar levels < limits .room → Taken limits e levels (onTop (λ before. leaf before (settledIn levels e)) levels)
   open-taken : {levels : Levels} {kind : ℕ} → 7 ≤ kind → kind ≤ 10 → depth levels < limits .groups → countSoFar levels < limits .room
       → Taken limits e levels (inside levels kind (e .first) (e .newline) none)
   close-taken : {around : Levels} {kind first : ℕ} {newline : Bool} {trees : Trees}

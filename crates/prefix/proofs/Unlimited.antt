@@ -13,7 +13,7 @@ use Rattle.elements.specs.declared.Next.{Next}
 use Rattle.elements.proofs.Choices.{cond-known}
 use Rattle.elements.proofs.Bounds.{found-placed, fault-number}
 use Rattle.rule.specs.Trees.{Trees, none, leaf, count, deepest, parenKind, objectKind, blockKind, bracketKind}
-use Rattle.rule.specs.Levels.{Levels, wholeText, inside, statedBy, braceOpens, depth, countSoFar, onTop}
+use Rattle.rule.specs.Levels.{Levels, wholeText, inside, statedBy, braceOpens, settledIn, depth, countSoFar, onTop}
 use Rattle.prefix.specs.Reading.{
   Limits,
   Step,
@@ -51,7 +51,7 @@ module _ (limits free : Limits) (levels : Levels) (e : Element) (some : countSoF
   leaf-under : StepUnder limits (addLeaf limits levels e) (addLeaf free levels e)
   unfolding count
   leaf-under =
-      let add : Trees → Trees = λ before. leaf before e in
+      let add : Trees → Trees = λ before. leaf before (settledIn levels e) in
       rw (lt-leb (free .room) (countSoFar levels) some)
       (cond-known (λ s. StepUnder limits s (more (onTop add levels))) (leb (limits .room) (countSoFar levels))
       (λ full. full-step (omega (arith, leb-true (limits .room) (countSoFar levels) full, count-on-top add 1 (λ t. refl) levels)))

@@ -10,7 +10,7 @@ use Rattle.elements.specs.Elements.{elementAt, delimiterKind, parenOpener, pare
 use Rattle.elements.specs.declared.Element.{Element}
 use Rattle.elements.specs.declared.Next.{Next}
 use Rattle.rule.specs.Trees.{Trees, none, leaf, group, parenKind, objectKind, blockKind, bracketKind}
-use Rattle.rule.specs.Levels.{Levels, wholeText, inside, statedBy, braceOpens, depth, countSoFar, onTop}
+use Rattle.rule.specs.Levels.{Levels, wholeText, inside, statedBy, settledIn, braceOpens, depth, countSoFar, onTop}
 
 -- Document 01, Refused texts, row 9, deep: "opener inside 100 open groups"; place: the opener
 abbrev pub deep : ℕ
@@ -39,11 +39,11 @@ pub data Step : Type 0 where
   stop : ℕ → ℕ → Step
   more : Levels → Step
 
--- an element that is no delimiter; 12 where "an element needs a record and the table or 16,384 is used up"
+-- an element that is no delimiter, with the kind that the rule settles; 12 where "an element needs a record and the table or 16,384 is used up"
 abbrev pub addLeaf : Limits → Levels → Element → Step
 addLeaf limits levels e =
     cond (leb (limits .room) (countSoFar levels)) (stop treesFull (e .first))
-    (more (onTop (λ before. leaf before e) levels))
+    (more (onTop (λ before. leaf before (settledIn levels e)) levels))
 
 -- an opener of a group of that kind; 9 precedes 12
 abbrev pub openGroup : Limits → Levels → ℕ → Element → Step

@@ -6,7 +6,7 @@ ghost use lib.ListN.{length};
 ghost use Rattle.rule.specs.Trees.{none};
 ghost use Rattle.rule.specs.Levels.{Levels, wholeText};
 ghost use Rattle.prefix.specs.Reading.{openGroup, closes, closeGroup};
-ghost use Rattle.prefix.specs.Machinery.Represents.{Represents, Follows, States, Delimits, AddsLeaf};
+ghost use Rattle.prefix.specs.Machinery.Represents.{Represents, Follows, States, Settles, Delimits, AddsLeaf};
 use elements::Element;
 use elements::Stated;
 
@@ -18,6 +18,13 @@ pub const OBJECT: u32 = summaries::OBJECT;
 pub const BLOCK: u32 = summaries::BLOCK;
 
 pub const BRACKETS: u32 = summaries::BRACKETS;
+
+// The kinds of `++` and `--` before and after their operand, and of a `:` that answers a `?`.
+pub const BEFORE: u32 = summaries::BEFORE;
+
+pub const AFTER: u32 = summaries::AFTER;
+
+pub const ANSWER: u32 = summaries::ANSWER;
 
 // The numbers that document 01's table gives the faults of levels.
 pub const DEEP: u32 = 9;
@@ -61,9 +68,25 @@ pub fn stated_by(state: State) -> Stated
     summaries::stated_by(state.level)
 }
 
-// The state with a leaf more: an element that is no delimiter.
+// An element with the kind that the prefix rule settles in a state: only a sign's is left open by its bytes.
+pub fn settled(state: State, e: Element) -> Element
+    ensures { λ r. ⌜ Settles state e r ⌝ }
+{
+    if e.kind != elements::SIGN {
+        return e;
+    }
+    Element {
+        kind: summaries::settled(state.level, e.which, e.newline),
+        which: e.which,
+        first: e.first,
+        end: e.end,
+        newline: e.newline,
+    }
+}
+
+// The state with a leaf more: an element that is no delimiter, of its settled kind.
 pub fn with_leaf(state: State, e: Element) -> State
-    requires { ⌜ state .records < 2 ^ 32 ⌝ }
+    requires { ⌜ (state .level < 2 ^ 31) × (state .records < 2 ^ 32) ⌝ }
     ensures { λ r. ⌜ AddsLeaf state e r ⌝ }
 {
     State {
@@ -130,7 +153,7 @@ fn close_group(stack: &[u32], state: State, e: Element) -> Advanced
     if stack.len() / 2 < depth {
         return Advanced::Stopped(WRONG_CLOSER, e.first);
     }
-    let kind = state.level / summaries::SUMMARIES;
+    let kind = summaries::kind_in(state.level);
     if !is_closed_by(kind, e.which) {
         return Advanced::Stopped(WRONG_CLOSER, e.first);
     }

@@ -27,7 +27,7 @@ module _ (before now stack : List ℕ) (room : ℕ) (state : State) where
       → getD stack (2 * (state .depth - 1) + 1) 0 ≡ countSoFar around
   index around kind first newline trees h =
       let e : state .depth - 1 ≡ depth around = omega (arith, h .represented .depth-is) in
-      rw e (h .represented .stacked .1)
+      rw e (h .represented .stacked .2)
 
   pub index-small : (levels : Levels) → Holds before now stack room state levels → (state .depth ≡ 0 → ⊥)
       → getD stack (2 * (state .depth - 1) + 1) 0 < state .records

@@ -58,7 +58,14 @@ refused-place text cells number place = go (leb (length text) mostBytes) refl
 -- Its number is that of a row from 1 to 12, so that it is no 13, 14 or 15.
 pub refused-number : (text : List ℕ) (cells number place : ℕ) → readingFor text cells ≡ refused number place → (1 ≤ number) × (number ≤ 12)
 unfolding readingFor
-refused-number text cells = first-numbered text (readLimits cells)
+refused-number text cells number place e =
+    let n = first-numbered text (readLimits cells) number place e in
+    (n .0, n .1)
+
+-- Document 02, U4: "8 no longer occurs".
+pub no-barred-sign : (text : List ℕ) (cells place : ℕ) → readingFor text cells ≡ refused 8 place → ⊥
+unfolding readingFor
+no-barred-sign text cells place e = first-numbered text (readLimits cells) 8 place e .2 refl
 
 -- The count of an accepted reading is at most 16,384, and what the table has room for.
 pub accepted-count : (text : List ℕ) (cells : ℕ) (trees : Trees) → readingFor text cells ≡ accepted trees → count trees ≤ roomFor cells

@@ -5,8 +5,8 @@ use mathlib.Core.List.{List, _∷_, _++_}
 use Prim.Native.Nat.{ℕ, _+_, _-_}
 use Rattle.elements.specs.declared.Element.{Element}
 use Rattle.rule.specs.Trees.{Trees, leaf, group, count}
-use Rattle.rule.specs.Rule.{elementClass, backwards}
-use Rattle.rule.specs.Levels.{Levels, wholeText, inside, kindOf, treesOf, statedBy, braceOpens, depth, countSoFar, onTop}
+use Rattle.rule.specs.Rule.{elementClass, backwards, settledKind}
+use Rattle.rule.specs.Levels.{Levels, wholeText, inside, kindOf, treesOf, statedBy, braceOpens, settledIn, depth, countSoFar, onTop}
 use Rattle.elements.specs.Lexemes.{bytesOf, SameElement}
 use Rattle.spacing.specs.Respaced.{space, separator, addElement, addCloser, addTrees}
 use Rattle.respacer.specs.Alike.{Alike, alike-none, alike-leaf, alike-group}
@@ -50,6 +50,12 @@ module _ {s t : List ℕ} where
 
   pub alike-brace : {levels others : Levels} → AlikeLevels s t levels others → (newline : Bool) → braceOpens levels newline ≡ braceOpens others newline
   alike-brace alike newline = rw (alike-kind alike, alike-trees alike)
+
+  -- an element has the same settled kind at other places
+  pub alike-settled : {levels others : Levels} → AlikeLevels s t levels others → (e : Element) (start stop : ℕ)
+      → settledIn levels e .kind ≡ settledIn others (record { kind = e .kind; which = e .which; first = start; end = stop; newline = e .newline }) .kind
+  unfolding settledKind
+  alike-settled alike e start stop = rw (alike-kind alike, alike-trees alike)
 
   pub alike-depth : {levels others : Levels} → AlikeLevels s t levels others → depth levels ≡ depth others
   alike-depth (alike-text trees) = refl

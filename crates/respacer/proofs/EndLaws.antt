@@ -26,4 +26,4 @@ pub end-unclosed : (bytes old output stack : List ℕ) (state : State) (at place
 end-unclosed bytes old output stack state at place (wholeText trees) h z next = absurd (z (h .represented .depth-is))
 end-unclosed bytes old output stack state at place (inside around kind first newline trees) h z next =
     let e : state .depth - 1 ≡ depth around = omega (arith, h .represented .depth-is) in
-    ap (Answer.Refused unclosed) (rw e (h .represented .stacked .1))
+    ap (Answer.Refused unclosed) (rw e (h .represented .stacked .2))

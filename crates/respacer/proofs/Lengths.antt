@@ -6,7 +6,7 @@ use native.Mathlib.Omega.{arith}
 use lib.ListN.{length, length-append}
 use Rattle.elements.specs.declared.Element.{Element}
 use Rattle.elements.proofs.Bounds.{Placed, found-placed}
-use Rattle.rule.specs.Levels.{Levels, wholeText, inside, statedBy}
+use Rattle.rule.specs.Levels.{Levels, wholeText, inside, statedBy, settledIn}
 use Rattle.prefix.specs.Reading.{Limits, Reading, accepted, refused, ending, reading}
 use Rattle.prefix.proofs.Induction.{reading-tells}
 use Rattle.prefix.proofs.StepCases.{Taken, leaf-taken, open-taken, close-taken, step-taken}
@@ -41,7 +41,7 @@ short-taken : (bytes : List ℕ) (place : ℕ) (e : Element) → Placed bytes pl
     → Short bytes levels place → Short bytes after (e .end)
 unfolding addTrees
 short-taken bytes place e p (leaf-taken {levels = levels} n r) s =
-    rw (written-leaf bytes e levels) (omega (arith, element-length bytes (writtenOf bytes levels) (e .first) (e .end) (omega (arith, p .some)) (p .within) (e .newline), p .from, p .some))
+    rw (written-leaf bytes (settledIn levels e) levels) (omega (arith, element-length bytes (writtenOf bytes levels) (e .first) (e .end) (omega (arith, p .some)) (p .within) (e .newline), p .from, p .some))
 short-taken bytes place e p (open-taken {levels = levels} l h d r) s =
     omega (arith, element-length bytes (writtenOf bytes levels) (e .first) (e .first + 1) (omega arith) (omega (arith, p .some, p .within)) (e .newline), p .from, p .some)
 short-taken bytes place e p (close-taken {around = around} {kind = kind} {first = first} {newline = newline} {trees = trees}) s =

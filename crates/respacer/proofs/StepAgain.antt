@@ -10,12 +10,12 @@ use lib.Dec.{eqb, leb}
 use Rattle.elements.specs.Elements.{delimiterKind, parenOpener, braceOpener, bracketOpener}
 use Rattle.elements.specs.declared.Element.{Element}
 use Rattle.rule.specs.Trees.{none, leaf, group, parenKind, objectKind, blockKind, bracketKind}
-use Rattle.rule.specs.Levels.{Levels, inside, braceOpens, depth, countSoFar, onTop}
+use Rattle.rule.specs.Levels.{Levels, inside, braceOpens, settledIn, depth, countSoFar, onTop}
 use Rattle.prefix.specs.Reading.{Limits, Step, stop, more, addLeaf, openGroup, closes, closeGroup, step, deep, treesFull, wrongCloser}
 use Rattle.prefix.proofs.StepCases.{not-more}
 use Rattle.elements.specs.Lexemes.{bytesOf}
 use Rattle.respacer.specs.Alike.{alike-none}
-use Rattle.respacer.proofs.AlikeLevels.{AlikeLevels, alike-text, alike-inside, alike-brace, alike-depth, alike-so-far, alike-leaf-more, alike-group-more}
+use Rattle.respacer.proofs.AlikeLevels.{AlikeLevels, alike-text, alike-inside, alike-brace, alike-settled, alike-depth, alike-so-far, alike-leaf-more, alike-group-more}
 use Rattle.respacer.proofs.StepWrites.{stepBy, lineBut, lineWritten}
 use Rattle.spacing.proofs.FoundAgain.{moved}
 
@@ -42,15 +42,15 @@ module _ (s t : List ℕ) (limits : Limits) (e : Element) (start : ℕ) (after :
   leaf-again : {levels others : Levels} → AlikeLevels s t levels others → addLeaf limits levels e ≡ more after → Reaches s t after (addLeaf limits others (moved e start (e .newline)))
   leaf-again {levels} {others} alike m = rw (← alike-so-far alike) (go (leb (limits .room) (countSoFar levels)) m)
     where
-      go : (full : Bool) → cond full (stop treesFull (e .first)) (more (onTop (λ before. leaf before e) levels)) ≡ more after
-          → Reaches s t after (cond full (stop treesFull start) (more (onTop (λ before. leaf before (moved e start (e .newline))) others)))
+      go : (full : Bool) → cond full (stop treesFull (e .first)) (more (onTop (λ before. leaf before (settledIn levels e)) levels)) ≡ more after
+          → Reaches s t after (cond full (stop treesFull start) (more (onTop (λ before. leaf before (settledIn others (moved e start (e .newline)))) others)))
       go true m = not-more m
       go false m =
-          let is : onTop (λ before. leaf before e) levels ≡ after = cc in
+          let is : onTop (λ before. leaf before (settledIn levels e)) levels ≡ after = cc in
           record {
-            then = onTop (λ before. leaf before (moved e start (e .newline))) others;
+            then = onTop (λ before. leaf before (settledIn others (moved e start (e .newline)))) others;
             goes = refl;
-            alike = rw (← is) (alike-leaf-more alike (record { kind = refl; which = refl; newline = refl; bytes = same }));
+            alike = rw (← is) (alike-leaf-more alike (record { kind = alike-settled alike e start (start + (e .end - e .first)); which = refl; newline = refl; bytes = same }));
           }
 
   module _ (single : e .end ≡ e .first + 1) where

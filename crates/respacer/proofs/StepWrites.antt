@@ -10,7 +10,7 @@ use lib.ListN.{length}
 use Rattle.elements.specs.Elements.{delimiterKind, parenOpener, braceOpener, bracketOpener}
 use Rattle.elements.specs.declared.Element.{Element}
 use Rattle.rule.specs.Trees.{none, leaf, group, parenKind, objectKind, blockKind, bracketKind}
-use Rattle.rule.specs.Levels.{Levels, wholeText, inside, braceOpens, depth, countSoFar, onTop}
+use Rattle.rule.specs.Levels.{Levels, wholeText, inside, braceOpens, settledIn, depth, countSoFar, onTop}
 use Rattle.prefix.specs.Reading.{Limits, Step, stop, more, addLeaf, openGroup, closes, closeGroup, step, deep, treesFull, wrongCloser}
 use Rattle.prefix.proofs.StepCases.{not-more}
 use Rattle.spacing.specs.Respaced.{addElement, addCloser, addTrees}
@@ -44,12 +44,12 @@ module _ (s : List ℕ) (limits : Limits) (e : Element) (after : Levels) where
   leaf-written : (levels : Levels) → addLeaf limits levels e ≡ more after → writtenOf s after ≡ addElement s (writtenOf s levels) (e .first) (e .end) (e .newline)
   leaf-written levels = go (leb (limits .room) (countSoFar levels))
     where
-      go : (full : Bool) → cond full (stop treesFull (e .first)) (more (onTop (λ before. leaf before e) levels)) ≡ more after
+      go : (full : Bool) → cond full (stop treesFull (e .first)) (more (onTop (λ before. leaf before (settledIn levels e)) levels)) ≡ more after
           → writtenOf s after ≡ addElement s (writtenOf s levels) (e .first) (e .end) (e .newline)
       go true m = not-more m
       go false m =
-          let is : onTop (λ before. leaf before e) levels ≡ after = cc in
-          rw (← is) (written-leaf s e levels)
+          let is : onTop (λ before. leaf before (settledIn levels e)) levels ≡ after = cc in
+          rw (← is) (written-leaf s (settledIn levels e) levels)
 
   module _ (single : e .end ≡ e .first + 1) where
     open-written : (levels : Levels) (kind : ℕ) → openGroup limits levels kind e ≡ more after

@@ -75,7 +75,22 @@ respace-deep text = first-deep text respaceLimits
 -- What refuses the reading has a number from 1 to 12, so that 15 is given for the output alone.
 pub respace-number : (text : List ℕ) (number place : ℕ) → wholeReading text ≡ refused number place → (1 ≤ number) × (number ≤ 12)
 unfolding wholeReading
-respace-number text = first-numbered text respaceLimits
+respace-number text number place e =
+    let n = first-numbered text respaceLimits number place e in
+    (n .0, n .1)
+
+-- Document 02, U4: "8 no longer occurs".
+pub respace-no-barred-sign : (text : List ℕ) (room place : ℕ) → respacingFor text room ≡ denied 8 place → ⊥
+unfolding wholeReading
+respace-no-barred-sign text room place = go (wholeReading text) refl
+  where
+    fit : (output : List ℕ) (b : Bool) → cond b (written output) (denied outputFull (length text)) ≡ denied 8 place → ⊥
+    fit output true e = let z : _≡_ {A = ℕ} 0 1 = cc in omega arith
+    fit output false e = let z : outputFull ≡ 8 = cc in omega arith
+
+    go : (r : Reading) → wholeReading text ≡ r → fitted text room r ≡ denied 8 place → ⊥
+    go (accepted trees) q e = fit (respaced text trees) (leb (length (respaced text trees)) room) e
+    go (refused number at) q e = first-numbered text respaceLimits number at q .2 (cc)
 
 -- The count of bytes, or the place of a refusal, is small.
 pub value-bounded : (text : List ℕ) (room : ℕ) → valueOf (answerOf (respacingFor text room)) ≤ 2 * mostBytes + 1

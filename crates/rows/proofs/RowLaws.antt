@@ -1,30 +1,33 @@
 -- Rows of statements and behind operands, by the classes that they list.
 use mathlib.Core.Path.{_≡_, refl, _∙_}
-use mathlib.Core.Bool.{Bool, true, false, cond, _&&_}
+use mathlib.Core.Bool.{Bool, true, false, cond}
 use mathlib.Core.List.{List, [], _∷_}
 use Prim.Native.Nat.{ℕ, zero, suc, _≤_}
 use native.Mathlib.Omega.{arith}
-use borrow.Author.Tests.{ne-eqb, eqb-true}
-use lib.Dec.{T, eqb, ltb, ltb→lt}
-use Rattle.text.proofs.Range.{and-left, and-right}
-use Rattle.grammar.specs.Tokens.{name, assign, semicolon, dot, comma, openParen, openBrace, openBracket, returnWord, functionWord, ifWord}
-use Rattle.grammar.specs.Grammar.{Items, callArguments, arrayElements, objectProperties, body, block, Operator, operator, operators, precedenceAmong, precedence}
-use Rattle.grammar.specs.Machinery.Machine.{ifNest, Setting, among, inNest, Ending, byStatement, byReturn, byParen, byBracket, byItem, Control, statementDue, operandDue, itemDue, takeOperator, Entry, fail, goto, look, leaves, operand, noStatement, operatorRow, behindComma, endingRow, besidesOperators, afterOperand, row}
+use borrow.Author.Tests.{ne-eqb}
+use lib.Dec.{T, eqb}
+use Rattle.machine.specs.Tokens.{name, question, semicolon, comma, colon, openBrace, returnWord, functionWord, ifWord}
+use Rattle.machine.specs.Operators.{assignmentOperators, binaryOperators, postfixOperators, postfixKind, isAmong}
+use Rattle.machine.specs.Scopes.{Items, callArguments, arrayElements, objectProperties, body, block}
+use Rattle.machine.specs.Machinery.Machine.{ifNest, Setting, among, inNest, Ending, byStatement, byReturn, byParen, byBracket, byColon, byItem, Control, statementDue, operandDue, postfixDone, itemDue, takeOperator, takePostfix, Entry, on, fail, goto, ask, look, beginnings, operand, noStatement, behindComma, commaAction, endingRow, afterUnary, assignmentRow, postfixRow, row}
+use Rattle.machine.specs.Machinery.Classes.{isSingle}
 use Rattle.controls.specs.declared.Step.{Step}
 use Rattle.controls.specs.Machinery.Numbers.{itemsBy, endingBy}
-use Rattle.grammar.specs.Machinery.Classes.{isSingle}
-use Rattle.controls.specs.Machinery.Steps.{Means}
+use Rattle.controls.specs.Machinery.Steps.{takesComma, Means}
 use Rattle.controls.proofs.EndLaws.{NoCloser, at-closers, besides-closers}
+use Rattle.controls.proofs.ClassLaws.{among-all, not-among}
+use Rattle.controls.proofs.NumberLaws.{item-ending}
+use Rattle.forms.proofs.EntryLaws.{among-entry, other-entry}
 
 -- where a statement is due, a class that starts no statement of its own starts an operand, or ends the level
 module _ {class : ℕ} (no-name : class ≡ name → ⊥) (no-if : class ≡ ifWord → ⊥) (no-return : class ≡ returnWord → ⊥)
     (no-block : class ≡ openBrace → ⊥) (no-function : class ≡ functionWord → ⊥) where
-  only-leaves : (ending : Ending) (target : Bool) → look class (operand ending target) ≡ look class (leaves ending target [])
-  only-leaves ending target = simp (ne-eqb class name no-name, ne-eqb class openBrace no-block, ne-eqb class functionWord no-function)
+  only-beginnings : (ending : Ending) (target : Bool) → look class (operand ending target) ≡ look class (beginnings ending target [])
+  only-beginnings ending target = simp (ne-eqb class name no-name, ne-eqb class openBrace no-block, ne-eqb class functionWord no-function)
 
-  statement-leaves : (must : Bool) (setting : Setting) (newline : Bool)
-      → look class (row (statementDue must setting) newline) ≡ look class (leaves (byStatement setting) true (noStatement must setting))
-  statement-leaves must setting newline =
+  statement-beginnings : (must : Bool) (setting : Setting) (newline : Bool)
+      → look class (row (statementDue must setting) newline) ≡ look class (beginnings (byStatement setting) true (noStatement must setting))
+  statement-beginnings must setting newline =
       simp (ne-eqb class name no-name, ne-eqb class openBrace no-block, ne-eqb class ifWord no-if, ne-eqb class returnWord no-return)
 
   nothing-else : (must : Bool) (setting : Setting) → NoCloser class → look class (noStatement must setting) ≡ fail
@@ -37,9 +40,9 @@ module _ {class : ℕ} (no-name : class ≡ name → ⊥) (no-if : class ≡ ifW
       → Means from class step (look class (operand (byStatement setting) true))
       → Means from class step (look class (row (statementDue must setting) newline))
   statement-operand must setting newline m =
-      rw (statement-leaves must setting newline)
-      (besides-closers (rw (only-leaves (byStatement setting) true) at m)
-      (at-closers (λ (k : ℕ). look k (leaves (byStatement setting) true []) ≡ fail) refl refl refl refl class)
+      rw (statement-beginnings must setting newline)
+      (besides-closers (rw (only-beginnings (byStatement setting) true) at m)
+      (at-closers (λ (k : ℕ). look k (beginnings (byStatement setting) true []) ≡ fail) refl refl refl refl class)
       (λ h. rw (nothing-else must setting h)))
 
 -- `function` declares nothing in a block or a nest
@@ -47,97 +50,110 @@ pub function-nowhere : (b : Bool) → look functionWord (noStatement false (cond
 function-nowhere true = refl
 function-nowhere false = refl
 
--- `;` ends no group and no item; `,` ends items alone
-pub semicolon-nowhere : (a b : Bool) (items : Items) → look semicolon (endingRow (cond a byParen (cond b byBracket (byItem items)))) ≡ fail
-semicolon-nowhere true b items = refl
-semicolon-nowhere false true items = refl
-semicolon-nowhere false false callArguments = refl
-semicolon-nowhere false false arrayElements = refl
-semicolon-nowhere false false objectProperties = refl
+-- `;` ends no group, no item and no middle of a conditional
+pub semicolon-nowhere : (a b c : Bool) (items : Items)
+    → look semicolon (endingRow (cond a byParen (cond b byBracket (cond c byColon (byItem items))))) ≡ fail
+semicolon-nowhere true b c items = refl
+semicolon-nowhere false true c items = refl
+semicolon-nowhere false false true items = refl
+semicolon-nowhere false false false callArguments = refl
+semicolon-nowhere false false false arrayElements = refl
+semicolon-nowhere false false false objectProperties = refl
 
-pub comma-nowhere : (ending setting : ℕ) → ending ≤ 3 → look comma (endingRow (endingBy ending setting)) ≡ fail
+-- `:` ends nothing else
+pub colon-nowhere : (ending setting : ℕ) → (ending ≡ 4 → ⊥) → look colon (endingRow (endingBy ending setting)) ≡ fail
 unfolding endingBy
-comma-nowhere ending setting h = go ending h
+colon-nowhere ending setting other = go ending other
   where
-    go : (k : ℕ) → k ≤ 3 → look comma (endingRow (endingBy k setting)) ≡ fail
-    go zero h = refl
-    go (suc zero) h = refl
-    go (suc (suc zero)) h = refl
-    go (suc (suc (suc zero))) h = refl
+    items : (x : Items) → look colon (endingRow (byItem x)) ≡ fail
+    items callArguments = refl
+    items arrayElements = refl
+    items objectProperties = refl
+
+    go : (k : ℕ) → (k ≡ 4 → ⊥) → look colon (endingRow (endingBy k setting)) ≡ fail
+    go zero other = refl
+    go (suc zero) other = refl
+    go (suc (suc zero)) other = refl
+    go (suc (suc (suc zero))) other = refl
+    go (suc (suc (suc (suc zero)))) other = absurd (other refl)
+    go (suc (suc (suc (suc (suc n))))) other =
+        let k = suc (suc (suc (suc (suc n)))) in
+        rw (item-ending k setting (omega arith)) (items (itemsBy k))
+
+-- in a statement or a group `,` is an operator
+pub comma-operator : (ending setting : ℕ) → ending ≤ 3
+    → (look comma (endingRow (endingBy ending setting)) ≡ commaAction (endingBy ending setting)) × T (takesComma (endingBy ending setting))
+unfolding endingBy
+comma-operator ending setting h = go ending h
+  where
+    go : (k : ℕ) → k ≤ 3 → (look comma (endingRow (endingBy k setting)) ≡ commaAction (endingBy k setting)) × T (takesComma (endingBy k setting))
+    go zero h = (refl, tt)
+    go (suc zero) h = (refl, tt)
+    go (suc (suc zero)) h = (refl, tt)
+    go (suc (suc (suc zero))) h = (refl, tt)
     go (suc (suc (suc (suc n)))) h = absurd (omega arith)
 
 -- behind a `,` another element or property is due, or the closer
-pub item-next : (ending : ℕ) → (ending ≡ 4 → ⊥) → itemDue (itemsBy ending) ≡ behindComma (itemsBy ending)
+pub item-next : (ending : ℕ) → (ending ≡ 5 → ⊥) → itemDue (itemsBy ending) ≡ behindComma (itemsBy ending)
 unfolding itemsBy
-item-next ending other = rw (ne-eqb ending 4 other) (go (eqb ending 5))
+item-next ending other = rw (ne-eqb ending 5 other) (go (eqb ending 6))
   where
     go : (b : Bool) → itemDue (cond b arrayElements objectProperties) ≡ behindComma (cond b arrayElements objectProperties)
     go true = refl
     go false = refl
 
--- operators: each binds, and is one record's alone
-fit : List Operator → Bool
-fit [] = true
-fit (operator class tight ∷ more) = ltb 0 tight && (isSingle class && fit more)
+module _ (class : ℕ) (ending : Ending) where
+  -- binary operators at once, and a class that follows no Unary
+  pub binary-next : isAmong binaryOperators class ≡ true
+      → (look class (afterUnary ending) ≡ goto (operandDue ending false) (takeOperator class)) × T (isSingle class)
+  binary-next is = (
+    among-entry class (λ class. goto (operandDue ending false) (takeOperator class)) binaryOperators (on question (ask ending) ∷ endingRow ending) is,
+    among-all class isSingle binaryOperators tt is,
+  )
 
-fit-first : (class tight : ℕ) (more : List Operator) → T (fit (operator class tight ∷ more)) → (1 ≤ tight) × T (isSingle class) × T (fit more)
-unfolding fit
-fit-first class tight more fits =
-    let rest = and-right (ltb 0 tight) (isSingle class && fit more) fits in
-    (ltb→lt 0 tight (and-left (ltb 0 tight) (isSingle class && fit more) fits), and-left (isSingle class) (fit more) rest, and-right (isSingle class) (fit more) rest)
-
-module _ (class : ℕ) where
-  operator-entry : (ending : Ending) (all : List Operator) (rest : List Entry) → 1 ≤ precedenceAmong all class
-      → look class (operatorRow ending all rest) ≡ goto (operandDue ending false) (takeOperator class)
-  operator-entry ending [] rest binds = absurd (omega arith)
-  operator-entry ending (operator x tight ∷ more) rest binds = go (eqb class x) refl binds (operator-entry ending more rest)
-    where
-      go : (b : Bool) → eqb class x ≡ b → 1 ≤ cond b tight (precedenceAmong more class)
-          → (1 ≤ precedenceAmong more class → look class (operatorRow ending more rest) ≡ goto (operandDue ending false) (takeOperator class))
-          → cond b (goto (operandDue ending false) (takeOperator x)) (look class (operatorRow ending more rest)) ≡ goto (operandDue ending false) (takeOperator class)
-      go true e binds later = rw (eqb-true class x e)
-      go false e binds later = later binds
-
-  operator-single : (all : List Operator) → T (fit all) → 1 ≤ precedenceAmong all class → T (isSingle class)
-  operator-single [] fits binds = absurd (omega arith)
-  operator-single (operator x tight ∷ more) fits binds = go (eqb class x) refl binds (operator-single more (fit-first x tight more fits .2))
-    where
-      go : (b : Bool) → eqb class x ≡ b → 1 ≤ cond b tight (precedenceAmong more class)
-          → (1 ≤ precedenceAmong more class → T (isSingle class)) → T (isSingle class)
-      go true e binds later = rw (eqb-true class x e) (fit-first x tight more fits .1)
-      go false e binds later = later binds
-
-  no-operator : (ending : Ending) (all : List Operator) (rest : List Entry) → T (fit all) → precedenceAmong all class ≡ 0
-      → look class (operatorRow ending all rest) ≡ look class rest
-  no-operator ending [] rest fits none = refl
-  no-operator ending (operator x tight ∷ more) rest fits none =
-      go (eqb class x) none (no-operator ending more rest (fit-first x tight more fits .2))
-    where
-      go : (b : Bool) → cond b tight (precedenceAmong more class) ≡ 0
-          → (precedenceAmong more class ≡ 0 → look class (operatorRow ending more rest) ≡ look class rest)
-          → cond b (goto (operandDue ending false) (takeOperator x)) (look class (operatorRow ending more rest)) ≡ look class rest
-      go true none later = absurd (omega (arith, fit-first x tight more fits .0))
-      go false none later = later none
-
-  pub operator-next : (ending : Ending) (target : Bool) → 1 ≤ precedence class
-      → (look class (afterOperand ending target) ≡ goto (operandDue ending false) (takeOperator class)) × T (isSingle class)
-  unfolding fit
-  operator-next ending target binds =
-      (operator-entry ending operators (besidesOperators ending target) binds, operator-single operators tt binds)
-
-  -- a class that follows no operand
-  pub none-next : (ending : Ending) (target : Bool) → precedence class ≡ 0 → (class ≡ dot → ⊥) → (class ≡ openParen → ⊥) → (class ≡ assign → ⊥)
-      → (class ≡ semicolon → ⊥) → (class ≡ comma → ⊥) → (class ≡ openBracket → ⊥) → NoCloser class → look class (afterOperand ending target) ≡ fail
-  unfolding fit
-  none-next ending target none a b c d e f h =
-      no-operator ending operators (besidesOperators ending target) tt none
-      ∙ simp (ne-eqb class dot a, ne-eqb class openParen b, ne-eqb class openBracket f, ne-eqb class assign c) (ends ending)
+  pub none-next : isAmong binaryOperators class ≡ false → (class ≡ semicolon → ⊥) → (class ≡ comma → ⊥) → (class ≡ question → ⊥) → (class ≡ colon → ⊥)
+      → NoCloser class → look class (afterUnary ending) ≡ fail
+  none-next none a b c d h =
+      other-entry class (λ class. goto (operandDue ending false) (takeOperator class)) binaryOperators (on question (ask ending) ∷ endingRow ending) none
+      ∙ rw (ne-eqb class question c) (ends ending)
     where
       ends : (ending : Ending) → look class (endingRow ending) ≡ fail
-      ends (byStatement setting) = rw (ne-eqb class semicolon d)
-      ends (byReturn setting) = rw (ne-eqb class semicolon d)
-      ends byParen = rw (h .no-paren)
-      ends byBracket = rw (h .no-bracket)
-      ends (byItem callArguments) = rw (ne-eqb class comma e, h .no-paren)
-      ends (byItem arrayElements) = rw (ne-eqb class comma e, h .no-bracket)
-      ends (byItem objectProperties) = rw (ne-eqb class comma e, h .no-brace)
+      ends (byStatement setting) = rw (ne-eqb class semicolon a, ne-eqb class comma b)
+      ends (byReturn setting) = rw (ne-eqb class semicolon a, ne-eqb class comma b)
+      ends byParen = rw (h .no-paren, ne-eqb class comma b)
+      ends byBracket = rw (h .no-bracket, ne-eqb class comma b)
+      ends byColon = rw (ne-eqb class colon d)
+      ends (byItem callArguments) = rw (ne-eqb class comma b, h .no-paren)
+      ends (byItem arrayElements) = rw (ne-eqb class comma b, h .no-bracket)
+      ends (byItem objectProperties) = rw (ne-eqb class comma b, h .no-brace)
+
+  -- `++` and `--`, and assignments
+  module _ (rest : List Entry) where
+    pub postfix-next : isAmong postfixOperators class ≡ true
+        → (look class (postfixRow ending false rest) ≡ goto (postfixDone ending) (takePostfix (postfixKind class))) × T (isSingle class)
+    postfix-next is = (
+      among-entry class (λ class. goto (postfixDone ending) (takePostfix (postfixKind class))) postfixOperators rest is,
+      among-all class isSingle postfixOperators tt is,
+    )
+
+    pub no-postfix : isAmong postfixOperators class ≡ false → (newline : Bool) → look class (postfixRow ending newline rest) ≡ look class rest
+    no-postfix none true = refl
+    no-postfix none false = other-entry class (λ class. goto (postfixDone ending) (takePostfix (postfixKind class))) postfixOperators rest none
+
+    pub assignment-next : isAmong assignmentOperators class ≡ true
+        → (look class (assignmentRow ending true rest) ≡ goto (operandDue ending true) (takeOperator class)) × T (isSingle class)
+    assignment-next is = (
+      among-entry class (λ class. goto (operandDue ending true) (takeOperator class)) assignmentOperators rest is,
+      among-all class isSingle assignmentOperators tt is,
+    )
+
+    pub no-assignment : isAmong assignmentOperators class ≡ false → (target : Bool) → look class (assignmentRow ending target rest) ≡ look class rest
+    no-assignment none true = other-entry class (λ class. goto (operandDue ending true) (takeOperator class)) assignmentOperators rest none
+    no-assignment none false = refl
+
+  -- neither has a class from that of `,` on
+  pub neither-next : comma ≤ class → (target newline : Bool) (rest : List Entry)
+      → look class (assignmentRow ending target (postfixRow ending newline rest)) ≡ look class rest
+  neither-next past target newline rest =
+      no-assignment (postfixRow ending newline rest) (not-among assignmentOperators comma tt class past) target
+      ∙ no-postfix rest (not-among postfixOperators comma tt class past) newline

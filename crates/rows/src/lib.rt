@@ -1,16 +1,16 @@
 // The token machine's table as code: what a token of a class does where the machine stands. Rows are named after those of
-// grammar/specs/Machinery/Machine.antt, so that the two can be laid side by side.
+// machine/specs/Machinery/Machine.antt, so that the two can be laid side by side.
 ghost use mathlib.Core.Path.{_≡_};
 ghost use mathlib.Core.Bool.{Bool};
-ghost use Prim.Native.Nat.{ℕ, _≤_};
-ghost use Rattle.grammar.specs.Tokens.{semicolon, comma, functionWord};
-ghost use Rattle.grammar.specs.Machinery.Machine.{behindStatement, statementDue, returnFirst, operandDone, look, noStatement, endingRow, afterOperand, row};
+ghost use Prim.Native.Nat.{_≤_};
+ghost use Rattle.machine.specs.Tokens.{semicolon, comma, colon, functionWord};
+ghost use Rattle.machine.specs.Machinery.Machine.{behindStatement, statementDue, returnFirst, operandDone, look, noStatement, endingRow, afterUnary, assignmentRow, postfixRow, afterOperand, row};
 ghost use Rattle.controls.specs.Machinery.Numbers.{settingBy, endingBy, controlOf};
-ghost use Rattle.controls.specs.Machinery.Steps.{Goes, Means, Settled};
+ghost use Rattle.controls.specs.Machinery.Steps.{Ended, Goes, Means, Settled};
 use controls::BLOCK;
 use controls::BODY;
 use controls::BY_ARGUMENT;
-use controls::BY_BRACKET;
+use controls::BY_COLON;
 use controls::BY_RETURN;
 use controls::BY_STATEMENT;
 use controls::Control;
@@ -28,21 +28,24 @@ use controls::KEEP;
 use controls::NAME_FIRST;
 use controls::OPERAND_DONE;
 use controls::OPERAND_DUE;
+use controls::POSTFIX_DONE;
 use controls::RETURN_FIRST;
 use controls::START_RETURN;
 use controls::STATEMENT_DUE;
 use controls::Step;
 use controls::TAKE_OPERATOR;
+use controls::TAKE_POSTFIX;
 use controls::TO_BLOCK;
 use controls::TO_CALL;
 use controls::TO_INDEX;
 use controls::behind_statement;
+use controls::bindings;
 use controls::stand;
 use forms::form_row;
 use forms::goto;
 use forms::operand_row;
 use forms::push;
-use grammar::tokens;
+use machine::tokens;
 
 // Ends a statement.
 fn end_statement(setting: u32, effect: u32) -> Step
@@ -63,7 +66,7 @@ fn setting_number(setting: u32) -> u32
 
 // `;` behind an expression.
 fn semicolon_row(ending: u32, setting: u32) -> Step
-    ensures { λ r. ⌜ ((target : Bool) → Means (operandDone (endingBy ending setting) target) semicolon r (look semicolon (endingRow (endingBy ending setting)))) ⌝ }
+    ensures { λ r. ⌜ ((from : Rattle.machine.specs.Machinery.Machine.Control) → Ended from (endingBy ending setting) → Means from semicolon r (look semicolon (endingRow (endingBy ending setting)))) ⌝ }
 {
     if ending == BY_STATEMENT {
         return end_statement(setting, END_EXPRESSION);
@@ -74,22 +77,84 @@ fn semicolon_row(ending: u32, setting: u32) -> Step
     Step::Fail
 }
 
-// `,` behind an expression: an item of a list ends, and behind an argument another must come.
-fn comma_row(ending: u32) -> Step
-    ensures { λ r. ⌜ ((setting : ℕ) (target : Bool) → Means (operandDone (endingBy ending setting) target) comma r (look comma (endingRow (endingBy ending setting)))) ⌝ }
+// `,` behind an expression: an item of a list ends, and behind an argument another must come; elsewhere it is an operator, but not in
+// the middle of a conditional.
+fn comma_row(ending: u32, setting: u32) -> Step
+    ensures { λ r. ⌜ ((from : Rattle.machine.specs.Machinery.Machine.Control) → Ended from (endingBy ending setting) → Means from comma r (look comma (endingRow (endingBy ending setting)))) ⌝ }
 {
-    if ending <= BY_BRACKET {
-        return Step::Fail;
-    }
     if ending == BY_ARGUMENT {
         return goto(OPERAND_DUE, BY_ARGUMENT, BODY, true, END_VALUE);
     }
-    goto(ITEM_DUE, ending, BODY, true, END_VALUE)
+    if BY_ARGUMENT < ending {
+        return goto(ITEM_DUE, ending, BODY, true, END_VALUE);
+    }
+    if ending == BY_COLON {
+        return Step::Fail;
+    }
+    goto(OPERAND_DUE, ending, setting, true, TAKE_OPERATOR)
+}
+
+// `:` behind an expression: it answers a `?`.
+fn colon_row(ending: u32, setting: u32) -> Step
+    ensures { λ r. ⌜ ((from : Rattle.machine.specs.Machinery.Machine.Control) → Ended from (endingBy ending setting) → Means from colon r (look colon (endingRow (endingBy ending setting)))) ⌝ }
+{
+    if ending == BY_COLON {
+        return Step::Turn;
+    }
+    Step::Fail
+}
+
+// Behind a whole Unary.
+fn unary_row(class: u32, ending: u32, setting: u32) -> Step
+    ensures { λ r. ⌜ ((from : Rattle.machine.specs.Machinery.Machine.Control) → Ended from (endingBy ending setting) → Means from class r (look class (afterUnary (endingBy ending setting)))) ⌝ }
+{
+    if class == tokens::SEMICOLON {
+        return semicolon_row(ending, setting);
+    }
+    if class == tokens::COMMA {
+        return comma_row(ending, setting);
+    }
+    if bindings::is_binary(class) {
+        return goto(OPERAND_DUE, ending, setting, false, TAKE_OPERATOR);
+    }
+    if class == tokens::QUESTION {
+        return Step::Ask;
+    }
+    if class == tokens::COLON {
+        return colon_row(ending, setting);
+    }
+    Step::Fail
+}
+
+// `++` and `--` want no line end before them.
+fn postfix_row(class: u32, ending: u32, setting: u32, newline: bool) -> Step
+    ensures { λ r. ⌜ ((target : Bool) → Means (operandDone (endingBy ending setting) target) class r (look class (postfixRow (endingBy ending setting) newline (afterUnary (endingBy ending setting))))) ⌝ }
+{
+    if newline {
+        return unary_row(class, ending, setting);
+    }
+    if bindings::is_postfix(class) {
+        return goto(POSTFIX_DONE, ending, setting, true, TAKE_POSTFIX);
+    }
+    unary_row(class, ending, setting)
+}
+
+// What a chain that may be assigned to takes besides.
+fn assignment_row(class: u32, ending: u32, setting: u32, target: bool, newline: bool) -> Step
+    ensures { λ r. ⌜ Means (operandDone (endingBy ending setting) target) class r (look class (assignmentRow (endingBy ending setting) target (postfixRow (endingBy ending setting) newline (afterUnary (endingBy ending setting))))) ⌝ }
+{
+    if !target {
+        return postfix_row(class, ending, setting, newline);
+    }
+    if bindings::is_assignment(class) {
+        return goto(OPERAND_DUE, ending, setting, true, TAKE_OPERATOR);
+    }
+    postfix_row(class, ending, setting, newline)
 }
 
 // Behind an operand.
-fn operator_row(class: u32, ending: u32, setting: u32, target: bool) -> Step
-    ensures { λ r. ⌜ Means (operandDone (endingBy ending setting) target) class r (look class (afterOperand (endingBy ending setting) target)) ⌝ }
+fn operator_row(class: u32, ending: u32, setting: u32, target: bool, newline: bool) -> Step
+    ensures { λ r. ⌜ Means (operandDone (endingBy ending setting) target) class r (look class (afterOperand (endingBy ending setting) target newline)) ⌝ }
 {
     if class == tokens::DOT {
         return goto(DOT_LAST, ending, setting, target, KEEP);
@@ -97,25 +162,14 @@ fn operator_row(class: u32, ending: u32, setting: u32, target: bool) -> Step
     if class == tokens::OPEN_PAREN {
         return push(OPERAND_DONE, ending, setting, target, TO_CALL);
     }
-    if class == tokens::ASSIGN {
-        if target {
-            return goto(OPERAND_DUE, ending, setting, true, TAKE_OPERATOR);
-        }
-        return Step::Fail;
-    }
-    if 1 <= controls::precedence(class) {
-        return goto(OPERAND_DUE, ending, setting, false, TAKE_OPERATOR);
-    }
-    if class == tokens::SEMICOLON {
-        return semicolon_row(ending, setting);
-    }
-    if class == tokens::COMMA {
-        return comma_row(ending);
+    // No assignment, `++` or `--` has a class from that of `,` on.
+    if class < tokens::COMMA {
+        return assignment_row(class, ending, setting, target, newline);
     }
     if class == tokens::OPEN_BRACKET {
         return push(OPERAND_DONE, ending, setting, target, TO_INDEX);
     }
-    Step::Fail
+    unary_row(class, ending, setting)
 }
 
 // `function` where a statement is due: a declaration, in a body where none must come.
@@ -174,9 +228,10 @@ pub fn row(at: Control, class: u32, newline: bool) -> Step
     let place = at.place;
     match place {
         STATEMENT_DUE => statement_row(class, at.setting, at.flag),
-        OPERAND_DONE => operator_row(class, at.ending, at.setting, at.flag),
+        OPERAND_DONE => operator_row(class, at.ending, at.setting, at.flag, newline),
         OPERAND_DUE => operand_row(class, at.ending, at.setting, at.flag),
         RETURN_FIRST => return_row(class, at.setting, newline),
+        POSTFIX_DONE => unary_row(class, at.ending, at.setting),
         _ => form_row(place, at.ending, at.setting, at.flag, class),
     }
 }

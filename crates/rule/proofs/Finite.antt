@@ -4,7 +4,7 @@ use mathlib.Core.List.{List, [], _∷_}
 use lib.Dec.{T}
 use Rattle.text.proofs.Range.{and-left, and-right}
 use Rattle.text.proofs.Members.{Has, here, there, allIn, at}
-use Rattle.rule.specs.Rule.{Class, name, literal, operator, colon, dot, comma, other, returnWord, functionWord, ifWord, parens, brackets, object, block}
+use Rattle.rule.specs.Rule.{Class, name, literal, operator, question, answer, colon, dot, comma, semicolon, other, returnWord, functionWord, ifWord, parens, brackets, object, block}
 use Rattle.rule.specs.Machinery.Summary.{
   Summary,
   nothing,
@@ -37,23 +37,26 @@ pub at-bool : (P : Bool → Bool) → T (bothBools P) → (b : Bool) → T (P b)
 at-bool P t b = at P (a-bool b) t
 
 abbrev classes : List Class
-classes = name ∷ literal ∷ operator ∷ colon ∷ dot ∷ comma ∷ other ∷ returnWord ∷ functionWord ∷ ifWord ∷ parens ∷ brackets ∷ object ∷ block ∷ []
+classes = name ∷ literal ∷ operator ∷ question ∷ answer ∷ colon ∷ dot ∷ comma ∷ semicolon ∷ other ∷ returnWord ∷ functionWord ∷ ifWord ∷ parens ∷ brackets ∷ object ∷ block ∷ []
 
 a-class : (c : Class) → Has c classes
 a-class name = here
 a-class literal = there here
 a-class operator = there (there here)
-a-class colon = there (there (there here))
-a-class dot = there (there (there (there here)))
-a-class comma = there (there (there (there (there here))))
-a-class other = there (there (there (there (there (there here)))))
-a-class returnWord = there (there (there (there (there (there (there here))))))
-a-class functionWord = there (there (there (there (there (there (there (there here)))))))
-a-class ifWord = there (there (there (there (there (there (there (there (there here))))))))
-a-class parens = there (there (there (there (there (there (there (there (there (there here)))))))))
-a-class brackets = there (there (there (there (there (there (there (there (there (there (there here))))))))))
-a-class object = there (there (there (there (there (there (there (there (there (there (there (there here)))))))))))
-a-class block = there (there (there (there (there (there (there (there (there (there (there (there (there here))))))))))))
+a-class question = there (there (there here))
+a-class answer = there (there (there (there here)))
+a-class colon = there (there (there (there (there here))))
+a-class dot = there (there (there (there (there (there here)))))
+a-class comma = there (there (there (there (there (there (there here))))))
+a-class semicolon = there (there (there (there (there (there (there (there here)))))))
+a-class other = there (there (there (there (there (there (there (there (there here))))))))
+a-class returnWord = there (there (there (there (there (there (there (there (there (there here)))))))))
+a-class functionWord = there (there (there (there (there (there (there (there (there (there (there here))))))))))
+a-class ifWord = there (there (there (there (there (there (there (there (there (there (there (there here)))))))))))
+a-class parens = there (there (there (there (there (there (there (there (there (there (there (there (there here))))))))))))
+a-class brackets = there (there (there (there (there (there (there (there (there (there (there (there (there (there here)))))))))))))
+a-class object = there (there (there (there (there (there (there (there (there (there (there (there (there (there (there here))))))))))))))
+a-class block = there (there (there (there (there (there (there (there (there (there (there (there (there (there (there (there here)))))))))))))))
 
 abbrev pub allClasses : (Class → Bool) → Bool
 allClasses P = allIn P classes

@@ -1,4 +1,5 @@
 pub mod Finite
 pub mod SummaryLaws
 pub mod LevelCodeLaws
-pub mod OtherClasses
+pub mod ClassNumbers
+pub mod SettledSigns

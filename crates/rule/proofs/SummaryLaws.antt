@@ -4,7 +4,7 @@ use mathlib.Core.Bool.{Bool, true, false, not, cond, _||_}
 use mathlib.Core.List.{List, [], _∷_}
 use lib.Dec.{T}
 use Rattle.text.proofs.Range.{alike, alike→eq}
-use Rattle.rule.specs.Rule.{Class, name, literal, operator, colon, dot, comma, other, returnWord, functionWord, ifWord, parens, brackets, object, block, Before, tree, is, endsWith, objectAfter, opensObject, plainly, opensPattern, namesWord}
+use Rattle.rule.specs.Rule.{Class, name, literal, operator, question, answer, colon, dot, comma, semicolon, other, returnWord, functionWord, ifWord, parens, brackets, object, block, Before, tree, is, endsWith, objectAfter, opensObject, plainly, opensPattern, namesWord}
 use Rattle.vocabulary.proofs.ClassLaws.{is-class}
 use Rattle.rule.specs.Machinery.Summary.{Summary, braceBy, slashBy, nameBy, addName, addParens, addBlock, add, summary}
 use Rattle.rule.proofs.Finite.{bothBools, at-bool, allClasses, at-class, allSummaries, at-summary}
@@ -93,9 +93,12 @@ slash-right e (tree name l ∷ ts) =
     alike→eq (slashBy (addName (summary e ts))) false (at-summary (λ s. alike (slashBy (addName s)) false) tt (summary e ts)) ∙ not-excepted e l name refl ts
 slash-right e (tree literal l ∷ ts) = not-excepted e l literal refl ts
 slash-right e (tree operator l ∷ ts) = not-excepted e l operator refl ts
+slash-right e (tree question l ∷ ts) = not-excepted e l question refl ts
+slash-right e (tree answer l ∷ ts) = not-excepted e l answer refl ts
 slash-right e (tree colon l ∷ ts) = not-excepted e l colon refl ts
 slash-right e (tree dot l ∷ ts) = not-excepted e l dot refl ts
 slash-right e (tree comma l ∷ ts) = not-excepted e l comma refl ts
+slash-right e (tree semicolon l ∷ ts) = not-excepted e l semicolon refl ts
 slash-right e (tree other l ∷ ts) = not-excepted e l other refl ts
 slash-right e (tree returnWord l ∷ ts) = not-excepted e l returnWord refl ts
 slash-right e (tree functionWord l ∷ ts) = not-excepted e l functionWord refl ts

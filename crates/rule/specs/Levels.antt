@@ -4,9 +4,10 @@ use Prim.Native.Nat.{ℕ, _+_}
 use mathlib.Core.Bool.{Bool, _||_}
 use lib.Dec.{eqb}
 use Rattle.elements.specs.Elements.{stating}
+use Rattle.elements.specs.declared.Element.{Element}
 use Rattle.elements.specs.declared.Stated.{Stated}
 use Rattle.rule.specs.Trees.{Trees, count, parenKind, objectKind, bracketKind}
-use Rattle.rule.specs.Rule.{backwards, opensObject, opensPattern, namesWord}
+use Rattle.rule.specs.Rule.{backwards, opensObject, opensPattern, namesWord, settledKind}
 
 -- the levels that are open at a place: the text's own, or the inside of a group that is open, with the levels around it,
 -- its kind, its first byte, whether a line end lies before it, and the trees in it so far
@@ -43,6 +44,17 @@ wordIsName levels = namesWord (eqb (kindOf levels) objectKind) (backwards (trees
 -- what the prefix rule states of the next element
 abbrev pub statedBy : Levels → Stated
 statedBy levels = stating (slashOpens levels) (wordIsName levels)
+
+-- an element there, with the kind that the prefix rule settles
+abbrev pub settledIn : Levels → Element → Element
+settledIn levels e =
+    record {
+      kind = settledKind (isExpression (kindOf levels)) (backwards (treesOf levels)) e;
+      which = e .which;
+      first = e .first;
+      end = e .end;
+      newline = e .newline;
+    }
 
 -- groups that are open, and records so far
 abbrev pub depth : Levels → ℕ

@@ -1,13 +1,15 @@
--- Document 01, Prefix rule, and document 02, U1 and U2: over the trees before on the same level. "Last" is the tree before, on the same level.
-use Prim.Native.Nat.{ℕ}
+-- Document 01, Prefix rule, and document 02, U1, U2 and U4: over the trees before on the same level. "Last" is the tree before, on the same level.
+use Prim.Native.Nat.{ℕ, _+_, _-_}
 use mathlib.Core.Bool.{Bool, true, false, not, cond, _&&_, _||_}
 use mathlib.Core.List.{List, [], _∷_}
-use lib.Dec.{eqb}
-use Rattle.elements.specs.Elements.{nameKind, wordKind, signKind}
+use lib.Dec.{eqb, ltb}
+use Rattle.elements.specs.Elements.{nameKind, wordKind, signKind, numberOfSign}
+use Rattle.signs.specs.Signs.{longestSign}
+use Rattle.text.specs.Quoted.{bytes}
 use Rattle.elements.specs.declared.Element.{Element}
 use Rattle.vocabulary.specs.Vocabulary.{words, signs, ruleClass, rowAt}
-pub use Rattle.vocabulary.specs.RuleClasses.{Class, name, literal, operator, colon, dot, comma, other, returnWord, functionWord, ifWord, parens, brackets, object, block, rank}
-use Rattle.rule.specs.Trees.{Trees, none, leaf, group, parenKind, objectKind, bracketKind}
+pub use Rattle.vocabulary.specs.RuleClasses.{Class, name, literal, operator, question, answer, colon, dot, comma, semicolon, other, returnWord, functionWord, ifWord, parens, brackets, object, block, rank}
+use Rattle.rule.specs.Trees.{Trees, none, leaf, group, parenKind, objectKind, bracketKind, beforeKind, afterKind, answerKind}
 
 -- the class of the reserved word, and of the sign, of a number
 abbrev pub wordClass : ℕ → Class
@@ -16,14 +18,17 @@ wordClass which = ruleClass (rowAt words which)
 abbrev pub signClass : ℕ → Class
 signClass which = ruleClass (rowAt signs which)
 
--- the class of an element that is no delimiter: kinds 1, 2 and 6, and else a number, string or regular expression
+-- the class of an element that is no delimiter, by its kind: 1, 2, 6, 11 and 13; else it is a number, string or regular expression, or `++` or
+-- `--` after its operand, kind 12
 unfoldable pub elementClass : Element → Class
 unfolding rowAt
 elementClass e =
     cond (eqb (e .kind) nameKind) name
     (cond (eqb (e .kind) wordKind) (wordClass (e .which))
     (cond (eqb (e .kind) signKind) (signClass (e .which))
-    literal))
+    (cond (eqb (e .kind) beforeKind) operator
+    (cond (eqb (e .kind) answerKind) answer
+    literal))))
 
 -- the class of a group: kinds 7, 8 and 10, and else a block, kind 9
 unfoldable pub groupClass : ℕ → Class
@@ -40,14 +45,18 @@ backwards (leaf before e) = tree (elementClass e) (e .newline) ∷ backwards bef
 backwards (group before kind first end newline within) = tree (groupClass kind) newline ∷ backwards before
 
 -- "`{` opens an object when: .. last is `/`, `+` or `=`; last is `:` on an expression level; last is `return` and no line
--- end lies between. Otherwise it opens a block." Document 02, U2: "A `{` after `,` opens an object". `newline` says whether a line end lies between last and the brace.
+-- end lies between. Otherwise it opens a block." Document 02, U2: "A `{` after `,` opens an object". U4: "`{` opens an object after kinds 11 and 13,
+-- after any other added operator, and never after kind 12." `newline` says whether a line end lies between last and the brace.
 abbrev pub objectAfter : Bool → Class → Bool → Bool
 objectAfter expression name newline = false
 objectAfter expression literal newline = false
 objectAfter expression operator newline = true
+objectAfter expression question newline = true
+objectAfter expression answer newline = true
 objectAfter expression colon newline = expression
 objectAfter expression dot newline = false
 objectAfter expression comma newline = true
+objectAfter expression semicolon newline = false
 objectAfter expression other newline = false
 objectAfter expression returnWord newline = not newline
 objectAfter expression functionWord newline = false
@@ -73,14 +82,17 @@ endsWith class (tree last l ∷ before) = is class last
 
 -- "`/` opens a regular expression when: .. last is a sign or a reserved word; last is `( )` preceded by `if`; last is a
 -- block. It divides after a name, number, string, regular expression, object or other `( )`." Document 02, U2: "a `/` after a bracket group
--- divides"; `,` is a sign
+-- divides"; `,` is a sign. U4: "The four value words are followed by a divide."; "a slash divides after 12, not after 11 or 13"
 abbrev pub patternAfter : Class → List Before → Bool
 patternAfter name before = false
 patternAfter literal before = false
 patternAfter operator before = true
+patternAfter question before = true
+patternAfter answer before = true
 patternAfter colon before = true
 patternAfter dot before = true
 patternAfter comma before = true
+patternAfter semicolon before = true
 patternAfter other before = true
 patternAfter returnWord before = true
 patternAfter functionWord before = true
@@ -125,3 +137,39 @@ standsAsProperty (tree last l ∷ before) = is comma last
 -- Document 02, U1: "A reserved word whose last tree is the sign `.` becomes a name". `inObject` says whether the level is that of an object brace
 unfoldable pub namesWord : Bool → List Before → Bool
 namesWord inObject ts = endsWith dot ts || (inObject && standsAsProperty ts)
+
+-- how many `?`s of a level are unanswered behind a tree of a class, of so many before it. Document 02, U4: "`;` forgets open ones"
+abbrev pub leaving : Class → ℕ → ℕ
+leaving class questions =
+    cond (is semicolon class) 0
+    (cond (is question class) (questions + 1)
+    (cond (is answer class) (questions - 1)
+    questions))
+
+-- "an unanswered `?` of its level": how many there are
+unfoldable pub unanswered : List Before → ℕ
+unanswered [] = 0
+unanswered (tree class l ∷ before) = leaving class (unanswered before)
+
+-- the numbers of `++`, `--` and `:` among the signs
+abbrev pub incrementSign : ℕ
+incrementSign = numberOfSign (longestSign (bytes "++"))
+
+abbrev pub decrementSign : ℕ
+decrementSign = numberOfSign (longestSign (bytes "--"))
+
+abbrev pub colonSign : ℕ
+colonSign = numberOfSign (longestSign (bytes ":"))
+
+-- Document 02, U4: "`++` or `--` is kind 12 (after) when a slash in its place would divide and no line end precedes it, else kind 11 (before)"; "A
+-- `:` answering an unanswered `?` of its level is kind 13". Every other sign is of kind 6
+abbrev pub settledSign : Bool → ℕ → Bool → ℕ → ℕ
+settledSign opens questions newline which =
+    cond (eqb which incrementSign || eqb which decrementSign) (cond (opens || newline) beforeKind afterKind)
+    (cond (eqb which colonSign && ltb 0 questions) answerKind
+    signKind)
+
+-- the kind of an element behind trees of its level
+unfoldable pub settledKind : Bool → List Before → Element → ℕ
+settledKind expression ts e =
+    cond (eqb (e .kind) signKind) (settledSign (opensPattern expression ts) (unanswered ts) (e .newline) (e .which)) (e .kind)

@@ -17,9 +17,19 @@ blockKind = 9
 abbrev pub bracketKind : ℕ
 bracketKind = 10
 
+-- document 02, U4: `++` or `--` before and after its operand, and a `:` that answers a `?`
+abbrev pub beforeKind : ℕ
+beforeKind = 11
+
+abbrev pub afterKind : ℕ
+afterKind = 12
+
+abbrev pub answerKind : ℕ
+answerKind = 13
+
 pub data Trees : Type 0 where
   none : Trees
-  -- the trees before, and an element
+  -- the trees before, and an element, of the kind that the rule has settled
   leaf : Trees → Element → Trees
   -- the trees before, and a group: its kind, its first byte, the byte after its last, whether a line end lies before it,
   -- and its inside

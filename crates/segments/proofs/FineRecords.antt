@@ -12,8 +12,9 @@ use Rattle.rule.specs.Trees.{Trees, none, leaf, group, count}
 use Rattle.tables.specs.Records.{mostTrees}
 use Rattle.storing.specs.Records.{records}
 use Rattle.storing.proofs.CellLaws.{records-length}
-use Rattle.grammar.specs.Tokens.{classOf}
-use Rattle.grammar.proofs.ReadNames.{recordClass}
+use Rattle.derivations.specs.Tokens.{classOf}
+use Rattle.derivations.specs.TreeElements.{unsettled}
+use Rattle.derivations.proofs.ReadNames.{recordClass}
 use Rattle.segments.specs.Machinery.Segments.{countOf, sizeAt, classBy, classAt, segment, Fine}
 use Rattle.segments.proofs.SegmentLaws.{element-known, opener-known}
 use Rattle.segments.proofs.ClassLaws.{Told, GroupTold}
@@ -36,7 +37,7 @@ module _ (bytes cells : List ℕ) where
   leaf-below high {e = e} t r h =
       let size = r .size-is in
       record {
-        known = rw (record-class bytes r, t .told) (element-known (recordClass (classOf e)) (t .element) .0);
+        known = rw (record-class bytes r, t .told) (element-known (recordClass (classOf (unsettled e))) (t .element) .0);
         some = omega arith;
         below = omega arith;
         nested = λ j l k. absurd (omega arith);
@@ -47,7 +48,7 @@ module _ (bytes cells : List ℕ) where
   group-below high number {kind = kind} {first = first} {end = end} t r h inner =
       let size = r .size-is in
       record {
-        known = rw (record-class bytes r) (opener-known (classBy kind (end - first) (getD bytes first 0)) (t .opens (end - first) (getD bytes first 0)) .0);
+        known = rw (record-class bytes r) (opener-known (classBy kind (end - first) (getD bytes first 0) (getD bytes (end - 1) 0)) (t .opens (end - first) (getD bytes first 0) (getD bytes (end - 1) 0)) .0);
         some = omega arith;
         below = omega arith;
         nested = λ j l k. let f = inner j (omega arith) (omega arith) in omega (arith, f .below);

@@ -11,9 +11,9 @@ use Rattle.rule.specs.Trees.{Trees, none, leaf, group, count}
 use Rattle.prefix.specs.Reading.{Limits, accepted, reading}
 use Rattle.tables.specs.Records.{mostTrees}
 use Rattle.storing.specs.Records.{records}
-use Rattle.grammar.specs.Tokens.{Token, token, classOf, tokensFrom, tokens}
-use Rattle.grammar.proofs.ReadNames.{recordClass, recordToken}
-use Rattle.grammar.specs.TreeElements.{openerOf, closerOf, elementsOf}
+use Rattle.derivations.specs.Tokens.{Token, token, classOf, tokensFrom, tokens}
+use Rattle.derivations.proofs.ReadNames.{recordClass, recordToken}
+use Rattle.derivations.specs.TreeElements.{openerOf, closerOf, unsettled, elementsOf}
 use Rattle.segments.specs.Machinery.Segments.{sizeAt, classBy, Segment, segment, inside, closerSpot, tokensAt, Fine}
 use Rattle.segments.proofs.SegmentLaws.{inside-fine, inside-count, end-then, element-then, group-then}
 use Rattle.segments.proofs.ClassLaws.{Told, GroupTold}
@@ -25,30 +25,31 @@ use Rattle.segments.proofs.FineRecords.{records-count, records-fine}
 module _ {p : Segment} (fine : Fine p) where
   leaf-tokens : {index : ℕ} {e : Element} → Told (p .text) e → RecordAt (p .cells) index (e .kind) (e .first) (e .end) 1 (e .newline)
       → (rest : List Element) (u : List Token) → tokensAt p (index + 1) ++ u ≡ map recordToken (tokensFrom (p .base + (index + 1)) rest)
-      → tokensAt p index ++ u ≡ map recordToken (tokensFrom (p .base + index) (e ∷ rest))
+      → tokensAt p index ++ u ≡ map recordToken (tokensFrom (p .base + index) (unsettled e ∷ rest))
   unfolding tokensFrom
   leaf-tokens {index} {e} t r rest u later =
       let next : p .base + (index + 1) ≡ p .base + index + 1 = omega arith in
-      element-then fine index (recordClass (classOf e)) (record-class (p .text) r ∙ t .told) u (t .element)
+      element-then fine index (recordClass (classOf (unsettled e))) (record-class (p .text) r ∙ t .told) u (t .element)
       ∙ rw (r .newline-is, r .place-is (p .close), later, t .no-closer, next)
 
   module _ {index kind first end size : ℕ} {newline : Bool} (t : GroupTold kind) (r : RecordAt (p .cells) index kind first end size newline) (rest : List Element) (u : List Token) where
     abbrev closerThen : List Token
-    closerThen = token (classBy kind (end - first) (getD (p .text) first 0) + 1) (closerSpot p index) ∷ (tokensAt p (index + sizeAt (p .cells) index) ++ u)
+    closerThen = token (classBy kind (end - first) (getD (p .text) first 0) (getD (p .text) (end - 1) 0) + 1) (closerSpot p index) ∷ (tokensAt p (index + sizeAt (p .cells) index) ++ u)
 
     closer-tokens : tokensAt p (index + size) ++ u ≡ map recordToken (tokensFrom (p .base + (index + size)) rest) → closerThen ≡ map recordToken (tokensFrom (p .base + index + size) (closerOf kind end ∷ rest))
     unfolding tokensFrom
     closer-tokens later =
         let next : p .base + (index + size) ≡ p .base + index + size = omega arith in
-        rw (t .closer (end - first) (getD (p .text) first 0) end, r .closer-is, r .size-is, later, t .closer-closes end, next)
+        rw (t .closer (end - first) (getD (p .text) first 0) (getD (p .text) (end - 1) 0) end, r .closer-is, r .size-is, later, t .closer-closes end, next)
 
     opener-tokens : tokensAt (inside p index) 0 ++ closerThen ≡ map recordToken (tokensFrom (p .base + index + 1) rest)
         → tokensAt p index ++ u ≡ map recordToken (tokensFrom (p .base + index) (openerOf kind first newline ∷ rest))
     unfolding tokensFrom
     opener-tokens later =
         let b = getD (p .text) first 0 in
-        group-then fine index (classBy kind (end - first) b) (record-class (p .text) r) u (t .opens (end - first) b)
-        ∙ rw (later, r .newline-is, r .place-is (p .close), t .opener (end - first) b first newline, t .opener-opens first newline)
+        let last = getD (p .text) (end - 1) 0 in
+        group-then fine index (classBy kind (end - first) b last) (record-class (p .text) r) u (t .opens (end - first) b last)
+        ∙ rw (later, r .newline-is, r .place-is (p .close), t .opener (end - first) b last first newline, t .opener-opens first newline)
 
 group-elements : (before inner rest : List Element) (opener closer : Element)
     → before ++ (opener ∷ (inner ++ (closer ∷ rest))) ≡ (before ++ (opener ∷ (inner ++ (closer ∷ [])))) ++ rest
@@ -63,8 +64,8 @@ trees-tokens none fine t start s rest u later = rw (add-zero start) at later
 trees-tokens (leaf before e) {p} fine t start s rest u later =
     let index = start + count before in
     let next : start + (count before + 1) ≡ index + 1 = omega arith in
-    trees-tokens before fine (t .0) start (leaf-before s) (e ∷ rest) u (leaf-tokens fine (t .1) (leaf-at s) rest u (rw next at later))
-    ∙ ap (λ (es : List Element). map recordToken (tokensFrom (p .base + start) es)) (sym (append-assoc (elementsOf before) (e ∷ []) rest))
+    trees-tokens before fine (t .0) start (leaf-before s) (unsettled e ∷ rest) u (leaf-tokens fine (t .1) (leaf-at s) rest u (rw next at later))
+    ∙ ap (λ (es : List Element). map recordToken (tokensFrom (p .base + start) es)) (sym (append-assoc (elementsOf before) (unsettled e ∷ []) rest))
 trees-tokens (group before kind first end newline inner) {p} fine t start s rest u later =
     let index = start + count before in
     let r = group-at s in

@@ -124,6 +124,6 @@ all-records trees = record { front = []; back = []; sized = refl; split = sym (a
 
 -- the class of a record
 module _ (bytes : List ℕ) {cells : List ℕ} {index kind first end number : ℕ} {newline : Bool} (r : RecordAt cells index kind first end number newline) where
-  pub record-class : classAt bytes cells index ≡ classBy kind (end - first) (getD bytes first 0)
+  pub record-class : classAt bytes cells index ≡ classBy kind (end - first) (getD bytes first 0) (getD bytes (end - 1) 0)
   unfolding classAt
   record-class = rw (r .kind-is, r .end-is, r .place-is 0)

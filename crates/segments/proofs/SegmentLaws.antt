@@ -9,12 +9,13 @@ use lib.Dec.{T, ltb, eqb, ltb→lt}
 use lib.ListN.{length, getD, drop, length-drop}
 use lib.Seq.{getD-take, getD-drop, length-take-le}
 use Rattle.text.proofs.Range.{and-left, and-right}
-use Rattle.elements.specs.Elements.{nameKind, wordKind, numberKind, stringKind, patternKind, signKind}
-use Rattle.rule.specs.Trees.{parenKind, objectKind, blockKind, bracketKind}
+use Rattle.text.specs.Quoted.{byte}
+use Rattle.elements.specs.Elements.{nameKind, wordKind, numberKind, stringKind, patternKind}
+use Rattle.rule.specs.Trees.{parenKind, objectKind, blockKind, bracketKind, answerKind}
 use Rattle.tables.specs.Records.{treeWidth}
-use Rattle.grammar.specs.Tokens.{Token, token, name, number, string, pattern, divide, plus, assign, colon, semicolon, comma, dot, openParen, openBrace, openBracket, returnWord, functionWord, ifWord}
-use Rattle.grammar.specs.Machinery.Classes.{isOpener, isEnd}
-use Rattle.segments.specs.Machinery.Segments.{countOf, cellOr, kindAt, placeAt, endAt, sizeAt, looks, wordBy, signBy, spelledBy, kindBy, classBy, classAt, contentOf, Segment, inside, spotAt, closerSpot, tokensBy, tokensAt, FineAt, Fine}
+use Rattle.machine.specs.Tokens.{Token, token, name, number, string, pattern, unsignedShift, unsignedShiftAssign, colon, openParen, openBrace, openBracket, functionWord, newWord, falseWord, instanceofWord}
+use Rattle.machine.specs.Machinery.Classes.{isOpener, isEnd}
+use Rattle.segments.specs.Machinery.Segments.{countOf, cellOr, kindAt, placeAt, endAt, sizeAt, Entry, entry, lookUp, lowSingles, highSingles, assigned, doubled, compared, shortWords, middleWords, longWords, signBy, wordBy, kindBy, isSpelled, classBy, classAt, contentOf, Segment, inside, spotAt, closerSpot, tokensBy, tokensAt, FineAt, Fine}
 
 -- a number of a record inside a group is that of a record of the part
 module _ (text cells : List ℕ) (i : ℕ) (h : i < countOf cells) (f : FineAt text cells i) where
@@ -166,20 +167,33 @@ unended : (b : Bool) (x y : ℕ) → T (not (isEnd x)) → T (not (isEnd y)) →
 unended true x y t s = t
 unended false x y t s = s
 
-word-unended : (len b : ℕ) → T (not (isEnd (wordBy len b)))
-unfolding wordBy
-word-unended len b = unended (looks "return" len b) returnWord _ tt (unended (looks "function" len b) functionWord _ tt (unended (looks "if" len b) ifWord 0 tt tt))
+abbrev endsNone : List Entry → Bool
+endsNone [] = true
+endsNone (entry x class ∷ rest) = not (isEnd class) && endsNone rest
 
-sign-unended : (len b : ℕ) → T (not (isEnd (signBy len b)))
+look-unended : (table : List Entry) (b : ℕ) → T (endsNone table) → T (not (isEnd (lookUp table b)))
+look-unended [] b t = tt
+look-unended (entry x class ∷ rest) b t =
+    unended (eqb b x) class (lookUp rest b) (and-left (not (isEnd class)) (endsNone rest) t) (look-unended rest b (and-right (not (isEnd class)) (endsNone rest) t))
+
+sign-unended : (len b last : ℕ) → T (not (isEnd (signBy len b last)))
 unfolding signBy
-sign-unended len b =
-    unended (looks "/" len b) divide _ tt
-    (unended (looks "+" len b) plus _ tt
-    (unended (looks "=" len b) assign _ tt
-    (unended (looks ":" len b) colon _ tt
-    (unended (looks ";" len b) semicolon _ tt
-    (unended (looks "." len b) dot _ tt
-    (unended (looks "," len b) comma 0 tt
+sign-unended len b last =
+    unended (eqb len 1) _ _ (unended (ltb (byte "?") b) _ _ (look-unended highSingles b tt) (look-unended lowSingles b tt))
+    (unended (eqb len 2) _ _ (unended (eqb last (byte "=")) _ _ (look-unended assigned b tt) (look-unended doubled b tt))
+    (unended (eqb len 3) _ unsignedShiftAssign (unended (eqb last (byte "=")) _ unsignedShift (look-unended compared b tt) tt)
+    tt))
+
+word-unended : (len last : ℕ) → T (not (isEnd (wordBy len last)))
+unfolding wordBy
+word-unended len last =
+    unended (eqb len 8) functionWord _ tt
+    (unended (eqb len 6) _ _ (look-unended longWords last tt)
+    (unended (eqb len 4) _ _ (look-unended middleWords last tt)
+    (unended (eqb len 2) _ _ (look-unended shortWords last tt)
+    (unended (eqb len 3) newWord _ tt
+    (unended (eqb len 5) falseWord _ tt
+    (unended (eqb len 10) instanceofWord 0 tt
     tt))))))
 
 kind-unended : (kind : ℕ) → T (not (isEnd (kindBy kind)))
@@ -192,17 +206,18 @@ kind-unended kind =
     (unended (eqb kind parenKind) openParen _ tt
     (unended (eqb kind objectKind) openBrace _ tt
     (unended (eqb kind blockKind) openBrace _ tt
-    (unended (eqb kind bracketKind) openBracket 0 tt
-    tt)))))))
+    (unended (eqb kind bracketKind) openBracket _ tt
+    (unended (eqb kind answerKind) colon 0 tt
+    tt))))))))
 
-class-unended : (kind len b : ℕ) → T (not (isEnd (classBy kind len b)))
-unfolding classBy spelledBy
-class-unended kind len b =
-    unended (eqb kind signKind || eqb kind wordKind) _ _ (unended (eqb kind signKind) _ _ (sign-unended len b) (word-unended len b)) (kind-unended kind)
+class-unended : (kind len b last : ℕ) → T (not (isEnd (classBy kind len b last)))
+unfolding classBy
+class-unended kind len b last =
+    unended (isSpelled kind) _ _ (sign-unended len b last) (unended (eqb kind wordKind) _ _ (word-unended len last) (kind-unended kind))
 
 pub never-ends : (text cells : List ℕ) (i : ℕ) → T (not (isEnd (classAt text cells i)))
 unfolding classAt
-never-ends text cells i = class-unended (kindAt cells i) (endAt cells i - placeAt cells 0 i) (getD text (placeAt cells 0 i) 0)
+never-ends text cells i = class-unended (kindAt cells i) (endAt cells i - placeAt cells 0 i) (getD text (placeAt cells 0 i) 0) (getD text (endAt cells i - 1) 0)
 
 -- the same where the class of a record is known, with tokens behind the part
 module _ {p : Segment} (fine : Fine p) (i class : ℕ) (is : classAt (p .text) (p .cells) i ≡ class) (u : List Token) where

@@ -3,7 +3,8 @@ ghost use mathlib.Core.Path.{_≡_};
 ghost use Prim.Native.Nat.{_+_, _-_, _≤_, _<_};
 ghost use lib.ListN.{getD};
 ghost use Rattle.tables.specs.Records.{treeWidth};
-ghost use Rattle.segments.specs.Machinery.Segments.{countOf, cellOr, placeAt, endAt, sizeAt, lineAt, closerAt, spelledBy, classAt, contentOf};
+ghost use Rattle.segments.specs.Machinery.Segments.{countOf, cellOr, placeAt, endAt, sizeAt, lineAt, closerAt, signBy, wordBy, classAt, contentOf};
+use machine::tokens;
 use tables::TreeRecord;
 
 mod classes;
@@ -64,18 +65,47 @@ fn byte_at(text: &[u8], place: usize) -> u8
     0
 }
 
-// The class of a record of that kind, a word or sign.
-fn spelled_at(text: &[u8], trees: &[u32], at: usize, kind: u32) -> u32
+// The byte before a place of the text; 0 past its end. At place 0 it is the first.
+fn byte_before(text: &[u8], end: usize) -> u8
+    ensures { λ r. ⌜ r ≡ getD (now (text .entry)) (end - 1) 0 ⌝ }
+{
+    if end == 0 {
+        return byte_at(text, 0);
+    }
+    byte_at(text, end - 1)
+}
+
+// The class of a record that is a sign.
+fn sign_at(text: &[u8], trees: &[u32], at: usize) -> u32
     ensures { λ r. ⌜ r
-        ≡ spelledBy kind (endAt (now (trees .entry)) at - placeAt (now (trees .entry)) 0 at) (getD (now (text .entry)) (placeAt (now (trees .entry)) 0 at) 0) ⌝ }
+        ≡ signBy (endAt (now (trees .entry)) at - placeAt (now (trees .entry)) 0 at) (getD (now (text .entry)) (placeAt (now (trees .entry)) 0 at) 0) (getD (now (text .entry)) (endAt (now (trees .entry)) at - 1) 0) ⌝ }
 {
     let first = cell(trees, at, 1) as usize;
     let end = cell(trees, at, 2) as usize;
-    if end < first {
-        return 0;
-    }
     let b = byte_at(text, first);
-    classes::spelled_class(kind, end - first, b)
+    // Most signs have one byte.
+    if end == first + 1 {
+        return classes::single_class(b);
+    }
+    let last = byte_before(text, end);
+    if end < first {
+        return classes::longer_class(0, b, last);
+    }
+    classes::longer_class(end - first, b, last)
+}
+
+// The class of a record that is a reserved word.
+fn word_at(text: &[u8], trees: &[u32], at: usize) -> u32
+    ensures { λ r. ⌜ r
+        ≡ wordBy (endAt (now (trees .entry)) at - placeAt (now (trees .entry)) 0 at) (getD (now (text .entry)) (endAt (now (trees .entry)) at - 1) 0) ⌝ }
+{
+    let first = cell(trees, at, 1) as usize;
+    let end = cell(trees, at, 2) as usize;
+    let last = byte_before(text, end);
+    if end < first {
+        return classes::word_class(0, last);
+    }
+    classes::word_class(end - first, last)
 }
 
 // The class of a record; 0 past the last.
@@ -83,11 +113,15 @@ pub fn class_at(text: &[u8], trees: &[u32], at: usize) -> u32
     ensures { λ r. ⌜ r ≡ classAt (now (text .entry)) (now (trees .entry)) at ⌝ }
 {
     let kind = cell(trees, at, 0);
-    if kind == elements::SIGN {
-        return spelled_at(text, trees, at, kind);
+    // No other kind has as many records.
+    if kind == elements::NAME {
+        return tokens::NAME;
+    }
+    if classes::is_spelled(kind) {
+        return sign_at(text, trees, at);
     }
     if kind == elements::WORD {
-        return spelled_at(text, trees, at, kind);
+        return word_at(text, trees, at);
     }
     classes::kind_class(kind)
 }
@@ -99,6 +133,6 @@ pub fn inside(trees: &[u32], at: usize) -> &[u32]
 {
     let size = size_at(trees, at);
     let first = (at + 1) * TreeRecord::WIDTH;
-    let end = (at + size) * TreeRecord::WIDTH;
+    let end = first + (size - 1) * TreeRecord::WIDTH;
     &trees[first..end]
 }

@@ -1,5 +1,5 @@
 pub mod Laws
-pub mod Table
-pub mod Single
-pub mod Legal
+pub mod Order
+pub mod Singles
 pub mod Spellings
+pub mod Table

@@ -1,14 +1,13 @@
 // The 48 signs of ES5.1 section 7.7: the longest that stands at a place of a text.
 ghost use mathlib.Core.Path.{_≡_};
-ghost use mathlib.Core.Bool.{true};
-ghost use mathlib.Core.List.{List, _∷_, map};
-ghost use Prim.Native.Nat.{ℕ, _≤_};
-ghost use lib.ListN.{drop, getD, length, take};
+ghost use mathlib.Core.List.{List, _∷_};
+ghost use Prim.Native.Nat.{ℕ, _<_, _≤_};
+ghost use lib.ListN.{drop, getD, length};
 ghost use Rattle.signs.specs.declared.Longest.the-variants.{Sign};
-ghost use Rattle.signs.specs.Signs.{longestSign, signs, startsWith};
-ghost use Rattle.signs.specs.Machinery.Rows.{row, bytesOf};
+ghost use Rattle.signs.specs.Signs.{longestSign, startsWith};
+ghost use Rattle.signs.specs.Machinery.Rows.{order, table, firstOf, goesOn};
 
-// The numbers of the signs that are legal here: their places among the 48, from 1.
+// The numbers of the signs of one byte: their places among the 48, from 1.
 pub const OPEN_BRACE: u32 = 1;
 
 pub const CLOSE_BRACE: u32 = 2;
@@ -27,7 +26,29 @@ pub const SEMICOLON: u32 = 8;
 
 pub const COMMA: u32 = 9;
 
+pub const LESS: u32 = 10;
+
+pub const GREATER: u32 = 11;
+
 pub const PLUS: u32 = 18;
+
+pub const MINUS: u32 = 19;
+
+pub const MULTIPLY: u32 = 20;
+
+pub const REMAINDER: u32 = 21;
+
+pub const BIT_AND: u32 = 27;
+
+pub const BIT_OR: u32 = 28;
+
+pub const BIT_XOR: u32 = 29;
+
+pub const NEGATION: u32 = 30;
+
+pub const COMPLEMENT: u32 = 31;
+
+pub const QUESTION: u32 = 34;
 
 pub const COLON: u32 = 35;
 
@@ -35,129 +56,130 @@ pub const ASSIGN: u32 = 36;
 
 pub const SLASH: u32 = 47;
 
-// A sign: its bytes, with 0 after the last; its length; whether it is legal here. Each byte is a field: an array in each row would be
-// one more step of the proof for each.
-pub struct Row {
-    pub a: u8,
-    pub b: u8,
-    pub c: u8,
-    pub d: u8,
-    pub len: usize,
-    pub legal: bool,
-}
-
-// The 48 signs, in the order of ES5.1 section 7.7.
+// The table of the 48 signs, a row for each: its bytes, with 0 after the last; its length; its number. Signs with the same first byte stand together, the longest
+// first, so that the first of them that a text has at a place is the longest.
 #[rattlefmt::skip]
-const SIGNS: [Row; 48] = [
-    Row { a: b'{', b: 0, c: 0, d: 0, len: 1, legal: true },
-    Row { a: b'}', b: 0, c: 0, d: 0, len: 1, legal: true },
-    Row { a: b'(', b: 0, c: 0, d: 0, len: 1, legal: true },
-    Row { a: b')', b: 0, c: 0, d: 0, len: 1, legal: true },
-    Row { a: b'[', b: 0, c: 0, d: 0, len: 1, legal: true },
-    Row { a: b']', b: 0, c: 0, d: 0, len: 1, legal: true },
-    Row { a: b'.', b: 0, c: 0, d: 0, len: 1, legal: true },
-    Row { a: b';', b: 0, c: 0, d: 0, len: 1, legal: true },
-    Row { a: b',', b: 0, c: 0, d: 0, len: 1, legal: true },
-    Row { a: b'<', b: 0, c: 0, d: 0, len: 1, legal: false },
-    Row { a: b'>', b: 0, c: 0, d: 0, len: 1, legal: false },
-    Row { a: b'<', b: b'=', c: 0, d: 0, len: 2, legal: false },
-    Row { a: b'>', b: b'=', c: 0, d: 0, len: 2, legal: false },
-    Row { a: b'=', b: b'=', c: 0, d: 0, len: 2, legal: false },
-    Row { a: b'!', b: b'=', c: 0, d: 0, len: 2, legal: false },
-    Row { a: b'=', b: b'=', c: b'=', d: 0, len: 3, legal: false },
-    Row { a: b'!', b: b'=', c: b'=', d: 0, len: 3, legal: false },
-    Row { a: b'+', b: 0, c: 0, d: 0, len: 1, legal: true },
-    Row { a: b'-', b: 0, c: 0, d: 0, len: 1, legal: false },
-    Row { a: b'*', b: 0, c: 0, d: 0, len: 1, legal: false },
-    Row { a: b'%', b: 0, c: 0, d: 0, len: 1, legal: false },
-    Row { a: b'+', b: b'+', c: 0, d: 0, len: 2, legal: false },
-    Row { a: b'-', b: b'-', c: 0, d: 0, len: 2, legal: false },
-    Row { a: b'<', b: b'<', c: 0, d: 0, len: 2, legal: false },
-    Row { a: b'>', b: b'>', c: 0, d: 0, len: 2, legal: false },
-    Row { a: b'>', b: b'>', c: b'>', d: 0, len: 3, legal: false },
-    Row { a: b'&', b: 0, c: 0, d: 0, len: 1, legal: false },
-    Row { a: b'|', b: 0, c: 0, d: 0, len: 1, legal: false },
-    Row { a: b'^', b: 0, c: 0, d: 0, len: 1, legal: false },
-    Row { a: b'!', b: 0, c: 0, d: 0, len: 1, legal: false },
-    Row { a: b'~', b: 0, c: 0, d: 0, len: 1, legal: false },
-    Row { a: b'&', b: b'&', c: 0, d: 0, len: 2, legal: false },
-    Row { a: b'|', b: b'|', c: 0, d: 0, len: 2, legal: false },
-    Row { a: b'?', b: 0, c: 0, d: 0, len: 1, legal: false },
-    Row { a: b':', b: 0, c: 0, d: 0, len: 1, legal: true },
-    Row { a: b'=', b: 0, c: 0, d: 0, len: 1, legal: true },
-    Row { a: b'+', b: b'=', c: 0, d: 0, len: 2, legal: false },
-    Row { a: b'-', b: b'=', c: 0, d: 0, len: 2, legal: false },
-    Row { a: b'*', b: b'=', c: 0, d: 0, len: 2, legal: false },
-    Row { a: b'%', b: b'=', c: 0, d: 0, len: 2, legal: false },
-    Row { a: b'<', b: b'<', c: b'=', d: 0, len: 3, legal: false },
-    Row { a: b'>', b: b'>', c: b'=', d: 0, len: 3, legal: false },
-    Row { a: b'>', b: b'>', c: b'>', d: b'=', len: 4, legal: false },
-    Row { a: b'&', b: b'=', c: 0, d: 0, len: 2, legal: false },
-    Row { a: b'|', b: b'=', c: 0, d: 0, len: 2, legal: false },
-    Row { a: b'^', b: b'=', c: 0, d: 0, len: 2, legal: false },
-    Row { a: b'/', b: 0, c: 0, d: 0, len: 1, legal: true },
-    Row { a: b'/', b: b'=', c: 0, d: 0, len: 2, legal: false },
+const SIGNS: [u8; 288] = [
+    b'{', 0, 0, 0, 1, 1,
+    b'}', 0, 0, 0, 1, 2,
+    b'(', 0, 0, 0, 1, 3,
+    b')', 0, 0, 0, 1, 4,
+    b'[', 0, 0, 0, 1, 5,
+    b']', 0, 0, 0, 1, 6,
+    b'.', 0, 0, 0, 1, 7,
+    b';', 0, 0, 0, 1, 8,
+    b',', 0, 0, 0, 1, 9,
+    b'~', 0, 0, 0, 1, 31,
+    b'?', 0, 0, 0, 1, 34,
+    b':', 0, 0, 0, 1, 35,
+    b'<', b'<', b'=', 0, 3, 41,
+    b'<', b'=', 0, 0, 2, 12,
+    b'<', b'<', 0, 0, 2, 24,
+    b'<', 0, 0, 0, 1, 10,
+    b'>', b'>', b'>', b'=', 4, 43,
+    b'>', b'>', b'>', 0, 3, 26,
+    b'>', b'>', b'=', 0, 3, 42,
+    b'>', b'=', 0, 0, 2, 13,
+    b'>', b'>', 0, 0, 2, 25,
+    b'>', 0, 0, 0, 1, 11,
+    b'+', b'+', 0, 0, 2, 22,
+    b'+', b'=', 0, 0, 2, 37,
+    b'+', 0, 0, 0, 1, 18,
+    b'-', b'-', 0, 0, 2, 23,
+    b'-', b'=', 0, 0, 2, 38,
+    b'-', 0, 0, 0, 1, 19,
+    b'*', b'=', 0, 0, 2, 39,
+    b'*', 0, 0, 0, 1, 20,
+    b'%', b'=', 0, 0, 2, 40,
+    b'%', 0, 0, 0, 1, 21,
+    b'&', b'&', 0, 0, 2, 32,
+    b'&', b'=', 0, 0, 2, 44,
+    b'&', 0, 0, 0, 1, 27,
+    b'|', b'|', 0, 0, 2, 33,
+    b'|', b'=', 0, 0, 2, 45,
+    b'|', 0, 0, 0, 1, 28,
+    b'^', b'=', 0, 0, 2, 46,
+    b'^', 0, 0, 0, 1, 29,
+    b'!', b'=', b'=', 0, 3, 17,
+    b'!', b'=', 0, 0, 2, 15,
+    b'!', 0, 0, 0, 1, 30,
+    b'=', b'=', b'=', 0, 3, 16,
+    b'=', b'=', 0, 0, 2, 14,
+    b'=', 0, 0, 0, 1, 36,
+    b'/', b'=', 0, 0, 2, 48,
+    b'/', 0, 0, 0, 1, 47,
 ];
 
-// The longest sign at a place, by its number, length and legality; or that none starts there.
+// The numbers of a row.
+const WIDTH: usize = 6;
+
+// The longest sign at a place, by its number and length; or that none starts there.
 pub enum Longest {
     None,
-    Sign(u32, usize, bool),
+    Sign(u32, usize),
 }
 
-// Whether the text has the row's sign at a place.
-fn starts_at(row: Row, text: &[u8], at: usize) -> bool
-    requires { ⌜ (row .len ≤ 4) × (at ≤ length (now text)) ⌝ }
-    ensures { λ r. ⌜ r ≡ startsWith (take (row .len) (bytesOf row)) (drop at (now (text .entry))) ⌝ }
+// Whether the text has a sign at a place.
+fn starts_at(sign: &[u8], text: &[u8], at: usize) -> bool
+    requires { ⌜ at ≤ length (now text) ⌝ }
+    ensures { λ r. ⌜ r ≡ startsWith (now (sign .entry)) (drop at (now (text .entry))) ⌝ }
 {
-    let bytes = [row.a, row.b, row.c, row.d];
-    let len = row.len;
+    let len = sign.len();
     if text.len() - at < len {
         return false;
     }
-    runs::equal(&bytes[..len], &text[at..at + len])
+    runs::equal(sign, &text[at..at + len])
 }
 
-// The table is passed in by value, so that it is copied once and not in every turn.
-fn longest_in(table: [Row; 48], text: &[u8], at: usize) -> Longest
-    requires { ⌜ (at ≤ length (now text)) × (table ≡ map row signs) ⌝ }
-    ensures { λ r. ⌜ r ≡ longestSign (drop at (now (text .entry))) ⌝ }
+// The first of the table's signs, from its row `from` on, that the text has at a place.
+fn scan(signs: &[u8], text: &[u8], at: usize, from: usize) -> Longest
+    requires { ⌜ (now signs ≡ table) × (at ≤ length (now text)) ⌝ }
+    ensures { λ r. ⌜ r ≡ firstOf (drop at (now (text .entry))) (drop from order) ⌝ }
 {
-    let mut number = 0u32;
-    let mut len = 0usize;
-    let mut legal = false;
-    let mut k = 0usize;
+    let mut k = from;
     while k < 48 {
-        let row = table[k];
-        let n = row.len;
-        if len < n {
-            if starts_at(row, text, at) {
-                number = (k + 1) as u32;
-                len = n;
-                legal = row.legal;
-            }
+        let row = WIDTH * k;
+        let len = signs[row + 4] as usize;
+        if starts_at(&signs[row..row + len], text, at) {
+            return Longest::Sign(signs[row + 5] as u32, len);
         }
         k += 1;
     }
-    if len == 0 {
-        Longest::None
-    } else {
-        Longest::Sign(number, len, legal)
+    Longest::None
+}
+
+// The row at which the signs that start with `b` begin.
+fn first_row(b: u8) -> usize
+    ensures { λ r. ⌜ ((t : List ℕ) → firstOf (b ∷ t) (drop r order) ≡ firstOf (b ∷ t) order) ⌝ }
+{
+    match b {
+        b'<' => 12,
+        b'>' => 16,
+        b'+' => 22,
+        b'-' => 25,
+        b'*' => 28,
+        b'%' => 30,
+        b'&' => 32,
+        b'|' => 35,
+        b'^' => 38,
+        b'!' => 40,
+        b'=' => 43,
+        b'/' => 46,
+        _ => 0,
     }
 }
 
-// The longest sign at a place, by the table alone: what has the table in it is the dear part of the proof, and has nothing else in it.
+// The longest sign at a place, by the table.
 fn by_table(text: &[u8], at: usize) -> Longest
-    requires { ⌜ at ≤ length (now text) ⌝ }
+    requires { ⌜ at < length (now text) ⌝ }
     ensures { λ r. ⌜ r ≡ longestSign (drop at (now (text .entry))) ⌝ }
 {
-    longest_in(SIGNS, text, at)
+    scan(&SIGNS, text, at, first_row(text[at]))
 }
 
-// The number of the legal sign that the byte `b` is where `next` follows, if no longer sign can stand there: ten of
-// the thirteen bytes begin no other sign, and three begin one only before `=` or `+`. Else 0, and the table decides.
-fn alone(b: u8, next: u8) -> u32
-    ensures { λ r. ⌜ ((r ≡ 0 → ⊥) → (t : List ℕ) → getD t 0 0 ≡ next → longestSign (b ∷ t) ≡ Sign r 1 true) ⌝ }
+// The number of the sign that the byte `b` is where no other sign starts with it, else 0.
+fn lone(b: u8) -> u32
+    ensures { λ r. ⌜ ((r ≡ 0 → ⊥) → (t : List ℕ) → longestSign (b ∷ t) ≡ Sign r 1) ⌝ }
 {
     match b {
         b'(' => OPEN_PAREN,
@@ -166,18 +188,52 @@ fn alone(b: u8, next: u8) -> u32
         b'}' => CLOSE_BRACE,
         b';' => SEMICOLON,
         b'.' => DOT,
-        b':' => COLON,
         b',' => COMMA,
+        b':' => COLON,
         b'[' => OPEN_BRACKET,
         b']' => CLOSE_BRACKET,
-        b'/' => { if next == b'=' { 0 } else { SLASH } }
-        b'=' => { if next == b'=' { 0 } else { ASSIGN } }
-        b'+' => {
-            if next == b'=' {
-                return 0;
-            }
-            if next == b'+' { 0 } else { PLUS }
-        }
+        b'?' => QUESTION,
+        b'~' => COMPLEMENT,
+        _ => 0,
+    }
+}
+
+// Whether some sign goes on with the byte `next` behind its first.
+fn goes_on(next: u8) -> bool
+    ensures { λ r. ⌜ r ≡ goesOn next ⌝ }
+{
+    match next {
+        b'<' => true,
+        b'=' => true,
+        b'>' => true,
+        b'+' => true,
+        b'-' => true,
+        b'&' => true,
+        b'|' => true,
+        _ => false,
+    }
+}
+
+// The number of the sign that the byte `b` is where no sign goes on with the byte `next` behind it; else 0, and the table decides.
+fn single(b: u8, next: u8) -> u32
+    ensures { λ r. ⌜ ((r ≡ 0 → ⊥) → (t : List ℕ) → getD t 0 0 ≡ next → longestSign (b ∷ t) ≡ Sign r 1) ⌝ }
+{
+    if goes_on(next) {
+        return 0;
+    }
+    match b {
+        b'<' => LESS,
+        b'>' => GREATER,
+        b'+' => PLUS,
+        b'-' => MINUS,
+        b'*' => MULTIPLY,
+        b'%' => REMAINDER,
+        b'&' => BIT_AND,
+        b'|' => BIT_OR,
+        b'^' => BIT_XOR,
+        b'!' => NEGATION,
+        b'=' => ASSIGN,
+        b'/' => SLASH,
         _ => 0,
     }
 }
@@ -190,11 +246,14 @@ pub fn sign_at(text: &[u8], at: usize) -> Longest
         return Longest::None;
     }
     let b = text[at];
-    let next = if at + 1 < text.len() { text[at + 1] } else { 0 };
-    let number = alone(b, next);
-    if number == 0 {
-        by_table(text, at)
-    } else {
-        Longest::Sign(number, 1, true)
+    let number = lone(b);
+    if number != 0 {
+        return Longest::Sign(number, 1);
     }
+    let next = if at + 1 < text.len() { text[at + 1] } else { 0 };
+    let number = single(b, next);
+    if number != 0 {
+        return Longest::Sign(number, 1);
+    }
+    by_table(text, at)
 }

@@ -1,13 +1,11 @@
-// The prefix rule by a summary of the trees before on a level. The code of a level is that of its summary, which is below 64,
-// and 64 times the kind of its group, which is below 32 (0 for the whole text). From 2,048 up there is room for a count, which is
-// 0 so far.
+// The prefix rule by a summary of the trees before on a level. The code of a level is that of its summary, which is below 64;
+// 64 times the kind of its group, which is below 32 (0 for the whole text); and 2,048 times the count of its unanswered `?`s.
 ghost use mathlib.Core.Path.{_≡_};
-ghost use Prim.Native.Nat.{_/_, _≤_};
+ghost use Prim.Native.Nat.{_≤_, _<_, _^_};
 ghost use mathlib.Core.Bool.{Bool};
 ghost use Rattle.rule.specs.Levels.{isExpression};
-ghost use Rattle.rule.specs.Rule.{comma, wordClass, signClass, elementClass, groupClass};
-ghost use Rattle.rule.specs.Machinery.Summary.{summaries};
-ghost use Rattle.rule.specs.Machinery.LevelCodes.{levelIn, slashByLevel, nameByLevel, statedByLevel, braceByLevel, levelAfterName, levelAfterParens, levelAfterBlock, levelAfter};
+ghost use Rattle.rule.specs.Rule.{literal, operator, answer, comma, is, wordClass, signClass, elementClass, groupClass};
+ghost use Rattle.rule.specs.Machinery.LevelCodes.{kindIn, levelIn, slashByLevel, nameByLevel, statedByLevel, braceByLevel, settledByLevel, levelAfterName, levelAfterParens, levelAfterBlock, levelAfter};
 use elements::Element;
 use elements::Stated;
 
@@ -20,8 +18,26 @@ pub const BLOCK: u32 = 9;
 
 pub const BRACKETS: u32 = 10;
 
-// Room for summaries in the code of a level.
-pub const SUMMARIES: u32 = 64;
+// The kinds of `++` or `--` before and after its operand, and of a `:` that answers a `?`, as request U4 numbers them.
+pub const BEFORE: u32 = 11;
+
+pub const AFTER: u32 = 12;
+
+pub const ANSWER: u32 = 13;
+
+// Room for summaries in the code of a level, and for kinds of groups above them; and what a `?` adds to it.
+const SUMMARIES: u32 = 64;
+
+const KINDS: u32 = 32;
+
+const ONE_QUESTION: u32 = 2048;
+
+// The numbers of signs: `++`, `--`, and the last of the 48.
+const INCREMENT: u32 = 22;
+
+const DECREMENT: u32 = 23;
+
+const LAST_SIGN: u32 = 48;
 
 // The summaries: after an operand; after the name, the parentheses and the word of a function, in a statement's place and in
 // an operand's; and by what stands last. A slash divides after the first five.
@@ -60,6 +76,13 @@ const AFTER_DOT: u32 = 15;
 // Where a property of an object is due: nothing or a comma is last.
 const PROPERTY_DUE: u32 = 16;
 
+// The kind of a level's group.
+pub fn kind_in(level: u32) -> u32
+    ensures { λ r. ⌜ r ≡ kindIn level ⌝ }
+{
+    level / SUMMARIES % KINDS
+}
+
 // The level where nothing stands yet in a group of a kind.
 pub fn level_in(kind: u32) -> u32
     requires { ⌜ kind ≤ 10 ⌝ }
@@ -97,9 +120,9 @@ pub fn stated_by(level: u32) -> Stated
 
 // Whether a level is an expression level.
 fn is_expression(level: u32) -> bool
-    ensures { λ r. ⌜ r ≡ isExpression (level / summaries) ⌝ }
+    ensures { λ r. ⌜ r ≡ isExpression (kindIn level) ⌝ }
 {
-    let kind = level / SUMMARIES;
+    let kind = kind_in(level);
     if kind == PARENS {
         return true;
     }
@@ -147,6 +170,68 @@ fn after_name(level: u32) -> u32
     base + OPERAND
 }
 
+// The kind of the sign of a number, before which a line end lies or not.
+pub fn settled(level: u32, which: u32, newline: bool) -> u32
+    ensures { λ r. ⌜ r ≡ settledByLevel level newline which ⌝ }
+{
+    if which < INCREMENT {
+        return elements::SIGN;
+    }
+    if which <= DECREMENT {
+        if newline {
+            return BEFORE;
+        }
+        if slash_opens(level) {
+            return BEFORE;
+        }
+        return AFTER;
+    }
+    if which == signs::COLON {
+        if ONE_QUESTION <= level {
+            return ANSWER;
+        }
+    }
+    elements::SIGN
+}
+
+// Whether the word of a number is a value.
+fn is_value(which: u32) -> bool
+    ensures { λ r. ⌜ r ≡ is literal (wordClass which) ⌝ }
+{
+    if which == words::THIS {
+        return true;
+    }
+    if which == words::NULL {
+        return true;
+    }
+    if which == words::TRUE {
+        return true;
+    }
+    which == words::FALSE
+}
+
+// Whether the word of a number is an operator.
+fn is_operator(which: u32) -> bool
+    ensures { λ r. ⌜ r ≡ is operator (wordClass which) ⌝ }
+{
+    if which == words::INSTANCEOF {
+        return true;
+    }
+    if which == words::TYPEOF {
+        return true;
+    }
+    if which == words::NEW {
+        return true;
+    }
+    if which == words::VOID {
+        return true;
+    }
+    if which == words::DELETE {
+        return true;
+    }
+    which == words::IN
+}
+
 // The level after a reserved word.
 fn after_word(level: u32, which: u32, newline: bool) -> u32
     ensures { λ r. ⌜ r ≡ levelAfter level (wordClass which) newline ⌝ }
@@ -164,6 +249,12 @@ fn after_word(level: u32, which: u32, newline: bool) -> u32
     if which == words::IF {
         return base + AFTER_IF;
     }
+    if is_value(which) {
+        return base + OPERAND;
+    }
+    if is_operator(which) {
+        return base + AFTER_OPERATOR;
+    }
     base + AFTER_OTHER
 }
 
@@ -171,41 +262,64 @@ fn after_word(level: u32, which: u32, newline: bool) -> u32
 fn after_comma(level: u32) -> u32
     ensures { λ r. ⌜ ((newline : Bool) → r ≡ levelAfter level comma newline) ⌝ }
 {
-    let kind = level / SUMMARIES;
-    if kind == OBJECT {
-        return SUMMARIES * OBJECT + PROPERTY_DUE;
+    let base = SUMMARIES * (level / SUMMARIES);
+    if kind_in(level) == OBJECT {
+        return base + PROPERTY_DUE;
     }
-    SUMMARIES * kind + AFTER_OPERATOR
+    base + AFTER_OPERATOR
 }
 
-// The level after a sign.
-fn after_sign(level: u32, which: u32) -> u32
+// The level after a `:` that answers a `?`.
+fn after_answer(level: u32) -> u32
+    ensures { λ r. ⌜ ((newline : Bool) → r ≡ levelAfter level answer newline) ⌝ }
+{
+    if level < ONE_QUESTION {
+        return SUMMARIES * (level / SUMMARIES) + AFTER_OPERATOR;
+    }
+    SUMMARIES * ((level - ONE_QUESTION) / SUMMARIES) + AFTER_OPERATOR
+}
+
+// The level after a sign that is numbered behind `,`.
+fn after_operator(level: u32, which: u32) -> u32
+    requires { ⌜ (9 < which) × (level < 2 ^ 31) ⌝ }
     ensures { λ r. ⌜ ((newline : Bool) → r ≡ levelAfter level (signClass which) newline) ⌝ }
 {
     let base = SUMMARIES * (level / SUMMARIES);
-    if which == signs::SLASH {
-        return base + AFTER_OPERATOR;
-    }
-    if which == signs::PLUS {
-        return base + AFTER_OPERATOR;
-    }
-    if which == signs::ASSIGN {
-        return base + AFTER_OPERATOR;
+    if which == signs::QUESTION {
+        return base + AFTER_OPERATOR + ONE_QUESTION;
     }
     if which == signs::COLON {
         return base + AFTER_COLON;
     }
+    if LAST_SIGN < which {
+        return base + AFTER_OTHER;
+    }
+    base + AFTER_OPERATOR
+}
+
+// The level after a sign.
+fn after_sign(level: u32, which: u32) -> u32
+    requires { ⌜ level < 2 ^ 31 ⌝ }
+    ensures { λ r. ⌜ ((newline : Bool) → r ≡ levelAfter level (signClass which) newline) ⌝ }
+{
+    if signs::COMMA < which {
+        return after_operator(level, which);
+    }
     if which == signs::DOT {
-        return base + AFTER_DOT;
+        return SUMMARIES * (level / SUMMARIES) + AFTER_DOT;
+    }
+    if which == signs::SEMICOLON {
+        return SUMMARIES * (level % ONE_QUESTION / SUMMARIES) + AFTER_OTHER;
     }
     if which == signs::COMMA {
         return after_comma(level);
     }
-    base + AFTER_OTHER
+    SUMMARIES * (level / SUMMARIES) + AFTER_OTHER
 }
 
 // The level after an element that is no delimiter.
 pub fn after_leaf(level: u32, e: Element) -> u32
+    requires { ⌜ level < 2 ^ 31 ⌝ }
     ensures { λ r. ⌜ r ≡ levelAfter level (elementClass e) (e .newline) ⌝ }
 {
     if e.kind == elements::NAME {
@@ -214,8 +328,17 @@ pub fn after_leaf(level: u32, e: Element) -> u32
     if e.kind == elements::WORD {
         return after_word(level, e.which, e.newline);
     }
+    if e.kind < elements::SIGN {
+        return SUMMARIES * (level / SUMMARIES) + OPERAND;
+    }
     if e.kind == elements::SIGN {
         return after_sign(level, e.which);
+    }
+    if e.kind == BEFORE {
+        return SUMMARIES * (level / SUMMARIES) + AFTER_OPERATOR;
+    }
+    if e.kind == ANSWER {
+        return after_answer(level);
     }
     SUMMARIES * (level / SUMMARIES) + OPERAND
 }

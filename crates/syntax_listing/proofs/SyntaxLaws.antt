@@ -8,7 +8,7 @@ use Rattle.text.specs.Quoted.{bytes}
 use Rattle.answers.specs.declared.Answer.{Answer}
 use Rattle.tables.specs.Records.{treeWidth, mostTrees, syntaxWidth, mostSyntax}
 use Rattle.reading.specs.Read.{longText, mostBytes}
-use Rattle.grammar.specs.Syntax.{size, syntaxRecords}
+use Rattle.machine.specs.Syntax.{size, syntaxRecords}
 use Rattle.parsing.specs.Parse.{Parsing, program, denied, parsingFor, answerOf, treesAfter, syntaxAfter}
 use Rattle.parser.proofs.WrittenCells.{syntax-length}
 use Rattle.printing.specs.Printed.{FitsTable, listingRoom}

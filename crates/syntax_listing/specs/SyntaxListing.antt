@@ -4,7 +4,7 @@ use mathlib.Core.Path.{_≡_}
 use mathlib.Core.List.{List}
 use Rattle.text.specs.Quoted.{bytes}
 use Rattle.tables.specs.Records.{treeWidth, mostTrees, syntaxWidth, mostSyntax}
-use Rattle.grammar.specs.Syntax.{size, syntaxRecords}
+use Rattle.machine.specs.Syntax.{size, syntaxRecords}
 use Rattle.parsing.specs.Parse.{Parsing, program, denied, parsingFor, treesAfter, syntaxAfter}
 use Rattle.printing.specs.Printed
 use Rattle.printing.specs.Printed.{refusal}

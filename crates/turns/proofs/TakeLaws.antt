@@ -2,16 +2,17 @@
 use mathlib.Core.Path.{_≡_, refl}
 use mathlib.Core.Bool.{Bool, true, false}
 use mathlib.Core.List.{List}
-use Prim.Native.Nat.{ℕ, _/_, _<_, _≤_}
+use Prim.Native.Nat.{ℕ, _/_, _<_, _≤_, _^_}
 use native.Mathlib.Omega.{arith}
 use borrow.Author.Tests.{le-leb, lt-leb}
 use lib.ListN.{length}
 use Rattle.elements.specs.declared.Element.{Element}
-use Rattle.rule.specs.Levels.{Levels, countSoFar}
+use Rattle.rule.specs.Levels.{Levels, settledIn, countSoFar}
 use Rattle.prefix.specs.Reading.{Step, delimit, step, treesFull}
-use Rattle.prefix.specs.Machinery.Represents.{Represents, Follows, group-opened, group-closed, stopped, Delimits, AddsLeaf}
+use Rattle.prefix.specs.Machinery.Represents.{Represents, Follows, group-opened, group-closed, stopped, Settles, Delimits, AddsLeaf}
 use Rattle.prefix.specs.declared.State.{State}
 use Rattle.prefix.specs.declared.Advanced.{Advanced}
+use Rattle.prefix.proofs.StateLaws.{represented-level}
 use Rattle.prefix.proofs.StepLaws.{step-leaf, step-delimiter}
 use Rattle.keeping.specs.Machinery.Keeping.{Lent, lent, tagOf, Keeps, MayTake, MayKeep, MayKeepEnd, withLeaf, withOpener, KeepsTree, KeepsEnd}
 use Rattle.keeping.proofs.KeepLaws.{keeps-represented, keeps-stack, tag-is}
@@ -40,6 +41,35 @@ module _ (spaced : Bool) (bytes : List ℕ) (is : Lent) (room : ℕ) (state : St
       → MayKeepEnd spaced bytes (is .trees) (is .output) state at opener e
   may-close (group-closed {after = outer} c represented) = record { stack = is .stack; room = room; may = may; outer = outer; closes = c }
 
+-- an element of its settled kind may be kept
+module _ (spaced : Bool) (bytes : List ℕ) (is : Lent) (room : ℕ) (state : State) (at : ℕ) (e : Element) (may : MayTake spaced bytes is room state at e) (free : state .records < room) where
+  held-before : Represents (tagOf spaced) (is .stack) state (may .levels)
+  held-before = keeps-represented bytes (may .was) is room state at (may .place) (may .levels) spaced (may .keeps)
+
+  pub may-add : (state .level < 2 ^ 31) × (state .records < 2 ^ 32)
+  may-add = omega (arith, may .room-small, represented-level (tagOf spaced) (is .stack) state (may .levels) held-before)
+
+  pub may-leaf : (leaf : Element) → Settles state e leaf → MayKeep spaced bytes (is .trees) (is .output) state at leaf
+  may-leaf leaf settles =
+      rw (settles (tagOf spaced) (is .stack) (may .levels) held-before)
+      (record {
+        stack = is .stack;
+        room = room;
+        may =
+            record {
+              was = may .was;
+              place = may .place;
+              levels = may .levels;
+              keeps = may .keeps;
+              near = may .near;
+              some = may .some;
+              within = may .within;
+              short = may .short;
+              room-small = may .room-small;
+            };
+        more-room = free;
+      })
+
 -- what taking an element comes to
 module _ (spaced : Bool) (bytes : List ℕ) (was is : Lent) (room : ℕ) (state : State) (at place : ℕ) (levels : Levels) (e : Element) (near : place ≤ e .first)
     (keeps : Keeps spaced bytes was is room state at place levels) where
@@ -49,13 +79,14 @@ module _ (spaced : Bool) (bytes : List ℕ) (was is : Lent) (room : ℕ) (state 
   pub leaf-full : (e .kind ≡ 0 → ⊥) → room ≤ state .records → Turned spaced bytes was is room (e .end) (Taken.Stop treesFull (e .first)) (step (limitsFor room) levels e)
   leaf-full k full = rw (step-leaf (limitsFor room) levels e k, le-leb room (countSoFar levels) (omega (arith, held .records-is))) ends
 
-  pub leaf-taken : (e .kind ≡ 0 → ⊥) → state .records < room → (trees output : List ℕ) (next : State) (to : ℕ)
-      → AddsLeaf state e next → KeepsTree spaced bytes (is .trees) (is .output) trees output state at e (withLeaf e) to
+  pub leaf-taken : (e .kind ≡ 0 → ⊥) → state .records < room → (trees output : List ℕ) (next : State) (to : ℕ) (leaf : Element)
+      → Settles state e leaf → AddsLeaf state leaf next → KeepsTree spaced bytes (is .trees) (is .output) trees output state at leaf (withLeaf leaf) to
       → Turned spaced bytes was (lent trees output (is .stack)) room (e .end) (Taken.More next to) (step (limitsFor room) levels e)
-  leaf-taken k free trees output next to added adds =
+  leaf-taken k free trees output next to leaf settles added adds =
       let some : countSoFar levels < room = omega (arith, held .records-is) in
+      let s : leaf ≡ settledIn levels e = settles (tagOf spaced) (is .stack) levels held in
       rw (step-leaf (limitsFor room) levels e k, lt-leb room (countSoFar levels) some)
-      (goes-on (adds was (is .stack) (is .stack) room place levels next near refl keeps some (added (tagOf spaced) (is .stack) levels held)))
+      (goes-on ((rw s at adds) was (is .stack) (is .stack) room place levels next near refl keeps some ((rw s at added) (tagOf spaced) (is .stack) levels held)))
 
   -- the step at a delimiter, with the limits of the reading
   pub follows : e .kind ≡ 0 → (after : List ℕ) (tag : ℕ) (advanced : Advanced) → Delimits (is .stack) after state room tag e advanced → tag ≡ tagOf spaced levels (e .first)

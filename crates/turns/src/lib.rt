@@ -46,8 +46,9 @@ fn take_leaf(
     if room <= state.records {
         return Taken::Stop(prefix::TREES_FULL, e.first);
     }
-    let next = prefix::with_leaf(state, e);
-    let to = keeping::keep_leaf(text, trees, output, spaced, state, at, e);
+    let leaf = prefix::settled(state, e);
+    let next = prefix::with_leaf(state, leaf);
+    let to = keeping::keep_leaf(text, trees, output, spaced, state, at, leaf);
     Taken::More(next, to)
 }
 

@@ -1,19 +1,13 @@
--- Document 01's count of words and signs, its lists of those that are taken, and what the prefix rule and the grammar tell apart.
+-- Document 01's count of words and signs, the lists of those that are taken, and what the prefix rule and the grammar tell apart.
 use mathlib.Core.Path.{_≡_, refl}
-use mathlib.Core.List.{List, [], _∷_}
+use mathlib.Core.List.{List, [], _∷_, _++_}
 use Prim.Native.String.{String}
-use mathlib.Core.Bool.{cond}
-use lib.Dec.{eqb, leb}
+use mathlib.Core.Bool.{Bool, true, cond}
+use lib.Dec.{eqb}
 use Prim.Native.Nat.{ℕ}
 use lib.ListN.{length}
 use Rattle.vocabulary.specs.RuleClasses.{Class, rank}
-use Rattle.vocabulary.specs.TokenClasses.{divide, plus, assign, colon, semicolon, dot, openParen, closeParen, openBrace, closeBrace, returnWord, functionWord, ifWord, openBracket, closeBracket, comma}
 use Rattle.vocabulary.specs.Vocabulary.{Row, barred, taken, words, signs}
-
-abbrev takenIn : List Row → List String
-takenIn [] = []
-takenIn (barred t ∷ rows) = takenIn rows
-takenIn (taken t rule token precedence ∷ rows) = t ∷ takenIn rows
 
 -- "The 36 reserved words", "the 48 signs"
 pub words-number : length words ≡ 36
@@ -22,80 +16,122 @@ words-number = refl
 pub signs-number : length signs ≡ 48
 signs-number = refl
 
--- "Taken here: `return`, `function`, `if`."
-pub words-taken : takenIn words ≡ "return" ∷ "function" ∷ "if" ∷ []
+-- the rows that are taken and whose class and precedence pass a test
+abbrev takenIn : (Class → ℕ → Bool) → List Row → List String
+takenIn test [] = []
+takenIn test (barred t ∷ rows) = takenIn test rows
+takenIn test (taken t rule token precedence ∷ rows) = cond (test rule precedence) (t ∷ takenIn test rows) (takenIn test rows)
+
+-- "Taken here: `return`, `function`, `if`."; document 02, U4: "the word operators .. `this`, `null`, `true`, `false`"
+pub words-taken : takenIn (λ rule precedence. true) words
+    ≡ "instanceof" ∷ "typeof" ∷ "new" ∷ "return" ∷ "void" ∷ "function" ∷ "this" ∷ "if" ∷ "delete" ∷ "in" ∷ "null" ∷ "true" ∷ "false" ∷ []
 words-taken = refl
 
--- "Legal here: `/ + : ; = .` and `( ) { }`."; document 02, U2: "Add `[`, `]` and `,`"
-pub signs-taken : takenIn signs ≡ "{" ∷ "}" ∷ "(" ∷ ")" ∷ "[" ∷ "]" ∷ "." ∷ ";" ∷ "," ∷ "+" ∷ ":" ∷ "=" ∷ "/" ∷ []
-signs-taken = refl
+-- each with the number of its class for the grammar: that of the part which it marks, or one from 128 up
+pub data Told : Type 0 where
+  told : String → ℕ → Told
 
--- the words and signs of a class, and those with a precedence
-abbrev classedIn : Class → List Row → List String
-classedIn class [] = []
-classedIn class (barred t ∷ rows) = classedIn class rows
-classedIn class (taken t rule token precedence ∷ rows) = cond (eqb (rank rule) (rank class)) (t ∷ classedIn class rows) (classedIn class rows)
-
-abbrev boundIn : ℕ → List Row → List String
-boundIn least [] = []
-boundIn least (barred t ∷ rows) = boundIn least rows
-boundIn least (taken t rule token precedence ∷ rows) = cond (leb least precedence) (t ∷ boundIn least rows) (boundIn least rows)
-
--- the classes of the same words and signs for the grammar, in the same order
-abbrev tokensIn : List Row → List ℕ
+abbrev tokensIn : List Row → List Told
 tokensIn [] = []
 tokensIn (barred t ∷ rows) = tokensIn rows
-tokensIn (taken t rule token precedence ∷ rows) = token ∷ tokensIn rows
+tokensIn (taken t rule token precedence ∷ rows) = told t token ∷ tokensIn rows
 
-pub words-token : tokensIn words ≡ returnWord ∷ functionWord ∷ ifWord ∷ []
+pub words-token : tokensIn words ≡ told "instanceof" 50 ∷ told "typeof" 33 ∷ told "new" 28 ∷ told "return" 136 ∷ told "void" 32 ∷ told "function" 137 ∷ told "this" 23 ∷ told "if" 138 ∷ told "delete" 31 ∷ told "in" 51 ∷ told "null" 24 ∷ told "true" 25 ∷ told "false" 26 ∷ []
 words-token = refl
 
-pub signs-token : tokensIn signs ≡ openBrace ∷ closeBrace ∷ openParen ∷ closeParen ∷ openBracket ∷ closeBracket ∷ dot ∷ semicolon ∷ comma ∷ plus ∷ colon ∷ assign ∷ divide ∷ []
+-- document 02, U4: "Add all 48 signs"
+pub signs-token : tokensIn signs ≡ told "{" 134 ∷ told "}" 135 ∷ told "(" 132 ∷ told ")" 133 ∷ told "[" 140 ∷ told "]" 141 ∷ told "." 131 ∷ told ";" 130 ∷ told "," 73 ∷ told "<" 46 ∷ told ">" 47 ∷ told "<=" 48 ∷ told ">=" 49 ∷ told "==" 52 ∷ told "!=" 53 ∷ told "===" 54 ∷ told "!==" 55 ∷ told "+" 11 ∷ told "-" 42 ∷ told "*" 40 ∷ told "%" 41 ∷ told "++" 34 ∷ told "--" 35 ∷ told "<<" 43 ∷ told ">>" 44 ∷ told ">>>" 45 ∷ told "&" 56 ∷ told "|" 58 ∷ told "^" 57 ∷ told "!" 39 ∷ told "~" 38 ∷ told "&&" 59 ∷ told "||" 60 ∷ told "?" 61 ∷ told ":" 129 ∷ told "=" 12 ∷ told "+=" 65 ∷ told "-=" 66 ∷ told "*=" 62 ∷ told "%=" 64 ∷ told "<<=" 67 ∷ told ">>=" 68 ∷ told ">>>=" 69 ∷ told "&=" 70 ∷ told "|=" 72 ∷ told "^=" 71 ∷ told "/" 10 ∷ told "/=" 63 ∷ []
 signs-token = refl
 
--- "last is `/`, `+` or `=`; last is `:` ..", and no word is one of these
-pub signs-operator : classedIn Class.operator signs ≡ "+" ∷ "=" ∷ "/" ∷ []
-signs-operator = refl
+-- the words, then the signs, of a class
+abbrev classed : Class → List String
+classed class = takenIn (λ rule precedence. eqb (rank rule) (rank class)) (words ++ signs)
 
-pub signs-colon : classedIn Class.colon signs ≡ ":" ∷ []
-signs-colon = refl
+-- "last is `/`, `+` or `=`"; document 02, U4: "after any other added operator"
+pub operator-rows : classed Class.operator
+    ≡ "instanceof" ∷ "typeof" ∷ "new" ∷ "void" ∷ "delete" ∷ "in" ∷ "<" ∷ ">" ∷ "<=" ∷ ">=" ∷ "==" ∷ "!=" ∷ "===" ∷ "!==" ∷ "+" ∷ "-" ∷ "*" ∷ "%" ∷ "++" ∷ "--" ∷ "<<" ∷ ">>" ∷ ">>>" ∷ "&" ∷ "|" ∷ "^" ∷ "!" ∷ "~" ∷ "&&" ∷ "||" ∷ "=" ∷ "+=" ∷ "-=" ∷ "*=" ∷ "%=" ∷ "<<=" ∷ ">>=" ∷ ">>>=" ∷ "&=" ∷ "|=" ∷ "^=" ∷ "/" ∷ "/=" ∷ []
+operator-rows = refl
 
-pub words-operator : classedIn Class.operator words ≡ []
-words-operator = refl
+-- document 02, U4: "The four value words are followed by a divide"
+pub literal-rows : classed Class.literal ≡ "this" ∷ "null" ∷ "true" ∷ "false" ∷ []
+literal-rows = refl
 
-pub words-colon : classedIn Class.colon words ≡ []
-words-colon = refl
+-- document 02, U4: "A `:` answering an unanswered `?`"; and "last is `:`"
+pub question-rows : classed Class.question ≡ "?" ∷ []
+question-rows = refl
+
+pub answer-rows : classed Class.answer ≡ []
+answer-rows = refl
+
+pub colon-rows : classed Class.colon ≡ ":" ∷ []
+colon-rows = refl
 
 -- document 02, U1: "the sign `.`"
-pub signs-dot : classedIn Class.dot signs ≡ "." ∷ []
-signs-dot = refl
-
-pub words-dot : classedIn Class.dot words ≡ []
-words-dot = refl
+pub dot-rows : classed Class.dot ≡ "." ∷ []
+dot-rows = refl
 
 -- document 02, U2: "after `,`"
-pub signs-comma : classedIn Class.comma signs ≡ "," ∷ []
-signs-comma = refl
+pub comma-rows : classed Class.comma ≡ "," ∷ []
+comma-rows = refl
 
-pub words-comma : classedIn Class.comma words ≡ []
-words-comma = refl
+-- document 02, U4: "`;` forgets open ones"
+pub semicolon-rows : classed Class.semicolon ≡ ";" ∷ []
+semicolon-rows = refl
 
 -- "last is `return` ..; last is `( )` preceded by `if`", and the `function` of the exception
-pub words-return : classedIn Class.returnWord words ≡ "return" ∷ []
-words-return = refl
+pub return-rows : classed Class.returnWord ≡ "return" ∷ []
+return-rows = refl
 
-pub words-if : classedIn Class.ifWord words ≡ "if" ∷ []
-words-if = refl
+pub if-rows : classed Class.ifWord ≡ "if" ∷ []
+if-rows = refl
 
-pub words-function : classedIn Class.functionWord words ≡ "function" ∷ []
-words-function = refl
+pub function-rows : classed Class.functionWord ≡ "function" ∷ []
+function-rows = refl
 
--- "`/` and `+`; `/` binds tighter"
-pub signs-binary : boundIn 1 signs ≡ "+" ∷ "/" ∷ []
-signs-binary = refl
+-- the delimiters have no other class
+pub other-rows : classed Class.other ≡ "{" ∷ "}" ∷ "(" ∷ ")" ∷ "[" ∷ "]" ∷ []
+other-rows = refl
 
-pub signs-tighter : boundIn 2 signs ≡ "/" ∷ []
-signs-tighter = refl
+-- document 02, U4: "Precedence follows chapter 11": the words, then the signs, of a precedence, from 11.14 up to 11.5
+abbrev bound : ℕ → List String
+bound step = takenIn (λ rule precedence. eqb precedence step) (words ++ signs)
 
-pub words-binary : boundIn 1 words ≡ []
-words-binary = refl
+pub bound-comma : bound 1 ≡ "," ∷ []
+bound-comma = refl
+
+pub bound-assignment : bound 2 ≡ "=" ∷ "+=" ∷ "-=" ∷ "*=" ∷ "%=" ∷ "<<=" ∷ ">>=" ∷ ">>>=" ∷ "&=" ∷ "|=" ∷ "^=" ∷ "/=" ∷ []
+bound-assignment = refl
+
+pub bound-or : bound 3 ≡ "||" ∷ []
+bound-or = refl
+
+pub bound-and : bound 4 ≡ "&&" ∷ []
+bound-and = refl
+
+pub bound-bit-or : bound 5 ≡ "|" ∷ []
+bound-bit-or = refl
+
+pub bound-bit-xor : bound 6 ≡ "^" ∷ []
+bound-bit-xor = refl
+
+pub bound-bit-and : bound 7 ≡ "&" ∷ []
+bound-bit-and = refl
+
+pub bound-equality : bound 8 ≡ "==" ∷ "!=" ∷ "===" ∷ "!==" ∷ []
+bound-equality = refl
+
+pub bound-relational : bound 9 ≡ "instanceof" ∷ "in" ∷ "<" ∷ ">" ∷ "<=" ∷ ">=" ∷ []
+bound-relational = refl
+
+pub bound-shift : bound 10 ≡ "<<" ∷ ">>" ∷ ">>>" ∷ []
+bound-shift = refl
+
+pub bound-additive : bound 11 ≡ "+" ∷ "-" ∷ []
+bound-additive = refl
+
+pub bound-multiplicative : bound 12 ≡ "*" ∷ "%" ∷ "/" ∷ []
+bound-multiplicative = refl
+
+-- and those that stand between no two operands
+pub unbound : bound 0 ≡ "typeof" ∷ "new" ∷ "return" ∷ "void" ∷ "function" ∷ "this" ∷ "if" ∷ "delete" ∷ "null" ∷ "true" ∷ "false" ∷ "{" ∷ "}" ∷ "(" ∷ ")" ∷ "[" ∷ "]" ∷ "." ∷ ";" ∷ "++" ∷ "--" ∷ "!" ∷ "~" ∷ "?" ∷ ":" ∷ []
+unbound = refl

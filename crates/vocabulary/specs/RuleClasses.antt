@@ -4,17 +4,22 @@ use Prim.Native.Nat.{ℕ}
 pub data Class : Type 0 where
   -- a name
   name : Class
-  -- a number, string or regular expression
+  -- a number, string or regular expression; by document 02, U4, also what stands as one does: `this`, `null`, `true` or `false`, and `++` or `--` after its operand
   literal : Class
-  -- `/`, `+` or `=`
+  -- `/`, `+`, `=`, `++` or `--` before its operand, or any other operator but those below
   operator : Class
-  -- `:`
+  -- `?`, and a `:` that answers one
+  question : Class
+  answer : Class
+  -- any other `:`
   colon : Class
   -- `.`
   dot : Class
   -- `,`
   comma : Class
-  -- any other sign or reserved word
+  -- `;`
+  semicolon : Class
+  -- a reserved word that is not taken, or a delimiter: none of them is a tree by itself
   other : Class
   -- the words `return`, `function` and `if`
   returnWord : Class
@@ -31,14 +36,17 @@ abbrev pub rank : Class → ℕ
 rank name = 0
 rank literal = 1
 rank operator = 2
-rank colon = 3
-rank dot = 4
-rank comma = 5
-rank other = 6
-rank returnWord = 7
-rank functionWord = 8
-rank ifWord = 9
-rank parens = 10
-rank brackets = 11
-rank object = 12
-rank block = 13
+rank question = 3
+rank answer = 4
+rank colon = 5
+rank dot = 6
+rank comma = 7
+rank semicolon = 8
+rank other = 9
+rank returnWord = 10
+rank functionWord = 11
+rank ifWord = 12
+rank parens = 13
+rank brackets = 14
+rank object = 15
+rank block = 16

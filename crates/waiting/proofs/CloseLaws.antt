@@ -6,8 +6,8 @@ use native.Mathlib.Omega.{arith}
 use borrow.Author.Tests.{le-leb, lt-leb}
 use lib.ListN.{length, getD}
 use Rattle.tables.specs.Records.{mostTrees, mostSyntax}
-use Rattle.grammar.specs.Syntax.{Syntax, node}
-use Rattle.grammar.specs.Machinery.Machine.{Pending, pending}
+use Rattle.machine.specs.Syntax.{Syntax, node}
+use Rattle.machine.specs.Machinery.Machine.{Pending, pending}
 use Rattle.controls.specs.Machinery.Written.{putRecord}
 use Rattle.waiting.specs.Machinery.Waiting.{width, binding, close, Holds, Backed, HoldsShut}
 use Rattle.waiting.specs.declared.Level.{Level}

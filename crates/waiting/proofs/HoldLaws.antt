@@ -5,8 +5,8 @@ use Prim.Native.Nat.{ℕ, _+_, _-_, _*_, _≤_, _<_}
 use native.Mathlib.Omega.{arith}
 use lib.ListN.{length, getD}
 use Rattle.tables.specs.Records.{mostTrees}
-use Rattle.grammar.specs.Syntax.{Syntax, nil, snoc, size}
-use Rattle.grammar.specs.Machinery.Machine.{Pending, pending}
+use Rattle.machine.specs.Syntax.{Syntax, nil, snoc, size}
+use Rattle.machine.specs.Machinery.Machine.{Pending, pending}
 use Rattle.controls.specs.Machinery.Written.{putSyntax}
 use Rattle.waiting.specs.Machinery.Waiting.{width, lefts, Stacked, bare, above, Holds, Backed, withHeld, restarted}
 use Rattle.waiting.specs.declared.Level.{Level}
@@ -165,4 +165,24 @@ module _ {table : List ℕ} {first : ℕ} {done : Syntax} {l : Level} {stack cel
         counts = omega arith;
         written = h .written;
         few = omega (arith, h .few);
+      }
+
+  -- behind the condition of an open `?` nothing stands yet
+  pub asked-held : {kind mark : ℕ} {left : Syntax} {ps : List Pending} → Holds table first done (pending kind mark left ∷ ps) nil l stack cells
+      → Holds table first done (pending kind mark (snoc left nil) ∷ ps) nil l stack cells
+  unfolding putSyntax
+  asked-held h =
+      record { stacked = left-any (h .stacked); starts = omega (arith, h .starts); counts = h .counts; written = h .written; few = h .few }
+
+  -- parts of a left side may be held together another way
+  pub nested-held : {kind mark : ℕ} {a b d : Syntax} {ps : List Pending} → Holds table first done (pending kind mark (snoc (snoc a b) d) ∷ ps) nil l stack cells
+      → Holds table first done (pending kind mark (snoc a (snoc b d)) ∷ ps) nil l stack cells
+  unfolding putSyntax
+  nested-held {a = a} {b = b} {d = d} {ps = ps} h =
+      record {
+        stacked = left-any (h .stacked);
+        starts = omega (arith, h .starts);
+        counts = h .counts;
+        written = h .written ∙ put-nested (putSyntax table first (lefts done ps)) (first + size (lefts done ps)) a b d;
+        few = h .few;
       }

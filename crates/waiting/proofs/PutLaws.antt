@@ -1,15 +1,15 @@
 -- What a level holds once a record is put, or a part waits.
-use mathlib.Core.Path.{_≡_, _∙_}
+use mathlib.Core.Path.{_≡_, _∙_, ap}
 use mathlib.Core.List.{List, _∷_}
 use Prim.Native.Nat.{ℕ, _+_, _-_, _*_, _≤_, _<_}
 use native.Mathlib.Omega.{arith}
 use lib.ListN.{length, getD, set, length-set}
 use lib.Seq.{getD-set-same, getD-set-other}
 use Rattle.tables.specs.Records.{mostTrees}
-use Rattle.grammar.specs.Syntax.{Syntax, nil, snoc, node, size}
-use Rattle.grammar.specs.Machinery.Machine.{Pending, pending}
+use Rattle.machine.specs.Syntax.{Syntax, nil, snoc, node, size}
+use Rattle.machine.specs.Machinery.Machine.{Pending, pending}
 use Rattle.controls.specs.Machinery.Written.{putRecord, putSyntax}
-use Rattle.waiting.specs.Machinery.Waiting.{width, lefts, Stacked, bare, above, Holds, stackWith, waitingOne, madeOne}
+use Rattle.waiting.specs.Machinery.Waiting.{width, lefts, Stacked, bare, above, Holds, stackWith, stackAs, waitingOne, madeOne, restarted}
 use Rattle.waiting.specs.declared.Level.{Level}
 
 -- one part more leaves the stack as long, and as it was below
@@ -29,6 +29,19 @@ kept-stacked long same bare = bare
 kept-stacked long same (above {top = top} below fits k m s marked) =
     above (kept-stacked long (λ i h. same i (omega arith)) below) (omega arith) (same (top * width) (omega arith) ∙ k)
     (same (top * width + 1) (omega arith) ∙ m) (same (top * width + 2) (omega arith) ∙ s) marked
+
+-- what waits uppermost may have another kind and another left side
+other-stacked : {stack : List ℕ} {floor first : ℕ} {done : Syntax} {kind mark top : ℕ} {left after : Syntax} {ps : List Pending} (next : ℕ)
+    → Stacked stack floor first done (pending kind mark left ∷ ps) top → Stacked (stackAs stack top next) floor first done (pending next mark after ∷ ps) top
+other-stacked {stack = stack} next (above {top = top} below fits k m s marked) =
+    let same : top + 1 - 1 ≡ top = omega arith in
+    let t = top * width in
+    rw same
+    (above (kept-stacked (length-set stack t next) (λ i h. getD-set-other stack t i next 0 (λ e. absurd (omega arith))) below) (simp length-set fits)
+    (getD-set-same stack t next 0 (omega arith))
+    (getD-set-other stack t (t + 1) next 0 (λ e. absurd (omega arith)) ∙ m)
+    (getD-set-other stack t (t + 2) next 0 (λ e. absurd (omega arith)) ∙ s)
+    marked)
 
 module _ {table : List ℕ} {first : ℕ} {done : Syntax} {ps : List Pending} {l : Level} {stack cells : List ℕ} where
   -- a part is the operand now that holds what the operand held
@@ -100,4 +113,18 @@ module _ {table : List ℕ} {first : ℕ} {done : Syntax} {ps : List Pending} {l
         counts = omega arith;
         written = h .written;
         few = omega arith;
+      }
+
+  -- an open `?` is answered: what was the operand is the rest of its left side
+  pub answered-held : {kind mark : ℕ} {left value : Syntax} (next : ℕ) → Holds table first done (pending kind mark (snoc left nil) ∷ ps) value l stack cells
+      → Holds table first done (pending next mark (snoc left value) ∷ ps) nil (restarted l) (stackAs stack (l .top) next) cells
+  unfolding putSyntax
+  answered-held {left = left} {value = value} next h =
+      let a : first + (size (lefts done ps) + (size left + 0)) ≡ first + size (lefts done ps) + size left = omega arith in
+      record {
+        stacked = other-stacked next (h .stacked);
+        starts = omega (arith, h .counts, h .starts);
+        counts = omega arith;
+        written = h .written ∙ ap (λ i. putSyntax (putSyntax (putSyntax table first (lefts done ps)) (first + size (lefts done ps)) left) i value) a;
+        few = h .few;
       }

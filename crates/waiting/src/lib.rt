@@ -1,20 +1,26 @@
 // What waits on a level for a part on its right, and the syntax records so far. What waits stands on a lent stack, three numbers each:
 // operators and beginnings of statements with their kind, their mark and their first syntax record; nests with 0, the number of the
-// setting around them and their first syntax record.
+// setting around them and their first syntax record; an open `?` with a number that tells its expression, its mark and the first
+// syntax record of its condition.
 ghost use mathlib.Core.Path.{_≡_};
 ghost use Prim.Native.Nat.{_+_, _-_, _*_, _≤_, _<_};
 ghost use lib.ListN.{length};
 ghost use Rattle.tables.specs.Records.{mostTrees, mostSyntax};
+ghost use Rattle.machine.specs.Tokens.{question};
 ghost use Rattle.controls.specs.Machinery.Written.{putRecord};
-ghost use Rattle.waiting.specs.Machinery.Waiting.{width, binding, Backed, Closes, Completes, stackWith, waitingOne, madeOne, withHeld};
+ghost use Rattle.waiting.specs.Machinery.Waiting.{width, binding, Backed, Closes, Completes, stackWith, stackAs, waitingOne, madeOne, withHeld, restarted};
+use controls::bindings;
 use controls::records;
-use grammar::tokens;
+use machine::tokens;
 
 // Numbers that what waits takes on the stack.
 pub const WIDTH: usize = 3;
 
 // In place of a kind, what stands for a nest.
 pub const NEST: u32 = 0;
+
+// The least number that stands for an open `?`.
+pub const ASK: u32 = 256;
 
 // A level: syntax records so far; how many parts wait, and how many on the levels around; the first syntax record of the operand; the
 // mark of a word or name that is held.
@@ -26,21 +32,17 @@ pub struct Level {
     pub held: usize,
 }
 
-// How tight what waits binds: operators by precedence, `=` less, beginnings of statements 1, a nest 0.
+// How tight what waits binds: operators more than 1, beginnings of statements 1, a nest or an open `?` 0.
 fn binding(kind: u32) -> u32
     ensures { λ r. ⌜ r ≡ binding kind ⌝ }
 {
-    if kind == tokens::ASSIGN {
-        return 2;
-    }
-    let precedence = controls::precedence(kind);
-    if 1 <= precedence {
-        return precedence + 2;
-    }
     if kind == NEST {
         return 0;
     }
-    1
+    if ASK <= kind {
+        return 0;
+    }
+    bindings::tightness(kind) + 1
 }
 
 // Closes what waits above the floor and binds at least so tight.
@@ -89,6 +91,21 @@ pub fn wait(l: Level, kind: u32, mark: usize, waiting: &mut [u16]) -> Level
     Level {
         count: l.count,
         top: l.top + 1,
+        floor: l.floor,
+        start: l.count,
+        held: l.held,
+    }
+}
+
+// The operand is the rest of the left side of what waits uppermost, a `?` that is answered.
+pub fn answered(l: Level, waiting: &mut [u16]) -> Level
+    requires { ⌜ (1 ≤ l .top) × (l .top * width ≤ length (now waiting)) ⌝ }
+    ensures { λ r. ⌜ (r ≡ restarted l) × (now (waiting .exit) ≡ stackAs (now (waiting .entry)) (l .top) question) ⌝ }
+{
+    waiting[(l.top - 1) * WIDTH] = tokens::QUESTION as u16;
+    Level {
+        count: l.count,
+        top: l.top,
         floor: l.floor,
         start: l.count,
         held: l.held,

@@ -4,11 +4,31 @@ ghost use Rattle.words.specs.Words.{wordNumber, taken};
 ghost use Rattle.words.specs.Machinery.Lengths.{chosen, wordOf, short, four, five, six, long};
 
 // The numbers of the words that are taken here.
+pub const INSTANCEOF: u32 = 3;
+
+pub const TYPEOF: u32 = 4;
+
+pub const NEW: u32 = 7;
+
 pub const RETURN: u32 = 11;
+
+pub const VOID: u32 = 12;
 
 pub const FUNCTION: u32 = 18;
 
+pub const THIS: u32 = 19;
+
 pub const IF: u32 = 22;
+
+pub const DELETE: u32 = 24;
+
+pub const IN: u32 = 25;
+
+pub const NULL: u32 = 34;
+
+pub const TRUE: u32 = 35;
+
+pub const FALSE: u32 = 36;
 
 // `number` where the name is `word`, else `other`.
 fn choose(name: &[u8], word: &[u8], number: u32, other: u32) -> u32
@@ -26,11 +46,11 @@ fn short_word(name: &[u8]) -> u32
     ensures { λ r. ⌜ r ≡ wordOf short (now (name .entry)) ⌝ }
 {
     let n = choose(name, b"try", 26, 0);
-    let n = choose(name, b"in", 25, n);
+    let n = choose(name, b"in", IN, n);
     let n = choose(name, b"if", IF, n);
     let n = choose(name, b"for", 14, n);
     let n = choose(name, b"var", 8, n);
-    let n = choose(name, b"new", 7, n);
+    let n = choose(name, b"new", NEW, n);
     choose(name, b"do", 2, n)
 }
 
@@ -38,12 +58,12 @@ fn short_word(name: &[u8]) -> u32
 fn four_letter_word(name: &[u8]) -> u32
     ensures { λ r. ⌜ r ≡ wordOf four (now (name .entry)) ⌝ }
 {
-    let n = choose(name, b"true", 35, 0);
-    let n = choose(name, b"null", 34, n);
+    let n = choose(name, b"true", TRUE, 0);
+    let n = choose(name, b"null", NULL, n);
     let n = choose(name, b"enum", 28, n);
     let n = choose(name, b"with", 20, n);
-    let n = choose(name, b"this", 19, n);
-    let n = choose(name, b"void", 12, n);
+    let n = choose(name, b"this", THIS, n);
+    let n = choose(name, b"void", VOID, n);
     let n = choose(name, b"else", 6, n);
     choose(name, b"case", 5, n)
 }
@@ -52,7 +72,7 @@ fn four_letter_word(name: &[u8]) -> u32
 fn five_letter_word(name: &[u8]) -> u32
     ensures { λ r. ⌜ r ≡ wordOf five (now (name .entry)) ⌝ }
 {
-    let n = choose(name, b"false", 36, 0);
+    let n = choose(name, b"false", FALSE, 0);
     let n = choose(name, b"const", 31, n);
     let n = choose(name, b"super", 30, n);
     let n = choose(name, b"class", 27, n);
@@ -68,10 +88,10 @@ fn six_letter_word(name: &[u8]) -> u32
 {
     let n = choose(name, b"import", 33, 0);
     let n = choose(name, b"export", 32, n);
-    let n = choose(name, b"delete", 24, n);
+    let n = choose(name, b"delete", DELETE, n);
     let n = choose(name, b"switch", 15, n);
     let n = choose(name, b"return", RETURN, n);
-    choose(name, b"typeof", 4, n)
+    choose(name, b"typeof", TYPEOF, n)
 }
 
 // The number of a word of seven letters or more.
@@ -84,7 +104,7 @@ fn long_word(name: &[u8]) -> u32
     let n = choose(name, b"debugger", 17, n);
     let n = choose(name, b"continue", 13, n);
     let n = choose(name, b"finally", 10, n);
-    choose(name, b"instanceof", 3, n)
+    choose(name, b"instanceof", INSTANCEOF, n)
 }
 
 // The number of the reserved word that a name is: its place among the 36, from 1; 0 where it is none of them.
@@ -107,15 +127,27 @@ pub fn word_number(name: &[u8]) -> u32
     long_word(name)
 }
 
+// The words that are taken here: a bit for each, at its number.
+const TAKEN: u64 = 1 << INSTANCEOF
+    | 1 << TYPEOF
+    | 1 << NEW
+    | 1 << RETURN
+    | 1 << VOID
+    | 1 << FUNCTION
+    | 1 << THIS
+    | 1 << IF
+    | 1 << DELETE
+    | 1 << IN
+    | 1 << NULL
+    | 1 << TRUE
+    | 1 << FALSE;
+
 // Whether the word of a number is taken here.
 pub fn is_taken(number: u32) -> bool
     ensures { λ r. ⌜ r ≡ taken number ⌝ }
 {
-    if number == RETURN {
-        return true;
+    if number > FALSE {
+        return false;
     }
-    if number == FUNCTION {
-        return true;
-    }
-    number == IF
+    TAKEN >> number & 1 == 1
 }

@@ -2,8 +2,9 @@
 use Prim.Native.Nat.{ℕ}
 use mathlib.Core.Bool.{Bool, true, false, cond}
 use lib.Dec.{eqb}
-use Rattle.grammar.specs.Grammar.{Items, callArguments, arrayElements, objectProperties, body, block}
-use Rattle.grammar.specs.Machinery.Machine.{
+use Rattle.machine.specs.Operators.{prefixKind, postfixKind}
+use Rattle.machine.specs.Scopes.{Items, callArguments, arrayElements, objectProperties, body, block}
+use Rattle.machine.specs.Machinery.Machine.{
   ifNest,
   Setting,
   among,
@@ -20,6 +21,8 @@ use Rattle.grammar.specs.Machinery.Machine.{
   startReturn,
   takeLeaf,
   takeOperator,
+  takePrefix,
+  takePostfix,
   Closing,
   toParens,
   toCall,
@@ -36,6 +39,7 @@ use Rattle.grammar.specs.Machinery.Machine.{
   byReturn,
   byParen,
   byBracket,
+  byColon,
   byItem,
   declared,
   operandIn,
@@ -46,7 +50,9 @@ use Rattle.grammar.specs.Machinery.Machine.{
   returnFirst,
   ifFirst,
   operandDue,
+  memberDue,
   operandDone,
+  postfixDone,
   dotLast,
   functionFirst,
   functionNamed,
@@ -64,7 +70,7 @@ unfoldable pub settingBy : ℕ → Setting
 settingBy number = cond (eqb number 0) (among body) (cond (eqb number 1) (among block) (inNest ifNest))
 
 unfoldable pub itemsBy : ℕ → Items
-itemsBy ending = cond (eqb ending 4) callArguments (cond (eqb ending 5) arrayElements objectProperties)
+itemsBy ending = cond (eqb ending 5) callArguments (cond (eqb ending 6) arrayElements objectProperties)
 
 unfoldable pub endingBy : ℕ → ℕ → Ending
 endingBy number setting =
@@ -72,7 +78,8 @@ endingBy number setting =
     (cond (eqb number 1) (byReturn (settingBy setting))
     (cond (eqb number 2) byParen
     (cond (eqb number 3) byBracket
-    (byItem (itemsBy number)))))
+    (cond (eqb number 4) byColon
+    (byItem (itemsBy number))))))
 
 -- controls by place, what ends the expression, the setting, and the flag
 unfoldable pub controlBy : ℕ → ℕ → ℕ → Bool → Control
@@ -81,8 +88,8 @@ controlBy place ending setting flag =
     (cond (eqb place 1) (returnFirst (settingBy setting))
     (cond (eqb place 2) (operandDue (endingBy ending setting) flag)
     (cond (eqb place 3) (operandDone (endingBy ending setting) flag)
-    (cond (eqb place 4) (statementDone ifNest)
-    (cond (eqb place 5) (nameFirst (settingBy setting))
+    (cond (eqb place 4) (postfixDone (endingBy ending setting))
+    (cond (eqb place 5) (memberDue (endingBy ending setting) flag)
     (cond (eqb place 6) ifFirst
     (cond (eqb place 7) (dotLast (endingBy ending setting) flag)
     (cond (eqb place 8) (itemDue (itemsBy ending))
@@ -95,7 +102,9 @@ controlBy place ending setting flag =
     (cond (eqb place 15) (functionFirst declared)
     (cond (eqb place 16) (functionNamed declared)
     (cond (eqb place 17) (parameterPast declared)
-    finished)))))))))))))))))
+    (cond (eqb place 18) (statementDone ifNest)
+    (cond (eqb place 19) (nameFirst (settingBy setting))
+    finished)))))))))))))))))))
 
 unfoldable pub controlOf : code.Control → Control
 controlOf c = controlBy (c .place) (c .ending) (c .setting) (c .flag)
@@ -113,7 +122,9 @@ effectBy number class =
     (cond (eqb number 8) endExpression
     (cond (eqb number 9) endValue
     (cond (eqb number 10) endBareReturn
-    keep)))))))))
+    (cond (eqb number 11) (takePrefix (prefixKind class))
+    (cond (eqb number 12) (takePostfix (postfixKind class))
+    keep)))))))))))
 
 -- groups, by what they do when they close; and where the inside of each starts
 unfoldable pub closingBy : ℕ → Closing

@@ -3,22 +3,46 @@ use Prim.Native.Nat.{ℕ, _≤_}
 use mathlib.Core.Path.{_≡_}
 use mathlib.Core.Bool.{Bool, true, false}
 use lib.Dec.{T}
-use Rattle.grammar.specs.Tokens.{assign, colon}
-use Rattle.grammar.specs.Grammar.{Items, arrayElements, objectProperties, Scope, body, precedence}
-use Rattle.grammar.specs.Machinery.Machine.{endOfText, ifNest, Setting, among, inNest, behindStatement, Effect, keep, takeName, takeMember, endExpression, endValue, endBareReturn, takeLabel, holdWord, startReturn, takeLeaf, takeOperator, Closing, toParens, toCall, toObject, toArray, toIndex, toBlock, toCondition, toParameter, toDeclaration, toFunction, toStatement, noValue, expressionValue, doneValue, listValue, Ending, byStatement, byReturn, byParen, byBracket, byItem, behindComma, Role, declared, operandIn, Control, statementDue, nameFirst, returnFirst, ifFirst, operandDue, operandDone, dotLast, functionFirst, functionNamed, parameterPast, itemDue, propertyNamed, parameterDue, parameterNamed, Action, fail, goto, push, enter, pop, finish}
-use Rattle.grammar.specs.Machinery.Classes.{isOpener, isEnd, isSingle}
+use Rattle.machine.specs.Tokens.{newWord, comma, colon}
+use Rattle.machine.specs.Operators.{assignmentOperators, binaryOperators, prefixOperators, prefixKind, postfixOperators, postfixKind, isAmong}
+use Rattle.machine.specs.Scopes.{Items, arrayElements, objectProperties, Scope, body}
+use Rattle.machine.specs.Machinery.Machine.{endOfText, ifNest, Setting, among, inNest, behindStatement, Effect, keep, takeName, takeMember, endExpression, endValue, endBareReturn, takeLabel, holdWord, startReturn, takeLeaf, takeOperator, takePrefix, takePostfix, Closing, toParens, toCall, toObject, toArray, toIndex, toBlock, toCondition, toParameter, toDeclaration, toFunction, toStatement, noValue, expressionValue, doneValue, listValue, Ending, byStatement, byReturn, byParen, byBracket, byColon, byItem, behindComma, Role, declared, operandIn, Control, statementDue, nameFirst, returnFirst, ifFirst, operandDue, memberDue, operandDone, postfixDone, dotLast, functionFirst, functionNamed, parameterPast, itemDue, propertyNamed, parameterDue, parameterNamed, Action, fail, goto, push, enter, pop, ask, turn, finish}
+use Rattle.machine.specs.Machinery.Classes.{isOpener, isEnd, isSingle}
 use Rattle.controls.specs.Machinery.Numbers.{settingBy, controlOf, effectBy, closingBy, insideBy}
 use Rattle.controls.specs.declared.Control as code
 use Rattle.controls.specs.declared.Step.{Step}
-use Rattle.controls.specs.declared.Step.the-variants.{Fail, Goto, Push, Enter}
+use Rattle.controls.specs.declared.Step.the-variants.{Fail, Goto, Push, Enter, Ask, Turn}
 
--- where an operand may start, what ends its expression, and whether it may be assigned to; a property's does not start with the item, and
+-- where a primary may start, what ends its expression, and whether it may be assigned to; a property's does not start with the item, and
 -- no row takes it there
 pub data Due : Control → Ending → Bool → Type 0 where
   due-operand : {ending : Ending} {target : Bool} → Due (operandDue ending target) ending target
   due-value : {setting : Setting} → Due (returnFirst setting) (byReturn setting) true
   due-item : {items : Items} → Due (itemDue items) (byItem items) true
   due-statement : {must : Bool} {setting : Setting} → Due (statementDue must setting) (byStatement setting) true
+  due-member : {ending : Ending} {target : Bool} → Due (memberDue ending target) ending target
+
+-- behind `new` no operator may stand before the operand
+abbrev pub takesPrefix : {from : Control} {ending : Ending} {target : Bool} → Due from ending target → Bool
+takesPrefix due-operand = true
+takesPrefix due-value = true
+takesPrefix due-item = true
+takesPrefix due-statement = true
+takesPrefix due-member = false
+
+-- a Unary has ended here, and what ends its expression
+pub data Ended : Control → Ending → Type 0 where
+  ended-operand : {ending : Ending} {target : Bool} → Ended (operandDone ending target) ending
+  ended-postfix : {ending : Ending} → Ended (postfixDone ending) ending
+
+-- a `,` behind it is an operator
+abbrev pub takesComma : Ending → Bool
+takesComma (byStatement setting) = true
+takesComma (byReturn setting) = true
+takesComma byParen = true
+takesComma byBracket = true
+takesComma byColon = false
+takesComma (byItem items) = false
 
 -- the controls between which an effect leads
 pub data Leads : Effect → Control → Control → Type 0 where
@@ -33,12 +57,19 @@ pub data Leads : Effect → Control → Control → Type 0 where
   to-bare-end : {setting : Setting} → Leads endBareReturn (returnFirst setting) (behindStatement setting)
   to-dot : {ending : Ending} {target : Bool} → Leads keep (operandDone ending target) (dotLast ending target)
   to-member : {ending : Ending} {target : Bool} → Leads takeMember (dotLast ending target) (operandDone ending target)
-  to-assign : {ending : Ending} {target : Bool} → Leads (takeOperator assign) (operandDone ending target) (operandDue ending true)
-  to-operator : {class : ℕ} {ending : Ending} {target : Bool} → 1 ≤ precedence class
-      → Leads (takeOperator class) (operandDone ending target) (operandDue ending false)
-  to-end : {setting : Setting} {target : Bool} → Leads endExpression (operandDone (byStatement setting) target) (behindStatement setting)
-  to-return-end : {setting : Setting} {target : Bool} → Leads endValue (operandDone (byReturn setting) target) (behindStatement setting)
-  to-item-end : {items : Items} {target : Bool} → Leads endValue (operandDone (byItem items) target) (behindComma items)
+  to-prefix : (class : ℕ) {from : Control} {ending : Ending} {target : Bool} → T (isAmong prefixOperators class)
+      → (due : Due from ending target) → T (takesPrefix due)
+      → Leads (takePrefix (prefixKind class)) from (operandDue ending false)
+  to-new : {from : Control} {ending : Ending} {target : Bool} → Due from ending target → Leads (takePrefix newWord) from (memberDue ending target)
+  to-postfix : (class : ℕ) {ending : Ending} {target : Bool} → T (isAmong postfixOperators class)
+      → Leads (takePostfix (postfixKind class)) (operandDone ending target) (postfixDone ending)
+  to-assign : {class : ℕ} {ending : Ending} → T (isAmong assignmentOperators class) → Leads (takeOperator class) (operandDone ending true) (operandDue ending true)
+  to-operator : {class : ℕ} {from : Control} {ending : Ending} → T (isAmong binaryOperators class) → Ended from ending
+      → Leads (takeOperator class) from (operandDue ending false)
+  to-comma : {from : Control} {ending : Ending} → T (takesComma ending) → Ended from ending → Leads (takeOperator comma) from (operandDue ending true)
+  to-end : {from : Control} {setting : Setting} → Ended from (byStatement setting) → Leads endExpression from (behindStatement setting)
+  to-return-end : {from : Control} {setting : Setting} → Ended from (byReturn setting) → Leads endValue from (behindStatement setting)
+  to-item-end : {from : Control} {items : Items} → Ended from (byItem items) → Leads endValue from (behindComma items)
   to-hole : Leads keep (itemDue arrayElements) (itemDue arrayElements)
   to-function-name : {role : Role} → Leads keep (functionFirst role) (functionNamed role)
   to-property : Leads keep (itemDue objectProperties) propertyNamed
@@ -70,6 +101,8 @@ pub data Means (from : Control) (class : ℕ) : Step → Action → Type 0 where
       → Means from class (Push to closing) (push (insideBy closing) (controlOf to) (closingBy closing))
   means-enter : {to : code.Control} {number : ℕ} {must : Bool} → T (isSingle class) → number ≤ 2 → from ≡ statementDue must (settingBy number) → controlOf to ≡ ifFirst
       → Means from class (Enter to number) (enter ifFirst (behindStatement (settingBy number)) toStatement)
+  means-ask : {ending : Ending} → T (isSingle class) → Ended from ending → Means from class Ask (ask ending)
+  means-turn : T (isSingle class) → Ended from byColon → Means from class Turn turn
 
 -- what a step that goes on, or opens a group, means of each class, from wherever it leads
 abbrev pub Goes : Step → Control → ℕ → Type 0
@@ -82,8 +115,8 @@ Opens step behind closing = (from : Control) (class : ℕ) → T (isOpener class
 
 -- a control is settled before a token of a class: no name that is no label is held, and no nest is to be left
 pub record SettledAt (place class : ℕ) : Type 0 where
-  pub no-name : place ≡ 5 → class ≡ colon
-  pub no-nest : place ≡ 4 → ⊥
+  pub no-name : place ≡ 19 → class ≡ colon
+  pub no-nest : place ≡ 18 → ⊥
 
 abbrev pub Settled : code.Control → ℕ → Type 0
 Settled at class = SettledAt (at .place) class
@@ -94,14 +127,15 @@ inGroup (byStatement setting) = false
 inGroup (byReturn setting) = false
 inGroup byParen = true
 inGroup byBracket = true
+inGroup byColon = false
 inGroup (byItem items) = false
 
 -- whether a level ends at a closer, or at the text's end, and with what
 pub data Ends (class : ℕ) : Control → Bool → Action → Type 0 where
   ends-statements : {scope : Scope} → Ends class (statementDue false (among scope)) true (pop doneValue)
   ends-text : class ≡ endOfText → Ends class (statementDue false (among body)) true finish
-  ends-expression : {ending : Ending} {target : Bool} → T (inGroup ending) → Ends class (operandDone ending target) true (pop expressionValue)
-  ends-item : {items : Items} {target : Bool} → Ends class (operandDone (byItem items) target) true (pop listValue)
+  ends-expression : {from : Control} {ending : Ending} → T (inGroup ending) → Ended from ending → Ends class from true (pop expressionValue)
+  ends-item : {from : Control} {items : Items} → Ended from (byItem items) → Ends class from true (pop listValue)
   ends-items : {items : Items} → Ends class (itemDue items) true (pop doneValue)
   ends-no-parameter : Ends class (parameterDue false) true (pop noValue)
   ends-parameter : Ends class parameterNamed true (pop noValue)

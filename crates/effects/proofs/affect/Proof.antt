@@ -51,6 +51,12 @@ completed-requires c κs = search needs
 bare-return-requires : tie.Need-bare-return-requires
 bare-return-requires c κs = may-end-bare (c .before .before .before .before .before .args .class) (c .before .before .before .before .before .args .mark) (c .before .before .match .keys10) (c .before .before .before .before .before .pre)
 
+prefixed-requires : tie.Need-prefixed-requires
+prefixed-requires c κs = rw (c .before .before .match .keys11) at (c .before .before .before .before .before .pre)
+
+postfixed-requires : tie.Need-postfixed-requires
+postfixed-requires c κs = rw (c .before .before .match .keys12) at (c .before .before .before .before .before .pre)
+
 same-length : tie.Need-same-length
 same-length c = c .before .syntax .given
 
@@ -117,8 +123,29 @@ same-length-12 c = c .before .syntax6 .given
 returns-10 : tie.Need-returns-10
 returns-10 c = end-bare-affects (c .before .before .before .before .before .before .before .before .args .class) (c .before .before .before .before .before .before .before .before .args .mark) (c .before .before .before .before .before .match .keys10) (c .before .before .bare-return .ensures)
 
+same-length-13 : tie.Need-same-length-13
+same-length-13 c = c .before .waiting4 .given
+
+same-length-14 : tie.Need-same-length-14
+same-length-14 c = refl
+
 returns-11 : tie.Need-returns-11
-returns-11 c = keep-affects (c .before .before .before .args .effect) (c .before .before .before .args .class) (c .before .before .before .args .mark) (effect-kept (c .before .before .before .args .effect) (c .before .before .before .args .class) (c .match .rest .0 .0 .0 .0 .0 .0 .0 .0 .0 .1) (c .match .rest .0 .0 .0 .0 .0 .0 .0 .0 .1) (c .match .rest .0 .0 .0 .0 .0 .0 .0 .1) (c .match .rest .0 .0 .0 .0 .0 .0 .1) (c .match .rest .0 .0 .0 .0 .0 .1) (c .match .rest .0 .0 .0 .0 .1) (c .match .rest .0 .0 .0 .1) (c .match .rest .0 .0 .1) (c .match .rest .0 .1) (c .match .rest .1))
+returns-11 c = rw (c .before .before .before .before .before .match .keys11) (c .before .before .prefixed .ensures)
+
+same-length-15 : tie.Need-same-length-15
+same-length-15 c = refl
+
+same-length-16 : tie.Need-same-length-16
+same-length-16 c = c .before .syntax7 .given
+
+returns-12 : tie.Need-returns-12
+returns-12 c = rw (c .before .before .before .before .before .match .keys12) (c .before .before .postfixed .ensures)
+
+returns-13 : tie.Need-returns-13
+returns-13 c =
+    let a = c .before .before .before .args in
+    keep-affects (a .effect) (a .class) (a .mark)
+    (effect-kept (a .effect) (a .class) (c .match .rest .0 .0 .0 .0 .0 .0 .0 .0 .0 .0 .0 .1) (c .match .rest .0 .0 .0 .0 .0 .0 .0 .0 .0 .0 .1) (c .match .rest .0 .0 .0 .0 .0 .0 .0 .0 .0 .1) (c .match .rest .0 .0 .0 .0 .0 .0 .0 .0 .1) (c .match .rest .0 .0 .0 .0 .0 .0 .0 .1) (c .match .rest .0 .0 .0 .0 .0 .0 .1) (c .match .rest .0 .0 .0 .0 .0 .1) (c .match .rest .0 .0 .0 .0 .1) (c .match .rest .0 .0 .0 .1) (c .match .rest .0 .0 .1) (c .match .rest .0 .1) (c .match .rest .1))
 
 pub affect-spec : {M : Type 1} → statement M
 affect-spec =
@@ -134,6 +161,8 @@ affect-spec =
     expression-ended-requires
     completed-requires
     bare-return-requires
+    prefixed-requires
+    postfixed-requires
     same-length
     returns
     same-length-2
@@ -156,4 +185,10 @@ affect-spec =
     same-length-11
     same-length-12
     returns-10
-    returns-11)
+    same-length-13
+    same-length-14
+    returns-11
+    same-length-15
+    same-length-16
+    returns-12
+    returns-13)

@@ -1,7 +1,7 @@
 -- All operators are closed, the statement's record is put, and it is complete.
 use borrow.Author.Needs.{needs}
-use Rattle.grammar.specs.Syntax.{expressionSyntax}
-use Rattle.effects.proofs.AffectLaws.{expression-asks, expression-held, expression-affects}
+use Rattle.machine.specs.Syntax.{expressionSyntax}
+use Rattle.effects.proofs.AffectLaws.{operand-asks, expression-held, expression-affects}
 use Rattle.effects.proofs.expression_ended.Statement.{statement}
 use Rattle.effects.proofs.expression_ended.Tie as tie
 
@@ -9,7 +9,7 @@ closed-requires : tie.Need-closed-requires
 closed-requires c κs = search needs
 
 made-requires : tie.Need-made-requires
-made-requires c κs = expression-asks (c .before .before .before .before .before .before .before .pre) (c .before .before .before .closed .ensures)
+made-requires c κs = operand-asks (c .before .before .before .before .before .before .before .pre) (c .before .before .before .closed .ensures)
 
 completed-requires : tie.Need-completed-requires
 completed-requires c κs = expression-held expressionSyntax (c .before .before .before .before .before .before .before .before .before .before .before .pre) (c .before .before .before .before .before .before .before .closed .ensures) (c .before .before .before .made .ensures)

@@ -2,9 +2,9 @@
 use borrow.Author.Needs.{needs}
 use native.Mathlib.Omega.{arith}
 use mathlib.Core.Path.{sym, ap, _∙_}
-use Rattle.text.proofs.CodeLaws.{by-letter, by-digit, coded-in, coded-out}
+use Rattle.text.proofs.CodeLaws.{by-letter, coded-in, coded-out}
 use Rattle.elements.specs.Elements.{literalElement}
-use Rattle.elements.proofs.ElementLaws.{from-past, from-letter, from-digit, from-quote, from-pattern, from-dot, from-sign}
+use Rattle.elements.proofs.ElementLaws.{from-past, from-letter, from-number, from-quote, from-pattern, from-sign}
 use Rattle.elements.proofs.element_from.Statement.{statement}
 use Rattle.elements.proofs.element_from.Tie as tie
 
@@ -24,16 +24,16 @@ returns-2 : tie.Need-returns-2
 returns-2 c =
     c .name-element .ensures ∙ sym (from-letter _ _ _ _ (omega arith) (coded-in by-letter _ (omega arith)))
 
-number-at-requires : tie.Need-number-at-requires
-number-at-requires c κs = c .before .before .before .before .before .before .before .pre
+starts-number-requires : tie.Need-starts-number-requires
+starts-number-requires c κs = (c .before .before .before .before .before .before .pre, omega arith, omega arith)
 
-literal-element-requires : tie.Need-literal-element-requires
-literal-element-requires c κs = search needs
+number-element-requires : tie.Need-number-element-requires
+number-element-requires c κs = c .before .before .before .before .before .before .before .before .pre
 
 returns-3 : tie.Need-returns-3
 returns-3 c =
-    c .literal-element .ensures ∙ ap (literalElement _ _ _) (c .before .number-at .ensures)
-    ∙ sym (from-digit _ _ _ _ (omega arith) (coded-out by-letter _ (omega arith)) (coded-in by-digit _ (omega arith)))
+    c .number-element .ensures
+    ∙ sym (from-number _ _ _ _ (omega arith) (coded-out by-letter _ (omega arith)) (sym (c .before .before .starts-number .ensures) ∙ c .before .if3 .taken))
 
 is-quote-requires : tie.Need-is-quote-requires
 is-quote-requires c κs = search needs
@@ -42,15 +42,16 @@ add-string-rest : tie.Need-add-string-rest
 add-string-rest c = search needs
 
 string-rest-requires : tie.Need-string-rest-requires
-string-rest-requires c κs = (c .before .before .before .before .before .before .before .before .before .pre, sym (c .before .is-quote .ensures) ∙ c .if4 .taken)
+string-rest-requires c κs = (c .before .before .before .before .before .before .before .before .before .before .pre, sym (c .before .is-quote .ensures) ∙ c .if4 .taken)
 
-literal-element-requires-2 : tie.Need-literal-element-requires-2
-literal-element-requires-2 c κs = search needs
+literal-element-requires : tie.Need-literal-element-requires
+literal-element-requires c κs = search needs
 
 returns-4 : tie.Need-returns-4
 returns-4 c =
-    c .literal-element2 .ensures ∙ ap (literalElement _ _ _) (c .before .string-rest .ensures)
-    ∙ sym (from-quote _ _ _ _ (omega arith) (coded-out by-letter _ (omega arith)) (coded-out by-digit _ (omega arith)) (sym (c .before .before .before .is-quote .ensures) ∙ c .before .before .if4 .taken))
+    let d = sym (c .before .before .before .before .before .starts-number .ensures) ∙ c .before .before .before .before .if3 .left in
+    c .literal-element .ensures ∙ ap (literalElement _ _ _) (c .before .string-rest .ensures)
+    ∙ sym (from-quote _ _ _ _ (omega arith) (coded-out by-letter _ (omega arith)) d (sym (c .before .before .before .is-quote .ensures) ∙ c .before .before .if4 .taken))
 
 is-pattern-slash-requires : tie.Need-is-pattern-slash-requires
 is-pattern-slash-requires c κs = search needs
@@ -59,35 +60,27 @@ add-pattern-rest : tie.Need-add-pattern-rest
 add-pattern-rest c = search needs
 
 pattern-rest-requires : tie.Need-pattern-rest-requires
-pattern-rest-requires c κs = c .before .before .before .before .before .before .before .before .before .before .before .pre
+pattern-rest-requires c κs = c .before .before .before .before .before .before .before .before .before .before .before .before .pre
 
-literal-element-requires-3 : tie.Need-literal-element-requires-3
-literal-element-requires-3 c κs = search needs
+literal-element-requires-2 : tie.Need-literal-element-requires-2
+literal-element-requires-2 c κs = search needs
 
 returns-5 : tie.Need-returns-5
 returns-5 c =
+    let d = sym (c .before .before .before .before .before .before .before .starts-number .ensures) ∙ c .before .before .before .before .before .before .if3 .left in
     let q = sym (c .before .before .before .before .before .is-quote .ensures) ∙ c .before .before .before .before .if4 .left in
-    c .literal-element3 .ensures ∙ ap (literalElement _ _ _) (c .before .pattern-rest .ensures)
-    ∙ sym (from-pattern _ _ _ _ (omega arith) (coded-out by-letter _ (omega arith)) (coded-out by-digit _ (omega arith)) q (sym (c .before .before .before .is-pattern-slash .ensures) ∙ c .before .before .if5 .taken))
-
-is-dot-before-digit-requires : tie.Need-is-dot-before-digit-requires
-is-dot-before-digit-requires c κs = (c .before .before .before .before .before .before .before .before .before .before .before .pre, omega arith)
-
-returns-6 : tie.Need-returns-6
-returns-6 c =
-    let q = sym (c .before .before .before .before .before .is-quote .ensures) ∙ c .before .before .before .before .if4 .left in
-    let p = sym (c .before .before .before .is-pattern-slash .ensures) ∙ c .before .before .if5 .left in
-    sym (from-dot _ _ _ _ (omega arith) (coded-out by-letter _ (omega arith)) (coded-out by-digit _ (omega arith)) q p (sym (c .before .is-dot-before-digit .ensures) ∙ c .if6 .taken))
+    c .literal-element2 .ensures ∙ ap (literalElement _ _ _) (c .before .pattern-rest .ensures)
+    ∙ sym (from-pattern _ _ _ _ (omega arith) (coded-out by-letter _ (omega arith)) d q (sym (c .before .before .before .is-pattern-slash .ensures) ∙ c .before .before .if5 .taken))
 
 sign-element-requires : tie.Need-sign-element-requires
 sign-element-requires c κs = omega arith
 
-returns-7 : tie.Need-returns-7
-returns-7 c =
-    let q = sym (c .before .before .before .before .before .before .is-quote .ensures) ∙ c .before .before .before .before .before .if4 .left in
-    let p = sym (c .before .before .before .before .is-pattern-slash .ensures) ∙ c .before .before .before .if5 .left in
+returns-6 : tie.Need-returns-6
+returns-6 c =
+    let d = sym (c .before .before .before .before .before .before .starts-number .ensures) ∙ c .before .before .before .before .before .if3 .left in
+    let q = sym (c .before .before .before .before .is-quote .ensures) ∙ c .before .before .before .if4 .left in
     c .sign-element .ensures
-    ∙ sym (from-sign _ _ _ _ (omega arith) (coded-out by-letter _ (omega arith)) (coded-out by-digit _ (omega arith)) q p (sym (c .before .before .is-dot-before-digit .ensures) ∙ c .before .if6 .left))
+    ∙ sym (from-sign _ _ _ _ (omega arith) (coded-out by-letter _ (omega arith)) d q (sym (c .before .before .is-pattern-slash .ensures) ∙ c .before .if5 .left))
 
 pub element-from-spec : {M : Type 1} → statement M
 element-from-spec =
@@ -98,20 +91,18 @@ element-from-spec =
     code-requires
     name-element-requires
     returns-2
-    number-at-requires
-    literal-element-requires
+    starts-number-requires
+    number-element-requires
     returns-3
     is-quote-requires
     add-string-rest
     string-rest-requires
-    literal-element-requires-2
+    literal-element-requires
     returns-4
     is-pattern-slash-requires
     add-pattern-rest
     pattern-rest-requires
-    literal-element-requires-3
+    literal-element-requires-2
     returns-5
-    is-dot-before-digit-requires
-    returns-6
     sign-element-requires
-    returns-7)
+    returns-6)

@@ -2,9 +2,9 @@
 use borrow.Author.Needs.{needs}
 use mathlib.Core.Bool.{true}
 use borrow.Author.Tests.{ne-eqb}
-use Rattle.grammar.specs.Tokens.{comma}
-use Rattle.grammar.specs.Grammar.{arrayElements}
-use Rattle.grammar.specs.Machinery.Machine.{byItem, itemDue}
+use Rattle.machine.specs.Tokens.{comma}
+use Rattle.machine.specs.Scopes.{arrayElements}
+use Rattle.machine.specs.Machinery.Machine.{byItem, itemDue}
 use Rattle.controls.specs.Machinery.Numbers.{itemsBy, endingBy, controlBy, effectBy}
 use Rattle.controls.specs.Machinery.Steps.{due-item, to-hole}
 use Rattle.controls.proofs.EndLaws.{besides-closers}
@@ -26,7 +26,7 @@ returns-2 : tie.Need-returns-2
 unfolding itemsBy endingBy
 returns-2 c =
     let class = c .before .before .args .class in
-    besides-closers (c .operand-row .ensures (itemDue arrayElements) due-item) (operand-closers (byItem arrayElements) true class)
+    besides-closers (c .operand-row .ensures (itemDue arrayElements) due-item tt) (operand-closers (byItem arrayElements) true class)
     (λ none. rw (ne-eqb class comma (c .before .if1 .left), none .no-bracket))
 
 pub element-row-spec : {M : Type 1} → statement M

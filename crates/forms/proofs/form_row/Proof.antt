@@ -1,7 +1,7 @@
 -- `form_row` is the machine's rows inside forms, place by place.
 use borrow.Author.Needs.{needs}
 use Rattle.controls.specs.Machinery.Numbers.{settingBy, itemsBy, endingBy, controlBy, effectBy, closingBy, insideBy}
-use Rattle.controls.specs.Machinery.Steps.{to-member, to-label, to-value, past-condition}
+use Rattle.controls.specs.Machinery.Steps.{due-member, to-member, to-label, to-value, past-condition}
 use Rattle.forms.proofs.FormLaws.{label-row}
 use Rattle.controls.proofs.NumberLaws.{beyond}
 use Rattle.forms.proofs.form_row.Statement.{statement}
@@ -18,6 +18,9 @@ opens-requires c κs = search needs
 
 item-row-requires : tie.Need-item-row-requires
 item-row-requires c κs = search needs
+
+member-row-requires : tie.Need-member-row-requires
+member-row-requires c κs = search needs
 
 only-requires-2 : tie.Need-only-requires-2
 only-requires-2 c κs = search needs
@@ -49,19 +52,23 @@ unfolding controlBy
 returns-4 c = λ h settled newline. rw (c .before .match .keys4) (c .item-row .ensures)
 
 returns-5 : tie.Need-returns-5
-unfolding itemsBy endingBy controlBy effectBy
-returns-5 c = λ h settled newline.
-    rw (c .before .match .keys5)
-    (c .only2 .ensures _ tt to-value)
+unfolding controlBy
+returns-5 c = λ h settled newline. rw (c .before .match .keys5) (c .member-row .ensures _ due-member)
 
 returns-6 : tie.Need-returns-6
-returns-6 c = λ h settled newline. absurd (settled .no-nest (c .match .keys6))
+unfolding itemsBy endingBy controlBy effectBy
+returns-6 c = λ h settled newline.
+    rw (c .before .match .keys6)
+    (c .only2 .ensures _ tt to-value)
 
 returns-7 : tie.Need-returns-7
-returns-7 c = λ h settled newline.
+returns-7 c = λ h settled newline. absurd (settled .no-nest (c .match .keys7))
+
+returns-8 : tie.Need-returns-8
+returns-8 c = λ h settled newline.
     let rest = c .before .match .rest in
     let place = c .before .before .args .place in
-    c .function-row .ensures (beyond 9 place (beyond 8 place (beyond 7 place (beyond 6 place (beyond 5 place (beyond 4 place h (rest .1)) (rest .0 .0 .0 .0 .1)) (rest .0 .0 .0 .1)) (rest .0 .0 .0 .0 .0 .1)) (rest .0 .0 .1)) (rest .0 .1)) newline
+    c .function-row .ensures (beyond 9 place (beyond 8 place (beyond 7 place (beyond 6 place (beyond 5 place h (rest .0 .0 .1)) (rest .0 .0 .0 .0 .1)) (rest .0 .0 .0 .0 .0 .0 .1)) (rest .0 .0 .0 .1)) (rest .0 .1)) (settled .no-nest) (rest .0 .0 .0 .0 .0 .1) newline
 
 pub form-row-spec : {M : Type 1} → statement M
 form-row-spec =
@@ -71,6 +78,7 @@ form-row-spec =
     only-requires
     opens-requires
     item-row-requires
+    member-row-requires
     only-requires-2
     function-row-requires
     returns
@@ -79,4 +87,5 @@ form-row-spec =
     returns-4
     returns-5
     returns-6
-    returns-7)
+    returns-7
+    returns-8)

@@ -5,8 +5,8 @@ use mathlib.Core.Path.{_≡_, refl}
 use mathlib.Core.Bool.{true}
 use mathlib.Core.List.{[]}
 use borrow.Author.Tests.{ne-eqb}
-use Rattle.grammar.specs.Grammar.{callArguments}
-use Rattle.grammar.specs.Machinery.Machine.{keep, byItem, itemDue, propertyNamed, fail, goto, look, names}
+use Rattle.machine.specs.Scopes.{callArguments}
+use Rattle.machine.specs.Machinery.Machine.{keep, byItem, itemDue, propertyNamed, fail, goto, look, names}
 use Rattle.controls.specs.Machinery.Numbers.{itemsBy, endingBy, controlBy, effectBy}
 use Rattle.controls.specs.Machinery.Steps.{due-item, to-property}
 use Rattle.controls.proofs.EndLaws.{at-closers, besides-closers}
@@ -21,7 +21,7 @@ returns : tie.Need-returns
 unfolding itemsBy endingBy
 returns c =
     rw (c .before .if1 .taken)
-    (besides-closers (c .operand-row .ensures (itemDue callArguments) due-item) (operand-closers (byItem callArguments) true (c .before .before .args .class))
+    (besides-closers (c .operand-row .ensures (itemDue callArguments) due-item tt) (operand-closers (byItem callArguments) true (c .before .before .args .class))
     (λ none. rw (none .no-paren)))
 
 element-row-requires : tie.Need-element-row-requires
@@ -38,7 +38,7 @@ returns-3 : tie.Need-returns-3
 unfolding itemsBy controlBy effectBy
 returns-3 c =
     let a = c .before .before .before .args in
-    rw (ne-eqb (a .ending) 4 (c .before .before .if1 .left), ne-eqb (a .ending) 5 (c .before .if2 .left))
+    rw (ne-eqb (a .ending) 5 (c .before .before .if1 .left), ne-eqb (a .ending) 6 (c .before .if2 .left))
     (besides-closers (c .only-names .ensures _ to-property)
     (at-closers (λ (k : ℕ). look k (names (goto propertyNamed keep) []) ≡ fail) refl refl refl refl (a .class))
     (λ none. rw (none .no-brace)))

@@ -1,7 +1,7 @@
 -- `only_names` is a row of two entries with one action.
 use borrow.Author.Needs.{needs}
 use borrow.Author.Tests.{ne-eqb}
-use Rattle.grammar.specs.Tokens.{name, wordName}
+use Rattle.machine.specs.Tokens.{name, wordName}
 use Rattle.controls.specs.Machinery.Steps.{means-fail}
 use Rattle.forms.proofs.only_names.Statement.{statement}
 use Rattle.forms.proofs.only_names.Tie as tie

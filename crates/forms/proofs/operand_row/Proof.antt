@@ -1,72 +1,51 @@
--- `operand_row` is the machine's row, entry by entry.
+-- `operand_row` is the machine's row where an operand is due, entry by entry.
 use borrow.Author.Needs.{needs}
-use mathlib.Core.Path.{sym, _∙_}
-use Rattle.controls.specs.Machinery.Numbers.{endingBy, controlBy, effectBy, closingBy, insideBy}
-use Rattle.controls.specs.Machinery.Steps.{to-leaf, to-function, past-parens, past-object, past-array, means-fail}
-use Rattle.forms.proofs.FormLaws.{leaf-row, no-operand}
+use mathlib.Core.Path.{sym, _∙_, subst}
+use lib.Dec.{T}
+use Rattle.controls.specs.Machinery.Numbers.{endingBy, controlBy, effectBy}
+use Rattle.controls.specs.Machinery.Steps.{to-leaf, to-prefix}
+use Rattle.forms.proofs.FormLaws.{prefix-row, no-prefix-row}
 use Rattle.forms.proofs.operand_row.Statement.{statement}
 use Rattle.forms.proofs.operand_row.Tie as tie
-
-is-leaf-requires : tie.Need-is-leaf-requires
-is-leaf-requires c κs = search needs
 
 goto-requires : tie.Need-goto-requires
 goto-requires c κs = search needs
 
 returns : tie.Need-returns
 unfolding controlBy effectBy
-returns c = λ from due.
-    let a = c .before .before .before .args in
-    let l = leaf-row (a .class) (endingBy (a .ending) (a .setting)) (a .target) (sym (c .before .before .is-leaf .ensures) ∙ c .before .if1 .taken) in
-    rw (l .0) (c .goto .ensures _ _ (l .1) (to-leaf due))
+returns c = λ from due before. rw (c .before .if1 .taken) (c .goto .ensures _ _ tt (to-leaf due))
 
-push-requires : tie.Need-push-requires
-push-requires c κs = search needs
-
-returns-2 : tie.Need-returns-2
-unfolding controlBy closingBy insideBy
-returns-2 c = λ from due. rw (c .before .if2 .taken) (c .push .ensures _ _ tt (past-parens due))
-
-push-requires-2 : tie.Need-push-requires-2
-push-requires-2 c κs = search needs
-
-returns-3 : tie.Need-returns-3
-unfolding controlBy closingBy insideBy
-returns-3 c = λ from due. rw (c .before .if3 .taken) (c .push2 .ensures _ _ tt (past-object due))
-
-push-requires-3 : tie.Need-push-requires-3
-push-requires-3 c κs = search needs
-
-returns-4 : tie.Need-returns-4
-unfolding controlBy closingBy insideBy
-returns-4 c = λ from due. rw (c .before .if4 .taken) (c .push3 .ensures _ _ tt (past-array due))
+is-prefix-requires : tie.Need-is-prefix-requires
+is-prefix-requires c κs = search needs
 
 goto-requires-2 : tie.Need-goto-requires-2
 goto-requires-2 c κs = search needs
 
-returns-5 : tie.Need-returns-5
+returns-2 : tie.Need-returns-2
 unfolding controlBy effectBy
-returns-5 c = λ from due. rw (c .before .if5 .taken) (c .goto2 .ensures _ _ tt (to-function due))
+returns-2 c = λ from due before.
+    let a = c .before .before .before .before .args in
+    let is = sym (c .before .before .is-prefix .ensures) ∙ c .before .if2 .taken in
+    let p = prefix-row (a .class) (endingBy (a .ending) (a .setting)) (a .target) is in
+    rw (p .0) (c .goto2 .ensures _ _ (p .1) (to-prefix (a .class) (subst T (sym is) tt) due before))
 
-returns-6 : tie.Need-returns-6
-returns-6 c = λ from due.
-    let a = c .before .before .before .before .before .before .args in
-    rw (no-operand (a .class) (endingBy (a .ending) (a .setting)) (a .target) (sym (c .before .before .before .before .before .is-leaf .ensures) ∙ c .before .before .before .before .if1 .left) (c .before .before .before .if2 .left) (c .before .before .if3 .left) (c .before .if4 .left) (c .if5 .left))
-    means-fail
+member-row-requires : tie.Need-member-row-requires
+member-row-requires c κs = search needs
+
+returns-3 : tie.Need-returns-3
+returns-3 c = λ from due before.
+    let a = c .before .before .before .before .args in
+    let none = sym (c .before .before .is-prefix .ensures) ∙ c .before .if2 .left in
+    rw (no-prefix-row (a .class) (endingBy (a .ending) (a .setting)) (a .target) none) (c .member-row .ensures _ due)
 
 pub operand-row-spec : {M : Type 1} → statement M
 operand-row-spec =
     tie.close
     (tie.spec
-    is-leaf-requires
     goto-requires
     returns
-    push-requires
-    returns-2
-    push-requires-2
-    returns-3
-    push-requires-3
-    returns-4
+    is-prefix-requires
     goto-requires-2
-    returns-5
-    returns-6)
+    returns-2
+    member-row-requires
+    returns-3)

@@ -1,7 +1,7 @@
 -- `unnamed_row` is the machine's row behind `function` in an expression.
 use borrow.Author.Needs.{needs}
 use borrow.Author.Tests.{ne-eqb}
-use Rattle.grammar.specs.Tokens.{name}
+use Rattle.machine.specs.Tokens.{name}
 use Rattle.controls.specs.Machinery.Numbers.{controlBy, effectBy, closingBy, insideBy}
 use Rattle.controls.specs.Machinery.Steps.{to-function-name, past-unnamed}
 use Rattle.forms.proofs.unnamed_row.Statement.{statement}

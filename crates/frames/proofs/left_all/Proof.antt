@@ -8,7 +8,7 @@ use Rattle.frames.proofs.left_all.Statement.{statement}
 use Rattle.frames.proofs.left_all.Tie as tie
 
 abbrev Inv-loop : tie.InvT-loop
-Inv-loop waiting syntax₀ s₀ syntax s = StandsSomewhere (controlOf (s .control)) (s .level) waiting syntax × (s .control .place ≡ 5 → ⊥) × Moves (controlOf (s₀ .control)) (s₀ .level) waiting syntax₀ s syntax × (length syntax ≡ length syntax₀)
+Inv-loop waiting syntax₀ s₀ syntax s = StandsSomewhere (controlOf (s .control)) (s .level) waiting syntax × (s .control .place ≡ 19 → ⊥) × Moves (controlOf (s₀ .control)) (s₀ .level) waiting syntax₀ s syntax × (length syntax ≡ length syntax₀)
 
 abbrev μ-loop : tie.MeasureT-loop
 μ-loop waiting syntax₀ s₀ syntax s = s .level .top

@@ -5,17 +5,23 @@ use mathlib.Core.Bool.{Bool, true, false}
 use mathlib.Core.List.{List, [], _∷_, _++_}
 use lib.ListN.{length}
 use Rattle.tables.specs.Records.{mostTrees}
-use Rattle.grammar.specs.Tokens.{Token, token, Spot, colon}
-use Rattle.grammar.specs.Syntax.{Syntax, nil, size}
-use Rattle.grammar.specs.Machinery.Machine as machine
-use Rattle.grammar.specs.Machinery.Machine.{
+use Rattle.machine.specs.Tokens.{Token, token, Spot, colon}
+use Rattle.machine.specs.Syntax.{Syntax, nil, size}
+use Rattle.machine.specs.Operators.{leastBinary}
+use Rattle.machine.specs.Machinery.Machine as machine
+use Rattle.machine.specs.Machinery.Machine.{
   Frame,
   frame,
   heldWord,
+  empty,
+  reduced,
+  answered,
   behindStatement,
   toParameter,
   toStatement,
   ifNest,
+  Ending,
+  byColon,
   Control,
   statementDue,
   statementDone,
@@ -23,7 +29,9 @@ use Rattle.grammar.specs.Machinery.Machine.{
   returnFirst,
   ifFirst,
   operandDue,
+  memberDue,
   operandDone,
+  postfixDone,
   dotLast,
   functionFirst,
   functionNamed,
@@ -37,13 +45,15 @@ use Rattle.grammar.specs.Machinery.Machine.{
   Action,
   pop,
   finish,
+  expressionValue,
   valueOf,
   nested,
+  asking,
   live,
   run,
 }
 use Rattle.controls.specs.Machinery.Numbers.{settingBy, controlOf, effectBy, closingBy}
-use Rattle.controls.specs.Machinery.Steps.{Leads, Spans, Settled, Ends}
+use Rattle.controls.specs.Machinery.Steps.{Ended, Leads, Spans, Settled, Ends}
 use Rattle.controls.specs.declared.Control as code
 use Rattle.controls.specs.Machinery.Written.{putSyntax}
 use Rattle.waiting.specs.Machinery.Waiting.{width}
@@ -89,6 +99,43 @@ Enters number mark l stack cells l′ stack′ = (must : Bool) (g : Frame) (nest
     → Stands (statementDue must (settingBy number)) g nests table stack₀ first floor passed l stack cells → first + floor + passed < mostTrees → mark < mostTrees
     → Stands ifFirst (frame nil [] [] (heldWord mark)) (nested (behindStatement (settingBy number)) toStatement mark g ∷ nests) table stack₀ first floor (passed + 1) l′ stack′ cells
 
+-- a `?` is open, behind the operand of an expression
+pub record MayAsk (at : code.Control) (mark : ℕ) (l : Level) (stack cells : List ℕ) : Type 0 where
+  pub ending : Ending
+  pub ends : Ended (controlOf at) ending
+  pub somewhere : StandsSomewhere (controlOf at) l stack cells
+  pub room : (l .top + 1) * width ≤ length stack
+  pub marked : mark < mostTrees
+
+pub record AskedAt (g : Frame) (ending : Ending) (mark : ℕ) (nests : List machine.Open) (table stack₀ : List ℕ) (first floor passed : ℕ) (r : Standing) (stack cells : List ℕ) : Type 0 where
+  pub control-is : controlOf (r .control) ≡ operandDue byColon true
+  pub stands : Stands (operandDue byColon true) empty (asking ending mark (reduced leastBinary g) ∷ nests) table stack₀ first floor passed (r .level) stack cells
+
+abbrev pub Asks : code.Control → ℕ → Level → List ℕ → List ℕ → Standing → List ℕ → List ℕ → Type 0
+Asks at mark l stack cells r stack′ cells′ = (ending : Ending) (g : Frame) (nests : List machine.Open) (table stack₀ : List ℕ) (first floor passed : ℕ)
+    → Stands (controlOf at) g nests table stack₀ first floor passed l stack cells → Ended (controlOf at) ending → first + floor + passed < mostTrees
+    → AskedAt g ending mark nests table stack₀ first floor (passed + 1) r stack′ cells′
+
+-- and it is answered
+pub record MayTurn (l : Level) (stack cells : List ℕ) : Type 0 where
+  pub from : Control
+  pub ends : Ended from byColon
+  pub somewhere : StandsSomewhere from l stack cells
+
+pub record TurnedTo (g : Frame) (nests : List machine.Open) (table stack₀ : List ℕ) (first floor passed : ℕ) (r : Standing) (stack cells : List ℕ) : Type 0 where
+  pub ending : Ending
+  pub mark : ℕ
+  pub f : Frame
+  pub rest : List machine.Open
+  pub is : nests ≡ asking ending mark f ∷ rest
+  pub control-is : controlOf (r .control) ≡ operandDue ending true
+  pub stands : Stands (operandDue ending true) (answered mark (valueOf expressionValue g) f) rest table stack₀ first floor passed (r .level) stack cells
+
+abbrev pub Turns : Level → List ℕ → List ℕ → Standing → List ℕ → List ℕ → Type 0
+Turns l stack cells r stack′ cells′ = (from : Control) (g : Frame) (nests : List machine.Open) (table stack₀ : List ℕ) (first floor passed : ℕ)
+    → Stands from g nests table stack₀ first floor passed l stack cells → Ended from byColon → first + floor + passed < mostTrees
+    → TurnedTo g nests table stack₀ first floor (passed + 1) r stack′ cells′
+
 -- a group's value stands behind a level's records
 pub record Valued (l : Level) (n : ℕ) (value : Syntax) (before after cellsBefore cellsAfter : List ℕ) : Type 0 where
   pub count-is : n ≡ l .count + size value
@@ -122,7 +169,9 @@ ofParameter (nameFirst setting) = false
 ofParameter (returnFirst setting) = false
 ofParameter ifFirst = false
 ofParameter (operandDue ending target) = false
+ofParameter (memberDue ending target) = false
 ofParameter (operandDone ending target) = false
+ofParameter (postfixDone ending) = false
 ofParameter (dotLast ending target) = false
 ofParameter (functionFirst role) = false
 ofParameter (functionNamed role) = false
@@ -163,19 +212,19 @@ Moves from l stack cells r cells′ = (g : Frame) (nests : List machine.Open) (t
 -- a nest is left: less waits, and no name is held
 pub record Leaves (l : Level) (stack cells : List ℕ) (r : Standing) (cells′ : List ℕ) : Type 0 where
   pub lower : r .level .top < l .top
-  pub no-name : r .control .place ≡ 5 → ⊥
+  pub no-name : r .control .place ≡ 19 → ⊥
   pub moves : Moves (statementDone ifNest) l stack cells r cells′
 
 -- nests that are done are left before a token of any class, and a held name is an operand before one that is no `:`
 pub record MayLeave (at : code.Control) (l : Level) (stack cells : List ℕ) : Type 0 where
-  pub no-name : at .place ≡ 5 → ⊥
+  pub no-name : at .place ≡ 19 → ⊥
   pub somewhere : StandsSomewhere (controlOf at) l stack cells
 
 abbrev pub LeavesAll : code.Control → Level → List ℕ → List ℕ → Standing → List ℕ → Type 0
 LeavesAll at l stack cells r cells′ = (class : ℕ) → Readies at class l stack cells r cells′
 
 pub record MayName (at : code.Control) (l : Level) (cells : List ℕ) : Type 0 where
-  pub place-is : at .place ≡ 5
+  pub place-is : at .place ≡ 19
   pub stack : List ℕ
   pub somewhere : StandsSomewhere (controlOf at) l stack cells
 
@@ -188,7 +237,7 @@ pub data IsValue : Action → Frame → Syntax → Type 0 where
   is-program : {value : Syntax} → IsValue finish (frame value [] [] nil) value
 
 -- a level's end: its value is the whole of its records, and it has no nests
-pub record Ended (action : Action) (g : Frame) (nests : List machine.Open) (table : List ℕ) (first floor passed n : ℕ) (cells : List ℕ) : Type 0 where
+pub record EndedLevel (action : Action) (g : Frame) (nests : List machine.Open) (table : List ℕ) (first floor passed n : ℕ) (cells : List ℕ) : Type 0 where
   pub value : Syntax
   pub value-is : IsValue action g value
   pub none : nests ≡ []
@@ -198,4 +247,4 @@ pub record Ended (action : Action) (g : Frame) (nests : List machine.Open) (tabl
 
 abbrev pub EndsLevel : Level → List ℕ → List ℕ → ℕ → List ℕ → Type 0
 EndsLevel l stack cells n cells′ = (class : ℕ) (c : Control) (action : Action) (g : Frame) (nests : List machine.Open) (table stack₀ : List ℕ) (first floor passed : ℕ)
-    → Stands c g nests table stack₀ first floor passed l stack cells → Ends class c true action → Ended action g nests table first floor passed n cells′
+    → Stands c g nests table stack₀ first floor passed l stack cells → Ends class c true action → EndedLevel action g nests table first floor passed n cells′

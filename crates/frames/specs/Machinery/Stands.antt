@@ -1,19 +1,19 @@
 -- How a level holds the machine's frame and the nests that are open on it. Machinery.
-use Prim.Native.Nat.{ℕ, _+_, _*_, _≤_, _<_}
+use Prim.Native.Nat.{ℕ, _+_, _-_, _*_, _/_, _%_, _≤_, _<_}
 use mathlib.Core.Path.{_≡_}
 use mathlib.Core.Bool.{true, false}
 use mathlib.Core.List.{List, [], _∷_, _++_}
 use lib.ListN.{length, getD}
 use Rattle.tables.specs.Records.{mostTrees}
-use Rattle.grammar.specs.Tokens.{name}
-use Rattle.grammar.specs.Syntax.{Syntax, nil, node, snoc, fullReturnSyntax}
-use Rattle.grammar.specs.Grammar.{precedence}
-use Rattle.grammar.specs.Machinery.Machine as machine
-use Rattle.grammar.specs.Machinery.Machine.{
+use Rattle.machine.specs.Tokens.{name, newWord}
+use Rattle.machine.specs.Syntax.{Syntax, nil, node, snoc, fullReturnSyntax}
+use Rattle.machine.specs.Machinery.Machine as machine
+use Rattle.machine.specs.Machinery.Machine.{
   Pending,
   pending,
   Frame,
   frame,
+  tightness,
   markOf,
   Setting,
   among,
@@ -25,6 +25,7 @@ use Rattle.grammar.specs.Machinery.Machine.{
   byReturn,
   byParen,
   byBracket,
+  byColon,
   byItem,
   Control,
   statementDue,
@@ -33,7 +34,9 @@ use Rattle.grammar.specs.Machinery.Machine.{
   returnFirst,
   ifFirst,
   operandDue,
+  memberDue,
   operandDone,
+  postfixDone,
   dotLast,
   functionFirst,
   functionNamed,
@@ -44,15 +47,16 @@ use Rattle.grammar.specs.Machinery.Machine.{
   parameterNamed,
   finished,
   nested,
+  asking,
 }
-use Rattle.controls.specs.Machinery.Numbers.{settingBy}
-use Rattle.waiting.specs.Machinery.Waiting.{width, binding, nestKind, Holds}
+use Rattle.controls.specs.Machinery.Numbers.{settingBy, endingBy}
+use Rattle.waiting.specs.Machinery.Waiting.{width, binding, nestKind, askKind, Holds}
 use Rattle.waiting.specs.declared.Level.{Level}
 
--- what waits for an operand are operators; what waits for a statement are beginnings of statements
+-- what waits for an operand are operators, of which `new` has no left side; what waits for a statement are beginnings of statements
 pub data Operators : List Pending → Type 0 where
   no-operators : Operators []
-  more-operators : {kind mark : ℕ} {left : Syntax} {ps : List Pending} → binding kind ≡ precedence kind + 2 → Operators ps
+  more-operators : {kind mark : ℕ} {left : Syntax} {ps : List Pending} → 1 ≤ tightness kind → (kind ≡ newWord → left ≡ nil) → Operators ps
       → Operators (pending kind mark left ∷ ps)
 
 pub data Beginnings : List Pending → Type 0 where
@@ -60,30 +64,45 @@ pub data Beginnings : List Pending → Type 0 where
   more-beginnings : {kind mark : ℕ} {left : Syntax} {ps : List Pending} → binding kind ≡ 1 → Beginnings ps
       → Beginnings (pending kind mark left ∷ ps)
 
-pub data Some : List machine.Open → Type 0 where
-  some : {h : machine.Open} {hs : List machine.Open} → Some (h ∷ hs)
+-- what is open innermost on a level: a nest, or a `?`
+pub data InNest : List machine.Open → Type 0 where
+  in-nest : {behind : Control} {closing : machine.Closing} {mark : ℕ} {f : Frame} {hs : List machine.Open} → InNest (nested behind closing mark f ∷ hs)
+
+pub data Asked : List machine.Open → Type 0 where
+  asked : {ending : Ending} {mark : ℕ} {f : Frame} {hs : List machine.Open} → Asked (asking ending mark f ∷ hs)
 
 -- statements stand in no nest; the statement of a nest stands in one, and is the first there
 abbrev pub InSetting : Setting → Syntax → List machine.Open → Type 0
 InSetting (among scope) done nests = nests ≡ []
-InSetting (inNest nest) done nests = (done ≡ nil) × Some nests
+InSetting (inNest nest) done nests = (done ≡ nil) × InNest nests
+
+-- an expression that is the whole inside of a group has nothing else on its level; before an item of a list stand items alone; behind an open `?`
+-- nothing stands before it
+abbrev pub Within : Ending → Syntax → List Pending → List machine.Open → Type 0
+Within (byStatement setting) done starts nests = InSetting setting done nests
+Within (byReturn setting) done starts nests = InSetting setting done nests
+Within byParen done starts nests = (done ≡ nil) × (starts ≡ []) × (nests ≡ [])
+Within byBracket done starts nests = (done ≡ nil) × (starts ≡ []) × (nests ≡ [])
+Within byColon done starts nests = (done ≡ nil) × (starts ≡ []) × Asked nests
+Within (byItem items) done starts nests = (starts ≡ []) × (nests ≡ [])
+
+-- the ending of the expression that an open `?` is in, by the number that stands for it
+unfoldable pub askedIn : ℕ → Ending
+askedIn kind = endingBy ((kind - askKind) / 4) ((kind - askKind) % 4)
 
 -- What waits below a frame with those statements done: nothing more on the level; or the nest that the frame stands in, with the setting
--- around it in place of a mark and the frame's statements in place of a left side, and then what waits around the nest.
+-- around it in place of a mark and the frame's statements in place of a left side, and then what waits around the nest; or the `?` that the frame
+-- stands behind, with its condition and the frame's statements, of which there are none, as its left side, and then what waits around it.
 pub data Below : Syntax → List machine.Open → Syntax → List Pending → Type 0 where
   below-none : {done : Syntax} → Below done [] done []
   below-nest : {done around base : Syntax} {setting mark : ℕ} {starts tail : List Pending} {nests : List machine.Open}
       → Beginnings starts → InSetting (settingBy setting) around nests → Below around nests base tail
       → Below done (nested (behindStatement (settingBy setting)) toStatement mark (frame around starts [] nil) ∷ nests) base
       (pending nestKind setting done ∷ (starts ++ tail))
-
--- an expression that is the whole inside of a group has nothing else on its level; before an item of a list stand items alone
-abbrev pub Within : Ending → Syntax → List Pending → List machine.Open → Type 0
-Within (byStatement setting) done starts nests = InSetting setting done nests
-Within (byReturn setting) done starts nests = InSetting setting done nests
-Within byParen done starts nests = (done ≡ nil) × (starts ≡ []) × (nests ≡ [])
-Within byBracket done starts nests = (done ≡ nil) × (starts ≡ []) × (nests ≡ [])
-Within (byItem items) done starts nests = (starts ≡ []) × (nests ≡ [])
+  below-asked : {done around base condition : Syntax} {kind mark : ℕ} {waiting starts tail : List Pending} {nests : List machine.Open} → askKind ≤ kind
+      → Operators waiting → Beginnings starts → Within (askedIn kind) around starts nests → Below around nests base tail
+      → Below done (asking (askedIn kind) mark (frame around starts waiting condition) ∷ nests) base
+      (pending kind mark (snoc condition done) ∷ (waiting ++ (starts ++ tail)))
 
 abbrev pub WithinRole : machine.Role → Syntax → List Pending → List Pending → List machine.Open → Type 0
 WithinRole machine.declared done starts waiting nests = (starts ≡ []) × (waiting ≡ []) × (nests ≡ [])
@@ -111,12 +130,14 @@ pub record ReturnBegun (starts : List Pending) : Type 0 where
 abbrev pub Shaped : Control → Syntax → List Pending → List Pending → Syntax → List machine.Open → Type 0
 Shaped (statementDue true setting) done starts waiting operand nests = (waiting ≡ []) × (operand ≡ nil) × InSetting setting done nests
 Shaped (statementDue false setting) done starts waiting operand nests = (starts ≡ []) × (waiting ≡ []) × (operand ≡ nil) × InSetting setting done nests
-Shaped (statementDone nest) done starts waiting operand nests = (starts ≡ []) × (waiting ≡ []) × (operand ≡ nil) × OneDone done × Some nests
+Shaped (statementDone nest) done starts waiting operand nests = (starts ≡ []) × (waiting ≡ []) × (operand ≡ nil) × OneDone done × InNest nests
 Shaped (nameFirst setting) done starts waiting operand nests = (waiting ≡ []) × InSetting setting done nests
 Shaped (returnFirst setting) done starts waiting operand nests = ReturnBegun starts × (waiting ≡ []) × (operand ≡ nil) × InSetting setting done nests
-Shaped ifFirst done starts waiting operand nests = (done ≡ nil) × (starts ≡ []) × (waiting ≡ []) × Some nests
+Shaped ifFirst done starts waiting operand nests = (done ≡ nil) × (starts ≡ []) × (waiting ≡ []) × InNest nests
 Shaped (operandDue ending target) done starts waiting operand nests = (operand ≡ nil) × Within ending done starts nests
+Shaped (memberDue ending target) done starts waiting operand nests = (operand ≡ nil) × Within ending done starts nests
 Shaped (operandDone ending target) done starts waiting operand nests = Within ending done starts nests
+Shaped (postfixDone ending) done starts waiting operand nests = Within ending done starts nests
 Shaped (dotLast ending target) done starts waiting operand nests = Within ending done starts nests
 Shaped (functionFirst role) done starts waiting operand nests = WithinRole role done starts waiting nests
 Shaped (functionNamed role) done starts waiting operand nests = WithinRole role done starts waiting nests
@@ -135,7 +156,9 @@ written (nameFirst setting) operand = nil
 written (returnFirst setting) operand = operand
 written ifFirst operand = nil
 written (operandDue ending target) operand = operand
+written (memberDue ending target) operand = operand
 written (operandDone ending target) operand = operand
+written (postfixDone ending) operand = operand
 written (dotLast ending target) operand = operand
 written (functionFirst role) operand = nil
 written (functionNamed role) operand = nil
@@ -153,7 +176,9 @@ HeldAt (nameFirst setting) operand word = operand ≡ node name word nil nil
 HeldAt (returnFirst setting) operand word = Unit {0}
 HeldAt ifFirst operand word = markOf operand ≡ word
 HeldAt (operandDue ending target) operand word = Unit {0}
+HeldAt (memberDue ending target) operand word = Unit {0}
 HeldAt (operandDone ending target) operand word = Unit {0}
+HeldAt (postfixDone ending) operand word = Unit {0}
 HeldAt (dotLast ending target) operand word = Unit {0}
 HeldAt (functionFirst role) operand word = markOf operand ≡ word
 HeldAt (functionNamed role) operand word = markOf operand ≡ word
@@ -172,7 +197,9 @@ owed (nameFirst setting) = 1
 owed (returnFirst setting) = 0
 owed ifFirst = 0
 owed (operandDue ending target) = 0
+owed (memberDue ending target) = 0
 owed (operandDone ending target) = 0
+owed (postfixDone ending) = 0
 owed (dotLast ending target) = 0
 owed (functionFirst role) = 0
 owed (functionNamed role) = 0

@@ -4,9 +4,9 @@ use mathlib.Core.Path.{_≡_}
 use mathlib.Core.Bool.{true, false, cond}
 use mathlib.Core.List.{List, [], _∷_, _++_}
 use lib.Dec.{eqb}
-use Rattle.grammar.specs.Tokens.{Token, token}
-use Rattle.grammar.specs.Syntax.{Syntax, nil, size}
-use Rattle.grammar.specs.Machinery.Machine.{endOfText, Frame, frame, Control, Open, State, dead, live, popTo, finishIn, run}
+use Rattle.machine.specs.Tokens.{Token, token}
+use Rattle.machine.specs.Syntax.{Syntax, nil, size}
+use Rattle.machine.specs.Machinery.Machine.{endOfText, Frame, frame, Control, Open, State, dead, live, popTo, finishIn, run}
 use Rattle.controls.specs.Machinery.Numbers.{controlOf}
 use Rattle.controls.specs.declared.Control as code
 use Rattle.controls.specs.Machinery.Written.{putSyntax}

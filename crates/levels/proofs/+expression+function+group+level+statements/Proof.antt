@@ -8,7 +8,7 @@ use lib.ListN.{length}
 use Rattle.controls.specs.Machinery.Numbers.{controlOf}
 use Rattle.segments.specs.Machinery.Segments.{segment, countOf}
 use Rattle.levels.proofs.RunLaws.{Underway, somewhere, starts-underway, ran-to-closer}
-use Rattle.levels.proofs.StepLaws.{Arrival, fails, may-affect, affected, may-enter, entered, class-small, may-open, inner-dies, may-close, closed, open-any, may-run, fewer-inside, as-inside, begins-inside, statements-start, begins-scope, body-scope, body-inside, block-inside, ran-as}
+use Rattle.levels.proofs.StepLaws.{Arrival, fails, may-affect, affected, may-enter, entered, may-ask, asked, may-turn, turned, class-small, may-open, inner-dies, may-close, closed, open-any, may-run, fewer-inside, as-inside, begins-inside, statements-start, begins-scope, body-scope, body-inside, block-inside, ran-as}
 use borrow.Fn.Kinds.{In}
 use borrow.Fn.PlainCycle.{Measures, is, falls, and}
 use Rattle.levels.proofs.expression.Reads as expression
@@ -34,6 +34,8 @@ use Rattle.groups.proofs.close.Reads as close-reads
 use Rattle.frames.proofs.empty.Reads as empty-reads
 use Rattle.groups.proofs.at_closer.Reads as at-closer-reads
 use Rattle.groups.proofs.entered.Reads as entered-reads
+use Rattle.groups.proofs.asked.Reads as asked-reads
+use Rattle.groups.proofs.turned.Reads as turned-reads
 use Rattle.frames.proofs.ready.Reads as ready-reads
 use Rattle.segments.proofs.class_at.Reads as class-at-reads
 use Rattle.segments.proofs.closer_at.Reads as closer-at-reads
@@ -104,7 +106,7 @@ abbrev group-claims : ℕ → group-lts.Claims
 group-claims t = (inside-reads.Asked, inside-reads.Learnt, closer-at-reads.Asked, closer-at-reads.Learnt, statements-below t, statements.Post, function-below t, function.Post, expression-below t, expression.Post)
 
 abbrev level-claims : ℕ → level-lts.Claims
-level-claims t = (empty-reads.Asked, empty-reads.Learnt, class-at-reads.Asked, class-at-reads.Learnt, newline-at-reads.Asked, newline-at-reads.Learnt, ready-reads.Asked, ready-reads.Learnt, row-reads.Asked, row-reads.Learnt, place-at-reads.Asked, place-at-reads.Learnt, affect-reads.Asked, affect-reads.Learnt, entered-reads.Asked, entered-reads.Learnt, group-below t, group.Post, close-reads.Asked, close-reads.Learnt, size-at-reads.Asked, size-at-reads.Learnt, at-closer-reads.Asked, at-closer-reads.Learnt)
+level-claims t = (empty-reads.Asked, empty-reads.Learnt, class-at-reads.Asked, class-at-reads.Learnt, newline-at-reads.Asked, newline-at-reads.Learnt, ready-reads.Asked, ready-reads.Learnt, row-reads.Asked, row-reads.Learnt, place-at-reads.Asked, place-at-reads.Learnt, affect-reads.Asked, affect-reads.Learnt, entered-reads.Asked, entered-reads.Learnt, asked-reads.Asked, asked-reads.Learnt, turned-reads.Asked, turned-reads.Learnt, group-below t, group.Post, close-reads.Asked, close-reads.Learnt, size-at-reads.Asked, size-at-reads.Learnt, at-closer-reads.Asked, at-closer-reads.Learnt)
 
 abbrev statements-claims : ℕ → statements-lts.Claims
 statements-claims t = (stand-reads.Asked, stand-reads.Learnt, level-below t, level.Post)
@@ -279,8 +281,41 @@ level-loop-less-2 t c = search needs
 level-loop-again-2 : (t : ℕ) → level-lts.Need-loop-again-2 (level-claims t) (level-at t) level.Post level-Inv-loop level-μ-loop
 level-loop-again-2 t c = ((c .before .before .before .before .before .before .before .before .before .before .syntax) .given ∙ (c .before .before .before .before .before .before .before .before .before .before .before .before .before .before .before .before .before .loop) .inv .0, (c .before .waiting2) .given ∙ (c .before .before .before .before .before .before .before .before .before .before .before .before .before .before .before .before .before .loop) .inv .1, entered (turn t (c .before .before .before .before .before .before .before .before)) ((c .before .before .before .before .before .before .step2) .given .1) ((c .before .before .entered) .ensures) ((c .before .waiting2) .given))
 
+level-enum-told-2 : (t : ℕ) → level-lts.Need-enum-told-2 (level-claims t) (level-at t) level.Post level-Inv-loop level-μ-loop
+level-enum-told-2 t c = c .match .keys4
+
+level-add-asked : (t : ℕ) → level-lts.Need-add-asked (level-claims t) (level-at t) level.Post level-Inv-loop level-μ-loop
+level-add-asked t c = omega (arith, c .before .before .before .before .before .before .before .before .before .before .loop-test .taken, c .before .before .before .before .before .before .before .before .before .before .before .before .before .before .before .before .before .pre .1 .0 .fine .few)
+
+level-asked-requires : (t : ℕ) → level-lts.Need-asked-requires (level-claims t) (level-at t) level.Post level-Inv-loop level-μ-loop
+level-asked-requires t c κs = may-ask (turn t (c .before .before .before .before)) (c .before .before .enum-told2 .given .1)
+
+level-add-at-3 : (t : ℕ) → level-lts.Need-add-at-3 (level-claims t) (level-at t) level.Post level-Inv-loop level-μ-loop
+level-add-at-3 t c = omega (arith, c .before .before .before .before .before .before .before .before .before .before .before .before .before .before .before .before .before .before .before .loop-test .taken, c .before .before .before .before .before .before .before .before .before .before .before .before .before .before .before .before .before .before .before .before .before .before .before .before .before .before .pre .1 .0 .fine .few)
+
+level-loop-less-3 : (t : ℕ) → level-lts.Need-loop-less-3 (level-claims t) (level-at t) level.Post level-Inv-loop level-μ-loop
+level-loop-less-3 t c = search needs
+
+level-loop-again-3 : (t : ℕ) → level-lts.Need-loop-again-3 (level-claims t) (level-at t) level.Post level-Inv-loop level-μ-loop
+level-loop-again-3 t c = (c .before .before .before .syntax3 .given ∙ c .before .before .before .before .before .before .before .before .before .before .before .before .before .syntax .given ∙ c .before .before .before .before .before .before .before .before .before .before .before .before .before .before .before .before .before .before .before .before .loop .inv .0, c .before .before .before .before .before .waiting3 .given ∙ c .before .before .before .before .before .before .before .before .before .before .before .before .before .before .before .before .before .before .before .before .loop .inv .1, asked (turn t (c .before .before .before .before .before .before .before .before .before .before .before)) (c .before .before .before .before .before .before .before .before .before .enum-told2 .given .1) (c .before .before .before .before .before .before .asked .ensures) (c .before .before .before .before .before .waiting3 .given))
+
+level-enum-told-3 : (t : ℕ) → level-lts.Need-enum-told-3 (level-claims t) (level-at t) level.Post level-Inv-loop level-μ-loop
+level-enum-told-3 t c = c .match .keys5
+
+level-turned-requires : (t : ℕ) → level-lts.Need-turned-requires (level-claims t) (level-at t) level.Post level-Inv-loop level-μ-loop
+level-turned-requires t c κs = may-turn (turn t (c .before .before .before .before)) (c .before .before .enum-told3 .given .1)
+
+level-add-at-4 : (t : ℕ) → level-lts.Need-add-at-4 (level-claims t) (level-at t) level.Post level-Inv-loop level-μ-loop
+level-add-at-4 t c = omega (arith, c .before .before .before .before .before .before .before .before .before .before .before .before .before .before .before .before .before .before .before .loop-test .taken, c .before .before .before .before .before .before .before .before .before .before .before .before .before .before .before .before .before .before .before .before .before .before .before .before .before .before .pre .1 .0 .fine .few)
+
+level-loop-less-4 : (t : ℕ) → level-lts.Need-loop-less-4 (level-claims t) (level-at t) level.Post level-Inv-loop level-μ-loop
+level-loop-less-4 t c = search needs
+
+level-loop-again-4 : (t : ℕ) → level-lts.Need-loop-again-4 (level-claims t) (level-at t) level.Post level-Inv-loop level-μ-loop
+level-loop-again-4 t c = (c .before .before .before .syntax4 .given ∙ c .before .before .before .before .before .before .before .before .before .before .before .before .before .syntax .given ∙ c .before .before .before .before .before .before .before .before .before .before .before .before .before .before .before .before .before .before .before .before .loop .inv .0, c .before .before .before .before .before .waiting4 .given ∙ c .before .before .before .before .before .before .before .before .before .before .before .before .before .before .before .before .before .before .before .before .loop .inv .1, turned (turn t (c .before .before .before .before .before .before .before .before .before .before .before)) (c .before .before .before .before .before .before .before .before .before .enum-told3 .given .1) (c .before .before .before .before .before .before .turned .ensures) (c .before .before .before .before .before .waiting4 .given))
+
 level-enum-known-step-3 : (t : ℕ) → level-lts.Need-enum-known-step-3 (level-claims t) (level-at t) level.Post level-Inv-loop level-μ-loop
-level-enum-known-step-3 t c = c .match .keys4
+level-enum-known-step-3 t c = c .match .keys6
 
 level-add-group : (t : ℕ) → level-lts.Need-add-group (level-claims t) (level-at t) level.Post level-Inv-loop level-μ-loop
 level-add-group t c = omega (arith, class-small (turn t (c .before .before .before)) ((c .before .step3) .given .1))
@@ -292,10 +327,10 @@ level-enum-known-inner : (t : ℕ) → level-lts.Need-enum-known-inner (level-cl
 level-enum-known-inner t c = c .match2 .keys1
 
 level-same-length-3 : (t : ℕ) → level-lts.Need-same-length-3 (level-claims t) (level-at t) level.Post level-Inv-loop level-μ-loop
-level-same-length-3 t c = (c .before .before .before .before .before .before .waiting3) .given ∙ (c .before .before .before .before .before .before .before .before .before .before .before .before .before .before .before .before .before .before .before .before .before .before .loop) .inv .1
+level-same-length-3 t c = (c .before .before .before .before .before .before .waiting5) .given ∙ (c .before .before .before .before .before .before .before .before .before .before .before .before .before .before .before .before .before .before .before .before .before .before .loop) .inv .1
 
 level-same-length-4 : (t : ℕ) → level-lts.Need-same-length-4 (level-claims t) (level-at t) level.Post level-Inv-loop level-μ-loop
-level-same-length-4 t c = (c .before .before .before .before .syntax3) .given ∙ (c .before .before .before .before .before .before .before .before .before .before .before .before .before .before .before .syntax) .given ∙ (c .before .before .before .before .before .before .before .before .before .before .before .before .before .before .before .before .before .before .before .before .before .before .loop) .inv .0
+level-same-length-4 t c = (c .before .before .before .before .syntax5) .given ∙ (c .before .before .before .before .before .before .before .before .before .before .before .before .before .before .before .syntax) .given ∙ (c .before .before .before .before .before .before .before .before .before .before .before .before .before .before .before .before .before .before .before .before .before .before .loop) .inv .0
 
 level-returns-2 : (t : ℕ) → level-lts.Need-returns-2 (level-claims t) (level-at t) level.Post level-Inv-loop level-μ-loop
 level-returns-2 t c = inner-dies (turn t (c .before .before .before .before .before .before .before .before .before .before .before .before .before)) ((c .before .before .before .before .before .before .before .before .before .before .before .step3) .given .1) ((c .before .before .before .before .before .before .before .group) .ensures) ((c .before .inner) .given .1)
@@ -312,14 +347,14 @@ level-close-requires t c κs = may-close (turn t (c .before .before .before .bef
 level-size-at-requires : (t : ℕ) → level-lts.Need-size-at-requires (level-claims t) (level-at t) level.Post level-Inv-loop level-μ-loop
 level-size-at-requires t c κs = tt
 
-level-add-at-3 : (t : ℕ) → level-lts.Need-add-at-3 (level-claims t) (level-at t) level.Post level-Inv-loop level-μ-loop
-level-add-at-3 t c = omega (arith, (c .size-at) .ensures, (c .before .before .before .before .before .before .before .before .before .before .before .before .before .before .before .before .before .before .before .before .before .before .before .before .before .before .before .before .before .before .before .before .before .before .before .before) .pre .1 .0 .fine .at ((c .before .before .before .before .before .before .before .before .before .before .before .before .before .before .before .before .before .before .before .before .before .before .before .before .before .before .before .before .before .before .loop) .at) ((c .before .before .before .before .before .before .before .before .before .before .before .before .before .before .before .before .before .before .before .before .before .before .before .before .before .before .before .before .before .loop-test) .taken) .fits, (c .before .before .before .before .before .before .before .before .before .before .before .before .before .before .before .before .before .before .before .before .before .before .before .before .before .before .before .before .before .before .before .before .before .before .before .before) .pre .1 .0 .fine .few)
+level-add-at-5 : (t : ℕ) → level-lts.Need-add-at-5 (level-claims t) (level-at t) level.Post level-Inv-loop level-μ-loop
+level-add-at-5 t c = omega (arith, (c .size-at) .ensures, (c .before .before .before .before .before .before .before .before .before .before .before .before .before .before .before .before .before .before .before .before .before .before .before .before .before .before .before .before .before .before .before .before .before .before .before .before) .pre .1 .0 .fine .at ((c .before .before .before .before .before .before .before .before .before .before .before .before .before .before .before .before .before .before .before .before .before .before .before .before .before .before .before .before .before .before .loop) .at) ((c .before .before .before .before .before .before .before .before .before .before .before .before .before .before .before .before .before .before .before .before .before .before .before .before .before .before .before .before .before .loop-test) .taken) .fits, (c .before .before .before .before .before .before .before .before .before .before .before .before .before .before .before .before .before .before .before .before .before .before .before .before .before .before .before .before .before .before .before .before .before .before .before .before) .pre .1 .0 .fine .few)
 
-level-loop-less-3 : (t : ℕ) → level-lts.Need-loop-less-3 (level-claims t) (level-at t) level.Post level-Inv-loop level-μ-loop
-level-loop-less-3 t c = omega (arith, (c .before .before .before .before .before .before .before .before .before .before .before .before .before .before .before .before .before .before .before .before .before .before .before .before .before .before .before .before .before .loop-test) .taken, (c .size-at) .ensures, (c .before .before .before .before .before .before .before .before .before .before .before .before .before .before .before .before .before .before .before .before .before .before .before .before .before .before .before .before .before .before .before .before .before .before .before .before) .pre .1 .0 .fine .at ((c .before .before .before .before .before .before .before .before .before .before .before .before .before .before .before .before .before .before .before .before .before .before .before .before .before .before .before .before .before .before .loop) .at) ((c .before .before .before .before .before .before .before .before .before .before .before .before .before .before .before .before .before .before .before .before .before .before .before .before .before .before .before .before .before .loop-test) .taken) .some)
+level-loop-less-5 : (t : ℕ) → level-lts.Need-loop-less-5 (level-claims t) (level-at t) level.Post level-Inv-loop level-μ-loop
+level-loop-less-5 t c = omega (arith, (c .before .before .before .before .before .before .before .before .before .before .before .before .before .before .before .before .before .before .before .before .before .before .before .before .before .before .before .before .before .loop-test) .taken, (c .size-at) .ensures, (c .before .before .before .before .before .before .before .before .before .before .before .before .before .before .before .before .before .before .before .before .before .before .before .before .before .before .before .before .before .before .before .before .before .before .before .before) .pre .1 .0 .fine .at ((c .before .before .before .before .before .before .before .before .before .before .before .before .before .before .before .before .before .before .before .before .before .before .before .before .before .before .before .before .before .before .loop) .at) ((c .before .before .before .before .before .before .before .before .before .before .before .before .before .before .before .before .before .before .before .before .before .before .before .before .before .before .before .before .before .loop-test) .taken) .some)
 
-level-loop-again-3 : (t : ℕ) → level-lts.Need-loop-again-3 (level-claims t) (level-at t) level.Post level-Inv-loop level-μ-loop
-level-loop-again-3 t c = ((c .before .before .syntax4) .given ∙ (c .before .before .before .before .before .before .before .before .before .before .before .before .syntax3) .given ∙ (c .before .before .before .before .before .before .before .before .before .before .before .before .before .before .before .before .before .before .before .before .before .before .before .syntax) .given ∙ (c .before .before .before .before .before .before .before .before .before .before .before .before .before .before .before .before .before .before .before .before .before .before .before .before .before .before .before .before .before .before .loop) .inv .0, (c .before .before .before .before .waiting4) .given ∙ (c .before .before .before .before .before .before .before .before .before .before .before .before .before .before .waiting3) .given ∙ (c .before .before .before .before .before .before .before .before .before .before .before .before .before .before .before .before .before .before .before .before .before .before .before .before .before .before .before .before .before .before .loop) .inv .1, rw ((c .size-at) .ensures) (closed (turn t (c .before .before .before .before .before .before .before .before .before .before .before .before .before .before .before .before .before .before .before .before .before)) ((c .before .before .before .before .before .before .before .before .before .before .before .before .before .before .before .before .before .before .before .step3) .given .1) ((c .before .before .before .before .before .before .before .before .before .before .before .before .before .before .before .group) .ensures) ((c .before .before .before .before .before .before .before .before .before .inner2) .given .1) ((c .before .before .before .before .before .close) .ensures) ((c .before .before .before .before .waiting4) .given)))
+level-loop-again-5 : (t : ℕ) → level-lts.Need-loop-again-5 (level-claims t) (level-at t) level.Post level-Inv-loop level-μ-loop
+level-loop-again-5 t c = ((c .before .before .syntax6) .given ∙ (c .before .before .before .before .before .before .before .before .before .before .before .before .syntax5) .given ∙ (c .before .before .before .before .before .before .before .before .before .before .before .before .before .before .before .before .before .before .before .before .before .before .before .syntax) .given ∙ (c .before .before .before .before .before .before .before .before .before .before .before .before .before .before .before .before .before .before .before .before .before .before .before .before .before .before .before .before .before .before .loop) .inv .0, (c .before .before .before .before .waiting6) .given ∙ (c .before .before .before .before .before .before .before .before .before .before .before .before .before .before .waiting5) .given ∙ (c .before .before .before .before .before .before .before .before .before .before .before .before .before .before .before .before .before .before .before .before .before .before .before .before .before .before .before .before .before .before .loop) .inv .1, rw ((c .size-at) .ensures) (closed (turn t (c .before .before .before .before .before .before .before .before .before .before .before .before .before .before .before .before .before .before .before .before .before)) ((c .before .before .before .before .before .before .before .before .before .before .before .before .before .before .before .before .before .before .before .step3) .given .1) ((c .before .before .before .before .before .before .before .before .before .before .before .before .before .before .before .group) .ensures) ((c .before .before .before .before .before .before .before .before .before .inner2) .given .1) ((c .before .before .before .before .before .close) .ensures) ((c .before .before .before .before .waiting6) .given)))
 
 level-at-closer-requires : (t : ℕ) → level-lts.Need-at-closer-requires (level-claims t) (level-at t) level.Post level-Inv-loop level-μ-loop
 level-at-closer-requires t c κs = (somewhere (c .before .before .before .loop .inv .2), c .before .before .before .before .before .before .before .before .before .pre .1 .0 .closes)
@@ -328,7 +363,7 @@ level-same-length-5 : (t : ℕ) → level-lts.Need-same-length-5 (level-claims t
 level-same-length-5 t c = c .before .before .before .before .before .before .loop .inv .1
 
 level-same-length-6 : (t : ℕ) → level-lts.Need-same-length-6 (level-claims t) (level-at t) level.Post level-Inv-loop level-μ-loop
-level-same-length-6 t c = c .before .syntax5 .given ∙ c .before .before .before .before .before .before .loop .inv .0
+level-same-length-6 t c = c .before .syntax7 .given ∙ c .before .before .before .before .before .before .loop .inv .0
 
 level-returns-3 : (t : ℕ) → level-lts.Need-returns-3 (level-claims t) (level-at t) level.Post level-Inv-loop level-μ-loop
 level-returns-3 t c = ran-to-closer (c .before .before .before .before .before .before .loop .control) (c .before .before .before .before .before .before .loop .inv .2) (c .before .before .before .before .before .loop-test .left) (c .before .before .before .before .before .before .before .before .before .before .before .before .args .closer) (c .before .before .at-closer .ensures)
@@ -418,6 +453,10 @@ pub +expression+function+group+level+statements-spec : {M : Type 1} → statemen
       affect-reads.Learnt,
       entered-reads.Asked,
       entered-reads.Learnt,
+      asked-reads.Asked,
+      asked-reads.Learnt,
+      turned-reads.Asked,
+      turned-reads.Learnt,
       group-below t,
       group.Post,
       close-reads.Asked,
@@ -454,6 +493,17 @@ pub +expression+function+group+level+statements-spec : {M : Type 1} → statemen
     (level-add-at-2 t)
     (level-loop-less-2 t)
     (level-loop-again-2 t)
+    (level-enum-told-2 t)
+    (level-add-asked t)
+    (level-asked-requires t)
+    (level-add-at-3 t)
+    (level-loop-less-3 t)
+    (level-loop-again-3 t)
+    (level-enum-told-3 t)
+    (level-turned-requires t)
+    (level-add-at-4 t)
+    (level-loop-less-4 t)
+    (level-loop-again-4 t)
     (level-enum-known-step-3 t)
     (level-add-group t)
     (level-group-requires t)
@@ -465,9 +515,9 @@ pub +expression+function+group+level+statements-spec : {M : Type 1} → statemen
     (level-add-close t)
     (level-close-requires t)
     (level-size-at-requires t)
-    (level-add-at-3 t)
-    (level-loop-less-3 t)
-    (level-loop-again-3 t)
+    (level-add-at-5 t)
+    (level-loop-less-5 t)
+    (level-loop-again-5 t)
     (level-at-closer-requires t)
     (level-same-length-5 t)
     (level-same-length-6 t)

@@ -5,12 +5,12 @@ use mathlib.Core.Bool.{true, false}
 use mathlib.Core.List.{List, _∷_, _++_}
 use lib.Dec.{T}
 use lib.ListN.{length}
-use Rattle.grammar.specs.Tokens.{Token}
-use Rattle.grammar.specs.Syntax.{Syntax, nil, size}
-use Rattle.grammar.specs.Grammar.{Items, Scope, body}
-use Rattle.grammar.specs.Machinery.Machine.{empty, among, byParen, byBracket, Control, statementDue, operandDue, itemDue, parameterDue, Open, dead, live, run}
+use Rattle.machine.specs.Tokens.{Token}
+use Rattle.machine.specs.Syntax.{Syntax, nil, size}
+use Rattle.machine.specs.Scopes.{Items, Scope, body}
+use Rattle.machine.specs.Machinery.Machine.{empty, among, byParen, byBracket, Control, statementDue, operandDue, itemDue, parameterDue, Open, dead, live, run}
 use Rattle.controls.specs.Machinery.Numbers.{settingBy, insideBy}
-use Rattle.grammar.specs.Machinery.Classes.{isEnd}
+use Rattle.machine.specs.Machinery.Classes.{isEnd}
 use Rattle.controls.specs.Machinery.Written.{putSyntax}
 use Rattle.waiting.specs.Machinery.Waiting.{width}
 use Rattle.frames.specs.Machinery.Stands.{Kept}

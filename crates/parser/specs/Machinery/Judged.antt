@@ -5,8 +5,8 @@ use mathlib.Core.List.{List, [], _∷_, _++_}
 use lib.ListN.{length}
 use Rattle.answers.specs.declared.Answer.{Answer}
 use Rattle.tables.specs.Records.{syntaxWidth}
-use Rattle.grammar.specs.Syntax.{Syntax, nil, size, programTree}
-use Rattle.grammar.specs.Machinery.Machine.{State, dead, live, finished, frame, run, start}
+use Rattle.machine.specs.Syntax.{Syntax, nil, size, programTree}
+use Rattle.machine.specs.Machinery.Machine.{State, dead, live, finished, frame, run, start}
 use Rattle.controls.specs.Machinery.Written.{putSyntax}
 use Rattle.segments.specs.Machinery.Segments.{Segment, countOf, tokensAt}
 use Rattle.parsing.specs.Parse.{noProgram, syntaxFull, endToken}

@@ -3,7 +3,6 @@ use borrow.Author.Needs.{needs}
 use mathlib.Core.Path.{sym, _∙_}
 use borrow.Author.Tests.{not-true, not-false}
 use Rattle.prefix.proofs.StateLaws.{close-none, close-other, close-done, not-deeper}
-use borrow.Author.Needs.{needs}
 use Rattle.prefix.proofs.close_group.Statement.{statement}
 use Rattle.prefix.proofs.close_group.Tie as tie
 
@@ -13,11 +12,14 @@ returns c = λ room tags levels h. close-none tags _ _ levels h room _ (c .if1 .
 returns-2 : tie.Need-returns-2
 returns-2 c = λ room tags levels h. absurd (not-deeper tags _ _ levels h (c .if2 .taken))
 
+kind-in-requires : tie.Need-kind-in-requires
+kind-in-requires c κs = search needs
+
 is-closed-by-requires : tie.Need-is-closed-by-requires
 is-closed-by-requires c κs = search needs
 
 returns-3 : tie.Need-returns-3
-returns-3 c = λ room tags levels h. close-other tags _ _ levels h room _ (c .before .before .before .before .if1 .left) (sym (c .before .is-closed-by .ensures) ∙ not-true _ (c .if3 .taken))
+returns-3 c = λ room tags levels h. close-other tags _ _ levels h room _ (c .before .before .before .before .if1 .left) _ (c .before .before .kind-in .ensures) (sym (c .before .is-closed-by .ensures) ∙ not-true _ (c .if3 .taken))
 
 sub-around : tie.Need-sub-around
 sub-around c = search needs
@@ -55,7 +57,7 @@ sub-t9 c = search needs
 returns-4 : tie.Need-returns-4
 returns-4 c =
     let t = c .before .before .before in
-    λ room tags levels h. close-done tags _ (c .before .before .before .before .before .before .before .before .before .args .state) levels h room _ (t .before .before .before .before .if1 .left) (sym (t .before .is-closed-by .ensures) ∙ not-false _ (t .if3 .left)) _ (c .after-group .ensures)
+    λ room tags levels h. close-done tags _ (t .before .before .before .before .before .before .args .state) levels h room _ (t .before .before .before .before .if1 .left) _ (t .before .before .kind-in .ensures) (sym (t .before .is-closed-by .ensures) ∙ not-false _ (t .if3 .left)) _ (c .after-group .ensures)
 
 pub close-group-spec : {M : Type 1} → statement M
 close-group-spec =
@@ -63,6 +65,7 @@ close-group-spec =
     (tie.spec
     returns
     returns-2
+    kind-in-requires
     is-closed-by-requires
     returns-3
     sub-around

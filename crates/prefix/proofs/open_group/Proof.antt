@@ -48,7 +48,7 @@ same-length : tie.Need-same-length
 same-length c = search needs
 
 returns-3 : tie.Need-returns-3
-returns-3 c = λ tags levels h m. open-done tags _ (c .before .before .before .before .args .state) levels h _ _ _ _ _ m (c .level-in .ensures) (c .before .before .if1 .left) (c .before .if2 .left) refl
+returns-3 c = λ tags levels h m. open-done tags _ (c .before .before .before .before .args .state) levels h _ _ _ _ _ (c .before .before .before .before .pre) m (c .level-in .ensures) (c .before .before .if1 .left) (c .before .if2 .left) refl
 
 pub open-group-spec : {M : Type 1} → statement M
 open-group-spec =

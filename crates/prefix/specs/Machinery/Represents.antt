@@ -6,19 +6,19 @@ use lib.ListN.{length, getD}
 use Rattle.elements.specs.declared.Element.{Element}
 use Rattle.elements.specs.declared.Stated.{Stated}
 use Rattle.rule.specs.Trees.{Trees, none, leaf, group}
-use Rattle.rule.specs.Levels.{Levels, wholeText, inside, depth, countSoFar, onTop, statedBy}
+use Rattle.rule.specs.Levels.{Levels, wholeText, inside, depth, countSoFar, onTop, statedBy, settledIn}
 use Rattle.prefix.specs.Reading.{Step, stop, more, delimit}
-use Rattle.rule.specs.Machinery.Summary.{levelCode}
+use Rattle.rule.specs.Machinery.Summary.{kinds, levelCode}
 use Rattle.rule.specs.Machinery.LevelCodes.{statedByLevel}
 use Rattle.prefix.specs.declared.State.{State}
 use Rattle.prefix.specs.declared.Advanced.{Advanced}
 
--- the stack has, for each open group, the code of the level around it, and the caller's tag for the group: a number that
--- depends on the levels around it and its first byte
+-- the stack has, for each open group, whose kind fits the code of a level, the code of the level around it, and the caller's tag for the group: a
+-- number that depends on the levels around it and its first byte
 abbrev pub Stack : (Levels → ℕ → ℕ) → List ℕ → Levels → Type 0
 Stack tag stack (wholeText trees) = Unit {0}
 Stack tag stack (inside around kind first newline trees) =
-    (getD stack (2 * depth around) 0 ≡ levelCode around) × (getD stack (2 * depth around + 1) 0 ≡ tag around first) × Stack tag stack around
+    (kind < kinds) × (getD stack (2 * depth around) 0 ≡ levelCode around) × (getD stack (2 * depth around + 1) 0 ≡ tag around first) × Stack tag stack around
 
 pub record Represents (tag : Levels → ℕ → ℕ) (stack : List ℕ) (state : State) (levels : Levels) : Type 0 where
   pub level-is : state .level ≡ levelCode levels
@@ -46,6 +46,11 @@ abbrev pub States : State → Stated → Type 0
 States state stated =
     (stated ≡ statedByLevel (state .level))
     × ((tag : Levels → ℕ → ℕ) (stack : List ℕ) (levels : Levels) → Represents tag stack state levels → stated ≡ statedBy levels)
+
+-- What `settled` promises of a state that holds levels: the element with the kind that the prefix rule settles there.
+abbrev pub Settles : State → Element → Element → Type 0
+Settles state e r =
+    (tag : Levels → ℕ → ℕ) (stack : List ℕ) (levels : Levels) → Represents tag stack state levels → r ≡ settledIn levels e
 
 -- What `delimit` promises of a state that holds levels: the definition's step is taken from them, with as many groups as the stack has room
 -- for. It is left free what becomes of a state that holds none, of the stack's cells above the open groups, and of the stack where it stops.

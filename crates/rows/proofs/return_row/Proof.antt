@@ -1,8 +1,8 @@
 -- `return_row` is the machine's row behind `return`, entry by entry.
 use borrow.Author.Needs.{needs}
 use borrow.Author.Tests.{ne-eqb}
-use Rattle.grammar.specs.Tokens.{semicolon}
-use Rattle.grammar.specs.Machinery.Machine.{returnFirst}
+use Rattle.machine.specs.Tokens.{semicolon}
+use Rattle.machine.specs.Machinery.Machine.{returnFirst}
 use Rattle.controls.specs.Machinery.Numbers.{settingBy, endingBy, effectBy}
 use Rattle.controls.specs.Machinery.Steps.{due-value, to-bare-end, means-fail}
 use Rattle.rows.proofs.return_row.Statement.{statement}
@@ -26,7 +26,7 @@ unfolding endingBy
 returns-3 c =
     let a = c .before .before .before .args in
     rw (c .before .if2 .left, ne-eqb (a .class) semicolon (c .before .before .if1 .left))
-    (c .operand-row .ensures (returnFirst (settingBy (a .setting))) due-value)
+    (c .operand-row .ensures (returnFirst (settingBy (a .setting))) due-value tt)
 
 pub return-row-spec : {M : Type 1} → statement M
 return-row-spec =

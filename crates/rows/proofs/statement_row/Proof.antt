@@ -1,7 +1,7 @@
 -- `statement_row` is the machine's row where a statement is due, entry by entry.
 use borrow.Author.Needs.{needs}
 use mathlib.Core.Path.{refl}
-use Rattle.grammar.specs.Machinery.Machine.{statementDue}
+use Rattle.machine.specs.Machinery.Machine.{statementDue}
 use Rattle.controls.specs.Machinery.Numbers.{settingBy, endingBy, controlBy, effectBy, closingBy, insideBy}
 use Rattle.controls.specs.Machinery.Steps.{due-statement, to-name, to-return, past-block, means-enter}
 use Rattle.controls.proofs.StepLaws.{opens-group}
@@ -54,7 +54,7 @@ unfolding endingBy
 returns-6 c = λ newline.
     let a = c .before .before .before .before .before .before .args in
     statement-operand (c .before .before .before .before .before .if1 .left) (c .before .before .before .before .if2 .left) (c .before .before .before .if3 .left) (c .before .before .if4 .left) (c .before .if5 .left) (a .must) (settingBy (a .setting)) newline
-    (c .operand-row .ensures (statementDue (a .must) (settingBy (a .setting))) due-statement)
+    (c .operand-row .ensures (statementDue (a .must) (settingBy (a .setting))) due-statement tt)
 
 pub statement-row-spec : {M : Type 1} → statement M
 statement-row-spec =

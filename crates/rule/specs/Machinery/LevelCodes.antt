@@ -1,13 +1,20 @@
 -- The numbers that the code computes with the code of a level, one definition for each of its functions. Machinery.
-use Prim.Native.Nat.{ℕ, _+_, _*_, _/_, _%_}
+use Prim.Native.Nat.{ℕ, _+_, _-_, _*_, _/_, _%_}
 use mathlib.Core.Bool.{Bool, true, false, not, cond, _||_}
 use lib.Dec.{eqb, ltb, leb}
 use Rattle.elements.specs.Elements.{stating}
 use Rattle.elements.specs.declared.Stated.{Stated}
-use Rattle.rule.specs.Rule.{Class, name, literal, operator, colon, dot, comma, other, returnWord, functionWord, ifWord, parens, brackets, object, block}
+use Rattle.rule.specs.Rule.{Class, name, literal, operator, question, answer, colon, dot, comma, semicolon, other, returnWord, functionWord, ifWord, parens, brackets, object, block, settledSign}
 use Rattle.rule.specs.Trees.{objectKind}
 use Rattle.rule.specs.Levels.{isExpression}
-use Rattle.rule.specs.Machinery.Summary.{nothing, operand, afterOperator, afterColon, afterDot, afterComma, afterOther, afterReturn, afterIf, afterIfParens, afterBlock, afterFunction, afterFunctionName, afterFunctionParens, code, summaries}
+use Rattle.rule.specs.Machinery.Summary.{nothing, operand, afterOperator, afterColon, afterDot, afterComma, afterOther, afterReturn, afterIf, afterIfParens, afterBlock, afterFunction, afterFunctionName, afterFunctionParens, code, summaries, kinds, oneQuestion}
+
+-- the kind of the level's group, and the count of its unanswered `?`s
+abbrev pub kindIn : ℕ → ℕ
+kindIn level = level / summaries % kinds
+
+abbrev pub questionsIn : ℕ → ℕ
+questionsIn level = level / oneQuestion
 
 -- the level with another summary
 abbrev pub with : ℕ → ℕ → ℕ
@@ -35,7 +42,11 @@ braceByCode expression n newline =
     false))
 
 unfoldable pub braceByLevel : ℕ → Bool → Bool
-braceByLevel level newline = braceByCode (isExpression (level / summaries)) (level % summaries) newline
+braceByLevel level newline = braceByCode (isExpression (kindIn level)) (level % summaries) newline
+
+-- the kind of the sign of a number
+unfoldable pub settledByLevel : ℕ → Bool → ℕ → ℕ
+settledByLevel level newline which = settledSign (slashByLevel level) (questionsIn level) newline which
 
 -- after a name, after `( )` and after a block
 abbrev pub nameCode : ℕ → ℕ
@@ -68,9 +79,12 @@ unfoldable pub levelAfter : ℕ → Class → Bool → ℕ
 levelAfter level name newline = levelAfterName level
 levelAfter level literal newline = with level (code false operand)
 levelAfter level operator newline = with level (code false afterOperator)
+levelAfter level question newline = with level (code false afterOperator) + oneQuestion
+levelAfter level answer newline = with (cond (ltb level oneQuestion) level (level - oneQuestion)) (code false afterOperator)
 levelAfter level colon newline = with level (code false afterColon)
 levelAfter level dot newline = with level (code false afterDot)
-levelAfter level comma newline = with level (cond (eqb (level / summaries) objectKind) (code true afterComma) (code false afterComma))
+levelAfter level comma newline = with level (cond (eqb (kindIn level) objectKind) (code true afterComma) (code false afterComma))
+levelAfter level semicolon newline = with (level % oneQuestion) (code false afterOther)
 levelAfter level other newline = with level (code false afterOther)
 levelAfter level returnWord newline = with level (code false afterReturn)
 levelAfter level functionWord newline = with level (code false (afterFunction (braceByLevel level newline)))

@@ -3,7 +3,7 @@ use Prim.Native.Nat.{ℕ, _+_, _*_}
 use mathlib.Core.Bool.{Bool, true, false, not, cond}
 use mathlib.Core.List.{List, [], _∷_}
 use lib.Dec.{eqb}
-use Rattle.rule.specs.Rule.{Class, name, literal, operator, colon, dot, comma, other, returnWord, functionWord, ifWord, parens, brackets, object, block, Before, tree, backwards}
+use Rattle.rule.specs.Rule.{Class, name, literal, operator, question, answer, colon, dot, comma, semicolon, other, returnWord, functionWord, ifWord, parens, brackets, object, block, Before, tree, backwards, unanswered}
 use Rattle.rule.specs.Trees.{objectKind}
 use Rattle.rule.specs.Levels.{Levels, isExpression, kindOf, treesOf}
 
@@ -105,9 +105,12 @@ abbrev pub add : Bool → Summary → Class → Bool → Summary
 add expression s name newline = addName s
 add expression s literal newline = operand
 add expression s operator newline = afterOperator
+add expression s question newline = afterOperator
+add expression s answer newline = afterOperator
 add expression s colon newline = afterColon
 add expression s dot newline = afterDot
 add expression s comma newline = afterComma
+add expression s semicolon newline = afterOther
 add expression s other newline = afterOther
 add expression s returnWord newline = afterReturn
 add expression s functionWord newline = afterFunction (braceBy expression s newline)
@@ -160,11 +163,19 @@ code inBrace afterDot = 15
 abbrev pub summaries : ℕ
 summaries = 64
 
--- The code that is kept for a level: its summary below 64; the kind of its group, below 32, times 64; and from 2,048 up
--- room for a count, which is 0 so far.
-abbrev pub levelFor : ℕ → Summary → ℕ
-levelFor kind s = summaries * kind + code (eqb kind objectKind) s
+-- room for kinds of groups above it; from there up the unanswered `?`s are counted
+abbrev pub kinds : ℕ
+kinds = 32
+
+abbrev pub oneQuestion : ℕ
+oneQuestion = summaries * kinds
+
+-- The code that is kept for a level: its summary below 64; the kind of its group, below 32, times 64; and 2,048 times the count of its
+-- unanswered `?`s.
+abbrev pub levelFor : ℕ → Summary → ℕ → ℕ
+levelFor kind s questions = oneQuestion * questions + summaries * kind + code (eqb kind objectKind) s
 
 -- the code of the innermost level
 unfoldable pub levelCode : Levels → ℕ
-levelCode levels = levelFor (kindOf levels) (summary (isExpression (kindOf levels)) (backwards (treesOf levels)))
+levelCode levels =
+    levelFor (kindOf levels) (summary (isExpression (kindOf levels)) (backwards (treesOf levels))) (unanswered (backwards (treesOf levels)))

@@ -1,5 +1,8 @@
 -- The records behind a group's own, as far as its size says.
 use borrow.Author.Needs.{needs}
+use Prim.Native.Nat.{_+_, _-_, _*_}
+use mathlib.Core.Path.{_≡_}
+use native.Mathlib.Omega.{arith}
 use Rattle.segments.specs.Machinery.Segments.{contentOf}
 use Rattle.segments.proofs.inside.Statement.{statement}
 use Rattle.segments.proofs.inside.Tie as tie
@@ -13,11 +16,14 @@ add-first c = search needs
 mul-first : tie.Need-mul-first
 mul-first c = search needs
 
-add-end : tie.Need-add-end
-add-end c = search needs
+sub-end : tie.Need-sub-end
+sub-end c = search needs
 
 mul-end : tie.Need-mul-end
 mul-end c = search needs
+
+add-end : tie.Need-add-end
+add-end c = search needs
 
 mul-result : tie.Need-mul-result
 mul-result c = search needs
@@ -33,7 +39,11 @@ part-result-end c = search needs
 
 returns : tie.Need-returns
 unfolding contentOf
-returns c = rw (c .before .size-at .ensures)
+returns c =
+    let given = c .before .before .before .args in
+    let size = c .before .size-at .result in
+    let long : (given .at + 1) * 5 + (size - 1) * 5 - (given .at + 1) * 5 ≡ (given .at + size) * 5 - (given .at + 1) * 5 = omega arith in
+    rw (long, c .before .size-at .ensures)
 
 pub inside-spec : {M : Type 1} → statement M
 inside-spec =
@@ -42,8 +52,9 @@ inside-spec =
     size-at-requires
     add-first
     mul-first
-    add-end
+    sub-end
     mul-end
+    add-end
     mul-result
     sub-result
     part-result-start

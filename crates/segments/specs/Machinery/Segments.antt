@@ -1,17 +1,16 @@
 -- A part of the tree table: whole tree records, as they stand in the text or inside a group, and their tokens. Machinery: the
 -- tokens of a reading's records are those of its elements, as records show them.
 use Prim.Native.Nat.{ℕ, zero, suc, _+_, _-_, _*_, _/_, _≤_, _<_}
-use Prim.Native.String.{String}
-use mathlib.Core.Bool.{Bool, false, cond, _&&_, _||_}
+use mathlib.Core.Bool.{Bool, false, cond, _||_}
 use mathlib.Core.List.{List, [], _∷_, _++_}
 use lib.Dec.{eqb, ltb}
 use lib.ListN.{length, getD, take, drop}
-use Rattle.text.specs.Quoted.{bytes}
+use Rattle.text.specs.Quoted.{byte}
 use Rattle.elements.specs.Elements.{nameKind, wordKind, numberKind, stringKind, patternKind, signKind}
-use Rattle.rule.specs.Trees.{parenKind, objectKind, blockKind, bracketKind}
+use Rattle.rule.specs.Trees.{parenKind, objectKind, blockKind, bracketKind, beforeKind, afterKind, answerKind}
 use Rattle.tables.specs.Records.{treeWidth, mostTrees}
-use Rattle.grammar.specs.Tokens.{Token, token, Spot, name, number, string, pattern, divide, plus, assign, colon, semicolon, comma, dot, openParen, openBrace, openBracket, returnWord, functionWord, ifWord}
-use Rattle.grammar.specs.Machinery.Classes.{isOpener}
+use Rattle.machine.specs.Tokens.{Token, token, Spot, name, number, string, pattern, openParen, openBrace, openBracket, andAssign, assign, atLeast, atMost, bitAnd, bitOr, bitXor, colon, comma, complement, decrement, deleteWord, divide, divideAssign, dot, equal, falseWord, functionWord, greater, identical, ifWord, inWord, increment, instanceofWord, leftShift, leftShiftAssign, less, logicalAnd, logicalOr, minus, minusAssign, multiply, multiplyAssign, negation, newWord, nullWord, orAssign, plus, plusAssign, question, remainder, remainderAssign, returnWord, rightShift, rightShiftAssign, semicolon, thisWord, trueWord, typeofWord, unequal, unidentical, unsignedShift, unsignedShiftAssign, voidWord, xorAssign}
+use Rattle.machine.specs.Machinery.Classes.{isOpener}
 
 -- the number of records among cells
 abbrev pub countOf : List ℕ → ℕ
@@ -42,33 +41,124 @@ lineAt cells i = eqb (cellOr 0 cells i 4) 1
 unfoldable pub closerAt : List ℕ → ℕ → ℕ
 closerAt cells i = endAt cells i - 1
 
--- Whether a length and a first byte are those of a word or sign. The reserved words that are taken, and the signs that are legal,
--- differ in them.
-abbrev pub looks : String → ℕ → ℕ → Bool
-looks t len b = eqb len (length (bytes t)) && eqb b (getD (bytes t) 0 0)
+-- Words that are taken, and signs, differ in their lengths and their first and last bytes: the classes of a length by a byte
+pub data Entry : Type 0 where
+  entry : ℕ → ℕ → Entry
 
--- the class of a word, and of a sign, by its length and first byte; 0 for any other
+abbrev pub lookUp : List Entry → ℕ → ℕ
+lookUp [] b = 0
+lookUp (entry x class ∷ rest) b = cond (eqb b x) class (lookUp rest b)
+
+-- signs of one byte, up to `?` and above it; of two that end with `=`, and of two bytes that are the same; of three that end with `=`
+abbrev pub lowSingles : List Entry
+lowSingles =
+    entry (byte "!") negation
+    ∷ entry (byte "%") remainder
+    ∷ entry (byte "&") bitAnd
+    ∷ entry (byte "*") multiply
+    ∷ entry (byte "+") plus
+    ∷ entry (byte ",") comma
+    ∷ entry (byte "-") minus
+    ∷ entry (byte ".") dot
+    ∷ entry (byte "/") divide
+    ∷ entry (byte ":") colon
+    ∷ entry (byte ";") semicolon
+    ∷ entry (byte "<") less
+    ∷ entry (byte "=") assign
+    ∷ entry (byte ">") greater
+    ∷ entry (byte "?") question
+    ∷ []
+
+abbrev pub highSingles : List Entry
+highSingles =
+    entry (byte "^") bitXor
+    ∷ entry (byte "|") bitOr
+    ∷ entry (byte "~") complement
+    ∷ []
+
+abbrev pub assigned : List Entry
+assigned =
+    entry (byte "=") equal
+    ∷ entry (byte "!") unequal
+    ∷ entry (byte "<") atMost
+    ∷ entry (byte ">") atLeast
+    ∷ entry (byte "+") plusAssign
+    ∷ entry (byte "-") minusAssign
+    ∷ entry (byte "*") multiplyAssign
+    ∷ entry (byte "/") divideAssign
+    ∷ entry (byte "%") remainderAssign
+    ∷ entry (byte "&") andAssign
+    ∷ entry (byte "|") orAssign
+    ∷ entry (byte "^") xorAssign
+    ∷ []
+
+abbrev pub doubled : List Entry
+doubled =
+    entry (byte "&") logicalAnd
+    ∷ entry (byte "|") logicalOr
+    ∷ entry (byte "+") increment
+    ∷ entry (byte "-") decrement
+    ∷ entry (byte "<") leftShift
+    ∷ entry (byte ">") rightShift
+    ∷ []
+
+abbrev pub compared : List Entry
+compared =
+    entry (byte "=") identical
+    ∷ entry (byte "!") unidentical
+    ∷ entry (byte "<") leftShiftAssign
+    ∷ entry (byte ">") rightShiftAssign
+    ∷ []
+
+-- words of two, four and six letters, by the last
+abbrev pub shortWords : List Entry
+shortWords =
+    entry (byte "f") ifWord
+    ∷ entry (byte "n") inWord
+    ∷ []
+
+abbrev pub middleWords : List Entry
+middleWords =
+    entry (byte "s") thisWord
+    ∷ entry (byte "l") nullWord
+    ∷ entry (byte "e") trueWord
+    ∷ entry (byte "d") voidWord
+    ∷ []
+
+abbrev pub longWords : List Entry
+longWords =
+    entry (byte "n") returnWord
+    ∷ entry (byte "f") typeofWord
+    ∷ entry (byte "e") deleteWord
+    ∷ []
+
+abbrev pub singleBy : ℕ → ℕ
+singleBy b = cond (ltb (byte "?") b) (lookUp highSingles b) (lookUp lowSingles b)
+
+abbrev pub pairBy : ℕ → ℕ → ℕ
+pairBy b last = cond (eqb last (byte "=")) (lookUp assigned b) (lookUp doubled b)
+
+abbrev pub tripleBy : ℕ → ℕ → ℕ
+tripleBy b last = cond (eqb last (byte "=")) (lookUp compared b) unsignedShift
+
+-- the class of a sign by its length and its first and last bytes, and of a word by its length and its last byte
+unfoldable pub signBy : ℕ → ℕ → ℕ → ℕ
+signBy len b last =
+    cond (eqb len 1) (singleBy b)
+    (cond (eqb len 2) (pairBy b last)
+    (cond (eqb len 3) (tripleBy b last)
+    unsignedShiftAssign))
+
 unfoldable pub wordBy : ℕ → ℕ → ℕ
-wordBy len b =
-    cond (looks "return" len b) returnWord
-    (cond (looks "function" len b) functionWord
-    (cond (looks "if" len b) ifWord
-    0))
-
-unfoldable pub signBy : ℕ → ℕ → ℕ
-signBy len b =
-    cond (looks "/" len b) divide
-    (cond (looks "+" len b) plus
-    (cond (looks "=" len b) assign
-    (cond (looks ":" len b) colon
-    (cond (looks ";" len b) semicolon
-    (cond (looks "." len b) dot
-    (cond (looks "," len b) comma
+wordBy len last =
+    cond (eqb len 8) functionWord
+    (cond (eqb len 6) (lookUp longWords last)
+    (cond (eqb len 4) (lookUp middleWords last)
+    (cond (eqb len 2) (lookUp shortWords last)
+    (cond (eqb len 3) newWord
+    (cond (eqb len 5) falseWord
+    (cond (eqb len 10) instanceofWord
     0))))))
-
--- of a word or sign, by its kind
-unfoldable pub spelledBy : ℕ → ℕ → ℕ → ℕ
-spelledBy kind len b = cond (eqb kind signKind) (signBy len b) (wordBy len b)
 
 -- by the kind alone; 0 for that of words and of signs
 unfoldable pub kindBy : ℕ → ℕ
@@ -81,15 +171,21 @@ kindBy kind =
     (cond (eqb kind objectKind) openBrace
     (cond (eqb kind blockKind) openBrace
     (cond (eqb kind bracketKind) openBracket
-    0)))))))
+    (cond (eqb kind answerKind) colon
+    0))))))))
 
--- the class of a record's token, by its kind, its length and its first byte
-unfoldable pub classBy : ℕ → ℕ → ℕ → ℕ
-classBy kind len b = cond (eqb kind signKind || eqb kind wordKind) (spelledBy kind len b) (kindBy kind)
+-- whether a record of a kind is a sign that its bytes tell
+abbrev pub isSpelled : ℕ → Bool
+isSpelled kind = eqb kind signKind || (eqb kind beforeKind || eqb kind afterKind)
+
+-- the class of a record's token, by its kind, its length and its first and last bytes
+unfoldable pub classBy : ℕ → ℕ → ℕ → ℕ → ℕ
+classBy kind len b last = cond (isSpelled kind) (signBy len b last) (cond (eqb kind wordKind) (wordBy len last) (kindBy kind))
 
 -- of a text and cells; 0 past the last record
 unfoldable pub classAt : List ℕ → List ℕ → ℕ → ℕ
-classAt text cells i = classBy (kindAt cells i) (endAt cells i - placeAt cells 0 i) (getD text (placeAt cells 0 i) 0)
+classAt text cells i =
+    classBy (kindAt cells i) (endAt cells i - placeAt cells 0 i) (getD text (placeAt cells 0 i) 0) (getD text (endAt cells i - 1) 0)
 
 -- the cells of a group's content: those of the records behind its own, as far as its size says
 unfoldable pub contentOf : List ℕ → ℕ → List ℕ

@@ -1,5 +1,4 @@
--- `sign_at` is `longestSign`: past the end there is no sign; the byte at the place and the one after it settle it alone, or
--- the table does.
+-- `sign_at` is `longestSign`: past the end there is no sign; the byte at the place settles it, or that and the one behind it, or the table.
 use borrow.Author.Needs.{needs}
 use native.Mathlib.Omega.{arith}
 use mathlib.Core.Path.{_≡_, sym, _∙_}
@@ -21,8 +20,16 @@ returns c = rw (drop-of-length-le _ (c .if1 .taken))
 shared-slice-read-b : tie.Need-shared-slice-read-b
 shared-slice-read-b c = search needs
 
-add-if2 : tie.Need-add-if2
-add-if2 c = search needs
+lone-requires : tie.Need-lone-requires
+lone-requires c κs = search needs
+
+returns-2 : tie.Need-returns-2
+returns-2 c =
+    let a = c .before .before .before .before .before .args in
+    sym (rw (drop-at (a .text .now) (a .at) (omega arith)) (c .before .lone .ensures (c .if2 .taken) (drop (a .at + 1) (a .text .now))))
+
+add-if3 : tie.Need-add-if3
+add-if3 c = search needs
 
 add-next : tie.Need-add-next
 add-next c = search needs
@@ -30,28 +37,28 @@ add-next c = search needs
 shared-slice-read-next : tie.Need-shared-slice-read-next
 shared-slice-read-next c = search needs
 
-alone-requires : tie.Need-alone-requires
-alone-requires c κs = search needs
+single-requires : tie.Need-single-requires
+single-requires c κs = search needs
+
+returns-3 : tie.Need-returns-3
+returns-3 c =
+    let s = c .before .before .before .before .before .before .before .before .args .text .now in
+    let at = c .before .before .before .before .before .before .before .before .args .at in
+    let next =
+    ⊎-elim {C = getD s (at + 1) 0 ≡ c .before .before .if3 .next}
+    (λ w. sym (w .2))
+    (λ w. List·getD-eq-default s 0 (w .0 .left) ∙ sym (w .1))
+    (c .before .before .if3 .came)
+    in
+    sym
+    (rw (drop-at s at (omega arith))
+    (c .before .single .ensures (c .if4 .taken) (drop (at + 1) s) (rw (getD-drop (at + 1) s 0 0, add-zero) next)))
 
 by-table-requires : tie.Need-by-table-requires
 by-table-requires c κs = search needs
 
-returns-2 : tie.Need-returns-2
-returns-2 c = search needs
-
-returns-3 : tie.Need-returns-3
-returns-3 c =
-    let s = c .before .before .before .before .before .before .args .text .now in
-    let at = c .before .before .before .before .before .before .args .at in
-    let next =
-    ⊎-elim {C = getD s (at + 1) 0 ≡ c .before .before .if2 .next}
-    (λ w. sym (w .2))
-    (λ w. List·getD-eq-default s 0 (w .0 .left) ∙ sym (w .1))
-    (c .before .before .if2 .came)
-    in
-    sym
-    (rw (drop-at s at (omega arith))
-    (c .before .alone .ensures (c .if3 .left) (drop (at + 1) s) (rw (getD-drop (at + 1) s 0 0, add-zero) next)))
+returns-4 : tie.Need-returns-4
+returns-4 c = search needs
 
 pub sign-at-spec : {M : Type 1} → statement M
 sign-at-spec =
@@ -59,10 +66,12 @@ sign-at-spec =
     (tie.spec
     returns
     shared-slice-read-b
-    add-if2
+    lone-requires
+    returns-2
+    add-if3
     add-next
     shared-slice-read-next
-    alone-requires
+    single-requires
+    returns-3
     by-table-requires
-    returns-2
-    returns-3)
+    returns-4)

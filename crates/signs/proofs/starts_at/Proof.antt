@@ -2,11 +2,10 @@
 -- as the sign has.
 use borrow.Author.Needs.{needs}
 use native.Mathlib.Omega.{arith}
-use mathlib.Core.Path.{_≡_, sym, _∙_}
+use mathlib.Core.Path.{_≡_, sym}
 use Prim.Native.Nat.{_+_, _-_}
-use lib.ListN.{length-drop}
-use lib.Seq.{length-take-le}
-use Rattle.signs.proofs.Laws.{starts-first, starts-short}
+use lib.ListN.{length, length-drop}
+use Rattle.signs.proofs.Laws.{starts-short}
 use Rattle.signs.proofs.starts_at.Statement.{statement}
 use Rattle.signs.proofs.starts_at.Tie as tie
 
@@ -14,13 +13,7 @@ sub-if1 : tie.Need-sub-if1
 sub-if1 c = search needs
 
 returns : tie.Need-returns
-returns c = sym (starts-short _ _ _ (c .before .before .pre .0) (rw length-drop (c .if1 .taken)))
-
-array-share-prefix-bytes : tie.Need-array-share-prefix-bytes
-array-share-prefix-bytes c = search needs
-
-slice-aggregate-equal : tie.Need-slice-aggregate-equal
-slice-aggregate-equal c = sym (length-take-le _ _ (c .before .before .before .pre .0))
+returns c = sym (starts-short _ _ (rw length-drop (c .if1 .taken)))
 
 add-equal : tie.Need-add-equal
 add-equal c = search needs
@@ -39,10 +32,9 @@ equal-requires c κs = search needs
 
 returns-2 : tie.Need-returns-2
 returns-2 c =
-    let n = c .before .before .before .before .before .args .row .len in
-    let at = c .before .before .before .before .before .args .at in
-    let e : at + n - at ≡ n = omega arith in
-    rw e at (c .equal .ensures) ∙ sym (starts-first _ _ n (c .before .before .before .before .before .pre .0))
+    let a = c .before .before .before .before .before .args in
+    let e : a .at + length (a .sign .now) - a .at ≡ length (a .sign .now) = omega arith in
+    rw e at (c .equal .ensures)
 
 pub starts-at-spec : {M : Type 1} → statement M
 starts-at-spec =
@@ -50,8 +42,6 @@ starts-at-spec =
     (tie.spec
     sub-if1
     returns
-    array-share-prefix-bytes
-    slice-aggregate-equal
     add-equal
     sub-equal
     part-equal-start

@@ -5,8 +5,8 @@ use mathlib.Core.Path.{_≡_, refl, _∙_}
 use mathlib.Core.List.{List}
 use Prim.Native.Nat.{ℕ, _+_, _-_, _*_}
 use lib.ListN.{length}
-use Rattle.grammar.specs.Syntax.{Syntax}
-use Rattle.grammar.specs.Machinery.Machine.{Pending}
+use Rattle.machine.specs.Syntax.{Syntax}
+use Rattle.machine.specs.Machinery.Machine.{Pending}
 use Rattle.waiting.specs.Machinery.Waiting.{Holds, Backed}
 use Rattle.waiting.specs.declared.Level.{Level}
 use Rattle.waiting.proofs.CloseLaws.{Closing, usable, held-one, closing-none, closing-on, closing-stops, closing-ends}

@@ -1,15 +1,13 @@
 -- What waits on a level, as it stands on the lent stack, and the records so far. Machinery.
-use Prim.Native.Nat.{ℕ, _+_, _*_, _≤_}
+use Prim.Native.Nat.{ℕ, _+_, _-_, _*_, _≤_}
 use mathlib.Core.Path.{_≡_}
 use mathlib.Core.Bool.{cond}
 use mathlib.Core.List.{List, [], _∷_}
 use lib.Dec.{eqb, leb}
 use lib.ListN.{length, getD, set}
 use Rattle.tables.specs.Records.{mostTrees}
-use Rattle.grammar.specs.Tokens.{assign}
-use Rattle.grammar.specs.Syntax.{Syntax, snoc, node, size}
-use Rattle.grammar.specs.Grammar.{precedence}
-use Rattle.grammar.specs.Machinery.Machine.{Pending, pending}
+use Rattle.machine.specs.Syntax.{Syntax, snoc, node, size}
+use Rattle.machine.specs.Machinery.Machine.{Pending, pending, tightness}
 use Rattle.controls.specs.Machinery.Written.{putSyntax}
 use Rattle.waiting.specs.declared.Level.{Level}
 
@@ -17,17 +15,19 @@ use Rattle.waiting.specs.declared.Level.{Level}
 abbrev pub width : ℕ
 width = 3
 
--- in place of a kind, what stands for a nest
+-- in place of a kind, what stands for a nest, and the least number that stands for a `?` that is not answered
 abbrev pub nestKind : ℕ
 nestKind = 0
 
--- how tight what waits binds: an operator by its precedence, `=` less than any, the beginning of a statement 1, a nest 0
+abbrev pub askKind : ℕ
+askKind = 256
+
+-- how tight what waits binds: an operator more than 1, the beginning of a statement 1, a nest 0 and an open `?` 0
 unfoldable pub binding : ℕ → ℕ
 binding kind =
-    cond (eqb kind assign) 2
-    (cond (leb 1 (precedence kind)) (precedence kind + 2)
-    (cond (eqb kind nestKind) 0
-    1))
+    cond (eqb kind nestKind) 0
+    (cond (leb askKind kind) 0
+    (tightness kind + 1))
 
 -- what waits, innermost first, and the operand, once those are closed that bind at least so tight
 pub data Shut : Type 0 where
@@ -83,6 +83,10 @@ Closes least l stack cells r after = (table : List ℕ) (first : ℕ) (done : Sy
 -- the stack with one part more, and the level then
 abbrev pub stackWith : List ℕ → ℕ → ℕ → ℕ → ℕ → List ℕ
 stackWith stack top kind mark start = set (set (set stack (top * width) kind) (top * width + 1) mark) (top * width + 2) start
+
+-- the stack where what waits uppermost has another kind
+abbrev pub stackAs : List ℕ → ℕ → ℕ → List ℕ
+stackAs stack top kind = set stack ((top - 1) * width) kind
 
 abbrev pub waitingOne : Level → Level
 waitingOne l = record { count = l .count; top = l .top + 1; floor = l .floor; start = l .count; held = l .held }

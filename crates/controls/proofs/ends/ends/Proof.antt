@@ -1,12 +1,12 @@
 -- `ends` is what the machine's table has at a closer, place by place.
 use borrow.Author.Needs.{needs}
-use mathlib.Core.Path.{_≡_}
-use Rattle.grammar.specs.Tokens.{closeParen}
-use Rattle.grammar.specs.Machinery.Machine.{parameterNamed}
+use native.Mathlib.Omega.{arith}
+use Rattle.machine.specs.Tokens.{closeParen}
+use Rattle.machine.specs.Machinery.Machine.{parameterNamed}
 use Rattle.controls.specs.Machinery.Numbers.{itemsBy, controlBy, controlOf}
 use Rattle.controls.specs.Machinery.Steps.{ends-parameter, goes-on}
 use Rattle.controls.proofs.EndLaws.{at-closers}
-use Rattle.controls.proofs.StepLaws.{at-place}
+use Rattle.controls.proofs.StepLaws.{at-place, after-unary}
 use Rattle.controls.proofs.LevelEnds.{EndsAt, items-end, elsewhere}
 use Rattle.controls.proofs.ends.ends.Statement.{statement}
 use Rattle.controls.proofs.ends.ends.Tie as tie
@@ -14,14 +14,14 @@ use Rattle.controls.proofs.ends.ends.Tie as tie
 statements-end-requires : tie.Need-statements-end-requires
 statements-end-requires c κs = search needs
 
-expression-ends-requires : tie.Need-expression-ends-requires
-expression-ends-requires c κs = search needs
-
 list-closer-requires : tie.Need-list-closer-requires
 list-closer-requires c κs = search needs
 
 parameters-end-requires : tie.Need-parameters-end-requires
 parameters-end-requires c κs = search needs
+
+expression-ends-requires : tie.Need-expression-ends-requires
+expression-ends-requires c κs = search needs
 
 returns : tie.Need-returns
 unfolding controlBy
@@ -30,44 +30,49 @@ returns c = λ settled end. rw (at-place (c .before .before .args .at) 0 (c .bef
 returns-2 : tie.Need-returns-2
 unfolding controlBy
 returns-2 c = λ settled end.
-    let at = c .before .before .args .at in
-    rw (at-place at 3 (c .before .match .keys2)) (c .expression-ends .ensures (at .flag) end)
+    let a = c .before .before .args in
+    rw (at-place (a .at) 8 (c .before .match .keys2), c .list-closer .ensures) (items-end (a .closer) end (itemsBy (a .at .ending)))
 
 returns-3 : tie.Need-returns-3
 unfolding controlBy
-returns-3 c = λ settled end.
-    let a = c .before .before .args in
-    rw (at-place (a .at) 8 (c .before .match .keys3), c .list-closer .ensures) (items-end (a .closer) end (itemsBy (a .at .ending)))
+returns-3 c = λ settled end. rw (at-place (c .before .before .args .at) 10 (c .before .match .keys3)) (c .parameters-end .ensures end)
 
 returns-4 : tie.Need-returns-4
 unfolding controlBy
-returns-4 c = λ settled end. rw (at-place (c .before .before .args .at) 10 (c .before .match .keys4)) (c .parameters-end .ensures end)
+returns-4 c = λ settled end.
+    rw (at-place (c .before .args .at) 11 (c .match .keys4))
+    (at-closers (EndsAt parameterNamed closeParen) ends-parameter goes-on goes-on goes-on (c .before .args .closer) end)
 
 returns-5 : tie.Need-returns-5
-unfolding controlBy
 returns-5 c = λ settled end.
-    rw (at-place (c .before .args .at) 11 (c .match .keys5))
-    (at-closers (EndsAt parameterNamed closeParen) ends-parameter goes-on goes-on goes-on (c .before .args .closer) end)
+    after-unary (c .before .before .before .before .args .at) (c .before .before .if1 .left) (c .before .if2 .taken) (λ from ended. c .expression-ends .ensures from ended end)
 
 returns-6 : tie.Need-returns-6
 unfolding controlOf
 returns-6 c = λ settled end.
-    let a = c .before .args in
-    let rest = c .match .rest in
-    let no-name : a .at .place ≡ 5 → ⊥ = λ e. rw (settled .no-name e) at end in
-    elsewhere (a .closer) end (a .at .place) (a .at .ending) (a .at .setting) (a .at .flag) (rest .0 .0 .0 .0 .1) (rest .0 .0 .0 .1) (settled .no-nest) no-name (rest .0 .0 .1) (rest .0 .1) (rest .1)
+    let a = c .before .before .args in
+    let rest = c .before .match .rest in
+    elsewhere (a .closer) end (a .at .place) (a .at .ending) (a .at .setting) (a .at .flag) settled (rest .0 .0 .0 .1) (λ low high. omega (arith, low, c .if1 .taken)) (rest .0 .0 .1) (rest .0 .1) (rest .1)
+
+returns-7 : tie.Need-returns-7
+unfolding controlOf
+returns-7 c = λ settled end.
+    let a = c .before .before .before .args in
+    let rest = c .before .before .match .rest in
+    elsewhere (a .closer) end (a .at .place) (a .at .ending) (a .at .setting) (a .at .flag) settled (rest .0 .0 .0 .1) (λ low high. omega (arith, high, c .if2 .left)) (rest .0 .0 .1) (rest .0 .1) (rest .1)
 
 pub ends-spec : {M : Type 1} → statement M
 ends-spec =
     tie.close
     (tie.spec
     statements-end-requires
-    expression-ends-requires
     list-closer-requires
     parameters-end-requires
+    expression-ends-requires
     returns
     returns-2
     returns-3
     returns-4
     returns-5
-    returns-6)
+    returns-6
+    returns-7)

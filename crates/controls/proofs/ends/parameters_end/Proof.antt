@@ -1,8 +1,8 @@
 -- `parameters_end` is what the row where a parameter is due has at a closer.
 use mathlib.Core.Path.{refl}
 use mathlib.Core.Bool.{true, false}
-use Rattle.grammar.specs.Tokens.{closeParen}
-use Rattle.grammar.specs.Machinery.Machine.{parameterDue}
+use Rattle.machine.specs.Tokens.{closeParen}
+use Rattle.machine.specs.Machinery.Machine.{parameterDue}
 use Rattle.controls.specs.Machinery.Steps.{ends-no-parameter, goes-on}
 use Rattle.controls.proofs.EndLaws.{at-closers}
 use Rattle.controls.proofs.LevelEnds.{EndsAt, no-closer-at}

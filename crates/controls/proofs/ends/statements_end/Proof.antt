@@ -4,9 +4,9 @@ use native.Mathlib.Omega.{arith}
 use mathlib.Core.Path.{_≡_, refl}
 use mathlib.Core.Bool.{true, false}
 use lib.Dec.{eqb}
-use Rattle.grammar.specs.Grammar.{body, block}
-use Rattle.grammar.specs.Tokens.{closeBrace}
-use Rattle.grammar.specs.Machinery.Machine.{endOfText, ifNest, among, inNest, statementDue, look, row}
+use Rattle.machine.specs.Scopes.{body, block}
+use Rattle.machine.specs.Tokens.{closeBrace}
+use Rattle.machine.specs.Machinery.Machine.{endOfText, ifNest, among, inNest, statementDue, look, row}
 use Rattle.controls.specs.Machinery.Numbers.{settingBy}
 use Rattle.controls.specs.Machinery.Steps.{Ends, ends-statements, ends-text, goes-on}
 use Rattle.controls.proofs.EndLaws.{at-closers}

@@ -3,7 +3,7 @@ use borrow.Author.Needs.{needs}
 use native.Mathlib.Omega.{arith}
 use mathlib.Core.Path.{sym}
 use Rattle.text.proofs.CodeLaws.{code-name, code-no-name}
-use Rattle.literals.proofs.NumberLaws.{number-past, number-last, number-ends, number-named, number-dotted}
+use Rattle.literals.proofs.NumberPlaces.{number-past, number-last, number-ends, number-named}
 use Rattle.literals.proofs.numbers.number_at.Statement.{statement}
 use Rattle.literals.proofs.numbers.number_at.Tie as tie
 
@@ -13,29 +13,20 @@ returns c = sym (number-past _ _ (c .if1 .taken))
 number-end-requires : tie.Need-number-end-requires
 number-end-requires c κs = (c .before .before .before .pre, omega arith)
 
-shared-slice-read-b : tie.Need-shared-slice-read-b
-shared-slice-read-b c = search needs
+shared-slice-read-code : tie.Need-shared-slice-read-code
+shared-slice-read-code c = search needs
 
 code-requires : tie.Need-code-requires
 code-requires c κs = c .before .before .before .before .before .before .pre
 
 returns-2 : tie.Need-returns-2
-returns-2 c =
-    let f = c .before .before .before .before in
-    sym (number-named _ _ _ (f .number-end .ensures) (code-name _ (omega arith)))
+returns-2 c = sym (number-named _ _ _ (c .before .before .before .before .number-end .ensures) (code-name _ (omega arith)))
 
 returns-3 : tie.Need-returns-3
-returns-3 c =
-    let f = c .before .before .before .before .before in
-    sym (number-dotted _ _ _ (f .number-end .ensures) (c .if4 .taken))
+returns-3 c = sym (number-ends _ _ _ (c .before .before .before .before .number-end .ensures) (code-no-name _ (omega arith)))
 
 returns-4 : tie.Need-returns-4
-returns-4 c =
-    let f = c .before .before .before .before .before in
-    sym (number-ends _ _ _ (f .number-end .ensures) (code-no-name _ (omega arith)) (c .if4 .left))
-
-returns-5 : tie.Need-returns-5
-returns-5 c = sym (number-last _ _ _ (c .before .number-end .ensures) (c .if2 .left))
+returns-4 c = sym (number-last _ _ _ (c .before .number-end .ensures) (c .if2 .left))
 
 pub number-at-spec : {M : Type 1} → statement M
 number-at-spec =
@@ -43,9 +34,8 @@ number-at-spec =
     (tie.spec
     returns
     number-end-requires
-    shared-slice-read-b
+    shared-slice-read-code
     code-requires
     returns-2
     returns-3
-    returns-4
-    returns-5)
+    returns-4)

@@ -1,29 +1,20 @@
 -- `number_end` is the end of the number by `numberLength`.
-use borrow.Author.Needs.{needs}
-use native.Mathlib.Omega.{arith}
-use Rattle.literals.proofs.NumberLaws.{length-zero, length-digits}
+use mathlib.Core.Path.{sym, _∙_}
+use Rattle.literals.proofs.NumberPlaces.{number-hex, number-decimal}
 use Rattle.literals.proofs.numbers.number_end.Statement.{statement}
 use Rattle.literals.proofs.numbers.number_end.Tie as tie
 
-shared-slice-read-if1 : tie.Need-shared-slice-read-if1
-shared-slice-read-if1 c = search needs
-
-add-result : tie.Need-add-result
-add-result c = search needs
+hex-end-requires : tie.Need-hex-end-requires
+hex-end-requires c κs = c .before .before .pre .1
 
 returns : tie.Need-returns
-returns c =
-    let a = c .before .before .before .before .args in
-    rw (length-zero (a .text .now) (a .first) (omega arith) (omega arith))
+returns c = number-hex _ _ _ (c .before .hex-end .ensures) (c .if1 .taken)
 
-digits-end-requires : tie.Need-digits-end-requires
-digits-end-requires c κs = c .before .before .before .before .pre .0
+decimal-end-requires : tie.Need-decimal-end-requires
+decimal-end-requires c κs = c .before .before .before .before .pre
 
 returns-2 : tie.Need-returns-2
-returns-2 c =
-    let a = c .before .before .before .before .before .args in
-    rw (length-digits (a .text .now) (a .first) (omega arith) (omega arith)) (c .digits-end .ensures)
+returns-2 c = c .decimal-end .ensures ∙ sym (number-decimal _ _ _ (c .before .before .hex-end .ensures) (c .before .if1 .left))
 
 pub number-end-spec : {M : Type 1} → statement M
-number-end-spec =
-    tie.close (tie.spec shared-slice-read-if1 add-result returns digits-end-requires returns-2)
+number-end-spec = tie.close (tie.spec hex-end-requires returns decimal-end-requires returns-2)

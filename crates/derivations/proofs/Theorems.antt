@@ -1,0 +1,158 @@
+-- The theorems of derivations.
+use mathlib.Core.Path.{_≡_, sym, ap, subst, _∙_}
+use mathlib.Core.Bool.{_||_}
+use mathlib.Core.List.{List, [], _∷_, _++_, map, append-assoc, List·Memᴰ}
+use Prim.Native.Nat.{ℕ, _*_}
+use native.Mathlib.Nat.{zero-add}
+use native.Mathlib.Omega.{arith}
+use lib.Dec.{T}
+use lib.ListN.{length, take, drop}
+use lib.Seq.{take-at}
+use Rattle.vocabulary.specs.Vocabulary.{words, signs, tokenClass}
+use Rattle.elements.specs.declared.Element.{Element}
+use Rattle.rule.specs.Trees.{Trees, none, count}
+use Rattle.rule.specs.Levels.{wholeText}
+use Rattle.prefix.specs.Reading.{Limits, Reading, accepted, reading}
+use Rattle.prefix.proofs.LimitLaws.{accepted-unlimited}
+use Rattle.tables.specs.Records.{treeWidth}
+use Rattle.storing.specs.Records.{records}
+use Rattle.reading.specs.Read.{readLimits, readingFor, tableAfter}
+use Rattle.reading.proofs.Formed.{Formed, reading-formed}
+use Rattle.reading.proofs.LengthFirst.{first-accepted}
+use Rattle.reading.proofs.Theorems.{count-of-records}
+use Rattle.derivations.specs.Cuts.{CutsInto}
+use Rattle.derivations.specs.Tokens.{Token, comma, colon, semicolon, dot, openParen, closeParen, openBrace, closeBrace, openBracket, closeBracket, returnWord, functionWord, ifWord, classOf, tokenOf, tokens}
+use Rattle.machine.specs.Syntax.{marksOf}
+use Rattle.grammar.specs.Grammar.{Program, isAmong}
+use Rattle.grammar.specs.Recorded.{isRecorded}
+use Rattle.derivations.specs.Derivations.{Derivation, countTrees, BeginsProgram}
+use Rattle.derivations.specs.TreeElements.{elementsOf}
+use Rattle.machine.specs.Machinery.Machine.{frame, start}
+use Rattle.machine.proofs.Ran.{anywhere}
+use Rattle.grammar.proofs.Complete.{complete, one-tree}
+use Rattle.derivations.proofs.Programs.{program-read, program-takes}
+use Rattle.derivations.proofs.ReadCuts.{reading-cuts}
+use Rattle.derivations.proofs.SameChoice.{same-choice}
+use Rattle.grammar.proofs.Counts.{few-parts}
+use Rattle.grammar.proofs.TableLaws.{eachClass}
+use Rattle.grammar.proofs.Recorded.{token-recorded}
+use Rattle.derivations.specs.Demand3.{answersOf, ReadAs, OneDerivation, FewParts, RuleTakes}
+use Rattle.derivations.proofs.TokenLaws.{element-marks}
+use Rattle.derivations.proofs.CountTrees.{count-tokens, program-distinct}
+use Rattle.derivations.proofs.Answers.{choice-answers, among, cut-patterns, cut-words}
+use Rattle.derivations.specs.Shown.{Shown, Indexed, patternOf, wordOf, sensesOf, placesOf, sensedIn}
+use Rattle.derivations.proofs.TakenSenses.{senses-taken}
+use Rattle.derivations.proofs.ReadSenses.{treeSenses}
+use Rattle.derivations.proofs.AllSenses.{places-from}
+use Rattle.derivations.proofs.ShownRecords.{records-senses, records-patterns, records-words}
+use Rattle.derivations.proofs.IndexedRecords.{records-indexed, token-at}
+use Rattle.derivations.proofs.Begins.{same-split}
+
+-- Demand 3: "the prefix rule takes each slash of a program as its derivation does". The reading of a program without limits is
+-- accepted, and the elements of its trees, closers included, are the derivation's: a regular expression stands among them at
+-- exactly the slashes that the derivation takes as one, and of the reserved words among them exactly those are names that it takes as names.
+pub no-program-differs : (text : List ℕ) (d : Derivation text) → ReadAs text (d .elements)
+no-program-differs text d =
+    let r = program-read text (d .cut) (frame (d .parts) [] [] _, complete anywhere (d .steps)) in
+    record { trees = r .0; reads = r .1; same = r .2 }
+
+-- Of each slash, and of each reserved word: where the derivation meets it, the prefix rule over the trees before answers as the derivation's
+-- choice does.
+pub rule-takes-each : (text : List ℕ) (d : Derivation text) → RuleTakes text (wholeText none) 0 (d .choice) (d .elements)
+rule-takes-each text d = program-takes text (d .cut) (frame (d .parts) [] [] _, complete anywhere (d .steps))
+
+-- Demand 3: "any two grammar derivations take every slash alike and have one syntax tree"; every reserved word too.
+pub any-two-derivations : (text : List ℕ) (d f : Derivation text) → OneDerivation d f
+any-two-derivations text d f =
+    let r = no-program-differs text d in
+    let s = no-program-differs text f in
+    let trees : r .trees ≡ s .trees = cc in
+    let elements : d .elements ≡ f .elements = sym (r .same) ∙ ap elementsOf trees ∙ s .same in
+    let parts : d .parts ≡ f .parts = one-tree (subst (λ (es : List Element). Program (tokens es) (d .parts)) elements (d .steps)) (f .steps) in
+    record { same-elements = elements; same-answers = same-choice text (d .cut) (f .cut) elements; same-syntax = cc }
+
+-- The slashes that a derivation takes as regular expressions are those whose elements have kind 5, and the reserved words that it takes
+-- as names are those whose elements have kind 1.
+pub answers-by-kind : (text : List ℕ) (d : Derivation text) → d .choice ≡ answersOf text (d .elements)
+answers-by-kind text d = choice-answers text (d .cut)
+
+-- Demand 3, of tree records: those of every accepted reading of a text with a derivation, whatever the limits, show its regular expressions,
+-- its words, its objects and, at all its other braces, blocks, which `++` and `--` stand before and after their operands, and which `:` are its
+-- conditionals'; and each element but a closer has its record at its index.
+pub records-shown : (text : List ℕ) (limits : Limits) (trees : Trees) → reading text limits ≡ accepted trees → (d : Derivation text) → Shown d (records trees)
+records-shown text limits trees a d =
+    let r = program-read text (d .cut) (frame (d .parts) [] [] _, complete anywhere (d .steps)) in
+    let same : trees ≡ r .0 = cc (accepted-unlimited text limits trees a) in
+    let formed : Formed trees = rw a at (reading-formed text limits) in
+    record {
+      patterns = records-patterns trees formed ∙ ap (among patternOf) (ap elementsOf same ∙ r .2) ∙ cut-patterns (d .cut);
+      words = records-words trees formed ∙ ap (among wordOf) (ap elementsOf same ∙ r .2) ∙ cut-words (d .cut);
+      senses = records-senses trees formed ∙ ap treeSenses same ∙ r .3 ∙ senses-taken (d .steps);
+      indices = subst (λ (es : List Element). Indexed es (records trees)) (ap elementsOf same ∙ r .2) (records-indexed trees formed);
+    }
+
+-- Of any accepted reading: each element but a closer has its record at its index, of its own kind unless it opens a group or the rule settles a sign's.
+pub reading-indexed : (text : List ℕ) (limits : Limits) (trees : Trees) → reading text limits ≡ accepted trees → Indexed (elementsOf trees) (records trees)
+reading-indexed text limits trees a = records-indexed trees (rw a at (reading-formed text limits))
+
+-- Demand 3 of the cells that `read` leaves in its table, as many as the records that it counts have.
+pub read-shown : (text table : List ℕ) (trees : Trees) → readingFor text (length table) ≡ accepted trees → (d : Derivation text)
+    → Shown d (take (treeWidth * count trees) (tableAfter (readingFor text (length table)) table))
+unfolding readingFor
+read-shown text table trees a d =
+    subst (Shown d)
+    (sym (ap (λ (r : Reading). take (treeWidth * count trees) (tableAfter r table)) a
+    ∙ take-at (records trees) (drop (treeWidth * count trees) table) (treeWidth * count trees) (count-of-records trees)))
+    (records-shown text (readLimits (length table)) trees (first-accepted text (readLimits (length table)) trees a) d)
+
+-- A token is marked by the number of tree records before it, which is the index of its own if it has one.
+pub token-marked : (before : List Element) (e : Element) (after : List Element)
+    → (rest : List Token) × (tokens (before ++ (e ∷ after)) ≡ tokens before ++ (tokenOf (countTrees before) e ∷ rest))
+token-marked before e after = rw (zero-add (countTrees before)) at (token-at 0 before e after)
+
+-- A derivation says of every `{`, `++` and `--` among its elements, in their order, whether it is an object or a block, before or after its operand.
+pub every-sense : (text : List ℕ) (d : Derivation text) → placesOf (sensesOf (d .steps)) ≡ sensedIn (d .elements)
+every-sense text d = ap placesOf (sym (senses-taken (d .steps))) ∙ places-from start 0 (d .elements)
+
+-- What is read is the whole text: the elements of an accepted reading's trees are cut from the text's start to its end, by some choice.
+pub reading-covers : (text : List ℕ) (limits : Limits) (trees : Trees) → reading text limits ≡ accepted trees → CutsInto text 0 (elementsOf trees)
+reading-covers = reading-cuts
+
+-- Elements that begin a program with others behind them begin one: what begins none stays so.
+pub begins-shorter : (text : List ℕ) (es fs : List Element) → BeginsProgram text (es ++ fs) → BeginsProgram text es
+begins-shorter text es fs b =
+    let s = same-split es fs (b .same) in
+    record {
+      other = b .other;
+      derivation = b .derivation;
+      firsts = s .front;
+      more = s .back ++ b .more;
+      starts = b .starts ∙ ap (λ (xs : List Element). xs ++ b .more) (s .all) ∙ append-assoc (s .front) (s .back) (b .more);
+      same = s .same;
+    }
+
+-- A syntax tree has few records, each with a mark of its own.
+pub few-parts-each-marked : (text : List ℕ) (d : Derivation text) → FewParts d
+few-parts-each-marked text d =
+    let trees = count-tokens 0 (d .elements) in
+    let marks = element-marks (d .elements) (d .steps) in
+    record {
+      few = omega (arith, few-parts (d .steps));
+      own = rw (sym trees) (program-distinct marks);
+      marked-by = λ m member. omega (arith, marks .within-all m member);
+    }
+
+-- Document 02, U4: "each added operator and value word makes one syntax record". Each has a record that it marks, and no two records share a mark.
+pub operators-recorded : (text : List ℕ) (d : Derivation text) (before : List Element) (e : Element) (after : List Element)
+    → d .elements ≡ before ++ (e ∷ after) → T (isRecorded (classOf e)) → List·Memᴰ (countTrees before) (marksOf (d .parts))
+operators-recorded text d before e after split h =
+    let t = token-marked before e after in
+    token-recorded (d .steps) (tokens before) (classOf e) (record { newline = e .newline; mark = countTrees before; first = e .first }) (t .0) (ap tokens split ∙ t .1) h
+
+-- Of the words and signs these are all but those that no program takes, those of statements and functions, delimiters, `;`, `.`, `:` and `,`.
+abbrev otherClasses : List ℕ
+otherClasses =
+    0 ∷ returnWord ∷ functionWord ∷ ifWord ∷ openParen ∷ closeParen ∷ openBracket ∷ closeBracket ∷ openBrace ∷ closeBrace ∷ semicolon ∷ dot ∷ colon ∷ comma ∷ []
+
+pub all-others-recorded : T (eachClass (λ class. isRecorded class || isAmong otherClasses class) (map tokenClass (words ++ signs)))
+all-others-recorded = tt

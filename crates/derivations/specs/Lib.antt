@@ -1,0 +1,7 @@
+pub mod Cuts
+pub mod Tokens
+pub mod Derivations
+pub mod TreeElements
+pub mod Demand3
+pub mod Senses
+pub mod Shown
