@@ -1,7 +1,7 @@
 -- The theorems of derivations.
 use mathlib.Core.Path.{_≡_, sym, ap, subst, _∙_}
 use mathlib.Core.Bool.{_||_}
-use mathlib.Core.List.{List, [], _∷_, _++_, map, append-assoc, List·Memᴰ}
+use mathlib.Core.List.{List, [], _∷_, _++_, map, append-assoc}
 use Prim.Native.Nat.{ℕ, _*_}
 use native.Mathlib.Nat.{zero-add}
 use native.Mathlib.Omega.{arith}
@@ -22,9 +22,8 @@ use Rattle.reading.proofs.LengthFirst.{first-accepted}
 use Rattle.reading.proofs.Theorems.{count-of-records}
 use Rattle.derivations.specs.Cuts.{CutsInto}
 use Rattle.derivations.specs.Tokens.{Token, comma, colon, semicolon, dot, openParen, closeParen, openBrace, closeBrace, openBracket, closeBracket, returnWord, functionWord, ifWord, classOf, tokenOf, tokens}
-use Rattle.machine.specs.Syntax.{marksOf}
 use Rattle.grammar.specs.Grammar.{Program, isAmong}
-use Rattle.grammar.specs.Recorded.{isRecorded}
+use Rattle.grammar.specs.Recorded.{isRecorded, partsOf, Makes}
 use Rattle.derivations.specs.Derivations.{Derivation, countTrees, BeginsProgram}
 use Rattle.derivations.specs.TreeElements.{elementsOf}
 use Rattle.machine.specs.Machinery.Machine.{frame, start}
@@ -37,7 +36,7 @@ use Rattle.grammar.proofs.Counts.{few-parts}
 use Rattle.grammar.proofs.TableLaws.{eachClass}
 use Rattle.grammar.proofs.Recorded.{token-recorded}
 use Rattle.derivations.specs.Demand3.{answersOf, ReadAs, OneDerivation, FewParts, RuleTakes}
-use Rattle.derivations.proofs.TokenLaws.{element-marks}
+use Rattle.derivations.proofs.TokenLaws.{elements-counting, element-marks}
 use Rattle.derivations.proofs.CountTrees.{count-tokens, program-distinct}
 use Rattle.derivations.proofs.Answers.{choice-answers, among, cut-patterns, cut-words}
 use Rattle.derivations.specs.Shown.{Shown, Indexed, patternOf, wordOf, sensesOf, placesOf, sensedIn}
@@ -142,12 +141,14 @@ few-parts-each-marked text d =
       marked-by = λ m member. omega (arith, marks .within-all m member);
     }
 
--- Document 02, U4: "each added operator and value word makes one syntax record". Each has a record that it marks, and no two records share a mark.
+-- Document 02, U4: "each added operator and value word makes one syntax record". Each has a record that it marks, whose kind its class and its
+-- place in the part tell, and no two records share a mark.
 pub operators-recorded : (text : List ℕ) (d : Derivation text) (before : List Element) (e : Element) (after : List Element)
-    → d .elements ≡ before ++ (e ∷ after) → T (isRecorded (classOf e)) → List·Memᴰ (countTrees before) (marksOf (d .parts))
+    → d .elements ≡ before ++ (e ∷ after) → T (isRecorded (classOf e)) → Makes (classOf e) (countTrees before) (partsOf (d .parts))
 operators-recorded text d before e after split h =
     let t = token-marked before e after in
-    token-recorded (d .steps) (tokens before) (classOf e) (record { newline = e .newline; mark = countTrees before; first = e .first }) (t .0) (ap tokens split ∙ t .1) h
+    token-recorded (elements-counting (d .elements)) (d .steps) (tokens before) (classOf e)
+    (record { newline = e .newline; mark = countTrees before; first = e .first }) (t .0) (ap tokens split ∙ t .1) h
 
 -- Of the words and signs these are all but those that no program takes, those of statements and functions, delimiters, `;`, `.`, `:` and `,`.
 abbrev otherClasses : List ℕ

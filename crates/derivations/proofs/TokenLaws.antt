@@ -122,7 +122,7 @@ counted-token true total class spot rest is counting = counting-closer (subst (�
 counted-token false total class spot rest is counting = counting-mark (subst (λ (b : Bool). T (not b)) (sym is) tt) refl counting
 
 -- "Its tree records, for the marks, are its elements other than closers": tokens count them
-pub tokens-counting : (total before : ℕ) (es : List Element) → before + countTreeTokens (tokensFrom before es) ≡ total
+tokens-counting : (total before : ℕ) (es : List Element) → before + countTreeTokens (tokensFrom before es) ≡ total
     → Counting total before (tokensFrom before es)
 unfolding tokensFrom
 tokens-counting total before [] e = let end : before ≡ total = omega arith in rw end counting-none
@@ -133,10 +133,13 @@ tokens-counting total before (x ∷ es) e =
     (passed (isCloser x) before (countTreeTokens (tokensFrom (cond (isCloser x) before (before + 1)) es)) total
     (rw (closing-class x) at e)))
 
+pub elements-counting : (es : List Element) → Counting (countTreeTokens (tokens es)) 0 (tokens es)
+elements-counting es = tokens-counting (countTreeTokens (tokens es)) 0 es (omega arith)
+
 -- so each part of a program of elements has a mark of its own
 pub element-marks : (es : List Element) {parts : Syntax} → Program (tokens es) parts
     → OwnMarks (countTreeTokens (tokens es)) 0 (tokens es) parts
-element-marks es program = own-marks (tokens-counting (countTreeTokens (tokens es)) 0 es (omega arith)) program
+element-marks es program = own-marks (elements-counting es) program
 
 -- no element has the class of the end of the text
 no-end-class : (e : Element) → eqb (classOf e) endOfText ≡ false

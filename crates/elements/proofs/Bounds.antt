@@ -15,6 +15,7 @@ use Rattle.words.specs.Words.{wordNumber, taken}
 use Rattle.signs.specs.Signs.{longestSign}
 use Rattle.signs.specs.declared.Longest.{Longest}
 use Rattle.signs.proofs.Laws.{longest-fits}
+use Rattle.answers.specs.Faults.{openString, openPattern, badNumber, barredWord}
 use Rattle.gaps.specs.Gaps.{gap}
 use Rattle.literals.specs.Numbers.{startsNumber, numberFrom}
 use Rattle.literals.specs.Strings.{quote, stringRest}
@@ -56,12 +57,12 @@ pub record Cut (newline : Bool) (first hi : ℕ) (e : Element) : Type 0 where
 abbrev pub NextIn : Bool → ℕ → ℕ → Next → Type 0
 NextIn newline first hi Next.End = Unit
 NextIn newline first hi (Next.Found e) = Cut newline first hi e
-NextIn newline first hi (Next.Fault number at) = Faulted first hi number at
+NextIn newline first hi (Next.Fault number at) = Faulted barredWord first hi number at
 
 module _ (newline : Bool) (first hi b : ℕ) (s : List ℕ) (fits : first + 1 + length s ≡ hi) where
-  literal-in : (kind low : ℕ) → first ≤ low → (l : Literal) → LiteralIn first low hi l → NextIn newline first hi (literalElement kind newline first l)
-  literal-in kind low h (Literal.Ends end) p = record { start = refl; flag = refl; some = omega arith; within = p .1 }
-  literal-in kind low h (Literal.Fault number at) p = p
+  literal-in : (kind last low : ℕ) → last ≤ barredWord → first ≤ low → (l : Literal) → LiteralIn last first low hi l → NextIn newline first hi (literalElement kind newline first l)
+  literal-in kind last low m h (Literal.Ends end) p = record { start = refl; flag = refl; some = omega arith; within = p .1 }
+  literal-in kind last low m h (Literal.Fault number at) p = omega arith
 
   cut : (n : ℕ) → 1 ≤ n → n ≤ 1 + length s → (kind which : ℕ)
       → Cut newline first hi (record { kind = kind; which = which; first = first; end = first + n; newline = newline })
@@ -92,11 +93,11 @@ module _ (newline : Bool) (first hi b : ℕ) (s : List ℕ) (fits : first + 1 + 
       let h : first < low = omega arith in
       cond-known P (letter b) (named-in (stated .name)) (λ x.
       cond-known P (startsNumber (b ∷ s))
-      (λ d. literal-in numberKind first (omega arith) (numberFrom first (b ∷ s)) (number-in b s (starts-some (digit b) (eqb b (byte ".")) (digit (getD s 0 0)) d) first hi fits)) (λ x.
+      (λ d. literal-in numberKind badNumber first (omega arith) (omega arith) (numberFrom first (b ∷ s)) (number-in b s (starts-some (digit b) (eqb b (byte ".")) (digit (getD s 0 0)) d) first hi fits)) (λ x.
       cond-both P (quote b)
-      (literal-in stringKind low (omega arith) (stringRest b first false low s) (string-in first low hi h s b low false (omega arith) fits))
+      (literal-in stringKind openString low (omega arith) (omega arith) (stringRest b first false low s) (string-in first low hi h s b low false (omega arith) fits))
       (cond-both P (stated .pattern && eqb b (byte "/"))
-      (literal-in patternKind low (omega arith) (patternRest first false false low s) (pattern-in first low hi h s low false false (omega arith) fits))
+      (literal-in patternKind openPattern low (omega arith) (omega arith) (patternRest first false false low s) (pattern-in first low hi h s low false false (omega arith) fits))
       (sign-in (longestSign (b ∷ s)) refl))))
 
 pub from-in : (stated : Stated) (newline : Bool) (first hi : ℕ) (s : List ℕ) → first + length s ≡ hi → NextIn newline first hi (elementFrom stated newline first s)
@@ -113,7 +114,7 @@ pub record Placed (s : List ℕ) (place : ℕ) (e : Element) : Type 0 where
 abbrev NextPlaced : List ℕ → ℕ → Next → Type 0
 NextPlaced s place Next.End = Unit
 NextPlaced s place (Next.Found e) = Placed s place e
-NextPlaced s place (Next.Fault number at) = Faulted place (length s) number at
+NextPlaced s place (Next.Fault number at) = Faulted barredWord place (length s) number at
 
 module _ (s : List ℕ) (place : ℕ) (stated : Stated) where
   later : (newline : Bool) (first : ℕ) → place ≤ first → (n : Next) → NextIn newline first (length s) n → NextPlaced s place n
@@ -125,7 +126,7 @@ module _ (s : List ℕ) (place : ℕ) (stated : Stated) where
   after-in (Gap.Ends first newline) p =
       later newline first (p .0) (elementFrom stated newline first (drop first s))
       (from-in stated newline first (length s) (drop first s) (omega (arith, length-drop first s)))
-  after-in (Gap.Fault number at) p = p
+  after-in (Gap.Fault number at) p = omega arith
 
   at-in : place ≤ length s → NextPlaced s place (elementAt s place stated)
   unfolding elementAt
@@ -149,7 +150,7 @@ module _ (s : List ℕ) (place : ℕ) (stated : Stated) where
 
   module _ (number at : ℕ) (f : elementAt s place stated ≡ Next.Fault number at) where
     pub fault-placed : (place ≤ at) × (at < length s)
-    fault-placed = let p : Faulted place (length s) number at = rw f at placed in (p .from, p .within)
+    fault-placed = let p : Faulted barredWord place (length s) number at = rw f at placed in (p .from, p .within)
 
     pub fault-number : (2 ≤ number) × (number ≤ 7)
-    fault-number = let p : Faulted place (length s) number at = rw f at placed in (p .least, p .most)
+    fault-number = let p : Faulted barredWord place (length s) number at = rw f at placed in (p .least, p .most)

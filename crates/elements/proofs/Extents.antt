@@ -9,6 +9,7 @@ use lib.ListN.{length, getD}
 use Rattle.text.specs.Quoted.{byte}
 use Rattle.text.specs.Bytes.{blank, lineEnd, illegal, digit, nameByte}
 use Rattle.text.proofs.Laws.{run-le}
+use Rattle.answers.specs.Faults.{openString, openPattern, openComment, badNumber}
 use Rattle.gaps.specs.Gaps.{gap, afterSlash, inLine, inBlock}
 use Rattle.literals.specs.Numbers.{numberLength, numberFrom}
 use Rattle.literals.proofs.NumberLaws.{number-some, number-within}
@@ -18,17 +19,17 @@ use Rattle.gaps.specs.declared.Gap.{Gap}
 use Rattle.literals.specs.declared.Literal.{Literal}
 use Rattle.elements.proofs.Choices.{cond-both}
 
--- a fault from lo to before hi, whose number is one of elements or comments
-pub record Faulted (lo hi number at : ℕ) : Type 0 where
+-- a fault from lo to before hi, whose number is one of elements or comments, up to `last`
+pub record Faulted (last lo hi number at : ℕ) : Type 0 where
   pub from : lo ≤ at
   pub within : at < hi
   pub least : 2 ≤ number
-  pub most : number ≤ 7
+  pub most : number ≤ last
 
 -- a gap that ends from i to hi, or has its fault from lo to before hi
 abbrev pub GapIn : ℕ → ℕ → ℕ → Gap → Type 0
 GapIn lo i hi (Gap.Ends first newline) = (i ≤ first) × (first ≤ hi)
-GapIn lo i hi (Gap.Fault number at) = Faulted lo hi number at
+GapIn lo i hi (Gap.Fault number at) = Faulted openComment lo hi number at
 
 module _ (lo low hi : ℕ) (l : lo ≤ low) where
   mutual
@@ -89,17 +90,17 @@ module _ (s : List ℕ) (i first : ℕ) (newline m : Bool) where
       rw e at (block-in 0 i (i + length s) (omega arith) s slash i newline star (omega arith) h (omega arith) refl) in
       p .0
 
--- a literal that ends past i and within hi, or has its fault from lo to before hi
-abbrev pub LiteralIn : ℕ → ℕ → ℕ → Literal → Type 0
-LiteralIn lo i hi (Literal.Ends end) = (i < end) × (end ≤ hi)
-LiteralIn lo i hi (Literal.Fault number at) = Faulted lo hi number at
+-- a literal that ends past i and within hi, or has its fault, whose number is up to `last`, from lo to before hi
+abbrev pub LiteralIn : ℕ → ℕ → ℕ → ℕ → Literal → Type 0
+LiteralIn last lo i hi (Literal.Ends end) = (i < end) × (end ≤ hi)
+LiteralIn last lo i hi (Literal.Fault number at) = Faulted last lo hi number at
 
 module _ (first low hi : ℕ) (l : first < low) where
-  pub string-in : (s : List ℕ) (q i : ℕ) (taken : Bool) → low ≤ i → i + length s ≡ hi → LiteralIn first low hi (stringRest q first taken i s)
+  pub string-in : (s : List ℕ) (q i : ℕ) (taken : Bool) → low ≤ i → i + length s ≡ hi → LiteralIn openString first low hi (stringRest q first taken i s)
   unfolding stringRest
   string-in [] q i taken h e = omega arith
   string-in (b ∷ s) q i taken h e =
-      let P = LiteralIn first low hi in
+      let P = LiteralIn openString first low hi in
       cond-both P (lineEnd b) (omega arith)
       (cond-both P (illegal b) (omega arith)
       (cond-both P taken (string-in s q (i + 1) false (omega arith) (omega arith))
@@ -107,11 +108,11 @@ module _ (first low hi : ℕ) (l : first < low) where
       (string-in s q (i + 1) (eqb b backslash) (omega arith) (omega arith)))))
 
   pub pattern-in : (s : List ℕ) (i : ℕ) (class taken : Bool) → low ≤ i → i + length s ≡ hi
-      → LiteralIn first low hi (patternRest first class taken i s)
+      → LiteralIn openPattern first low hi (patternRest first class taken i s)
   unfolding patternRest
   pattern-in [] i class taken h e = omega arith
   pattern-in (b ∷ s) i class taken h e =
-      let P = LiteralIn first low hi in
+      let P = LiteralIn openPattern first low hi in
       cond-both P (lineEnd b) (omega arith)
       (cond-both P (illegal b) (omega arith)
       (cond-both P taken (pattern-in s (i + 1) class false (omega arith) (omega arith))
@@ -124,13 +125,13 @@ module _ (first low hi : ℕ) (l : first < low) where
 module _ (s : List ℕ) (first i end : ℕ) (h : first < i) where
   pub string-reach : (q : ℕ) (taken : Bool) → stringRest q first taken i s ≡ Literal.Ends end → i < end
   string-reach q taken e =
-      let p : LiteralIn first i (i + length s) (Literal.Ends end) =
+      let p : LiteralIn openString first i (i + length s) (Literal.Ends end) =
       rw e at (string-in first i (i + length s) h s q i taken (omega arith) refl) in
       p .0
 
   pub pattern-reach : (class taken : Bool) → patternRest first class taken i s ≡ Literal.Ends end → i < end
   pattern-reach class taken e =
-      let p : LiteralIn first i (i + length s) (Literal.Ends end) =
+      let p : LiteralIn openPattern first i (i + length s) (Literal.Ends end) =
       rw e at (pattern-in first i (i + length s) h s i class taken (omega arith) refl) in
       p .0
 
@@ -141,8 +142,8 @@ starts-some false true c e = refl
 starts-some false false c e = e
 
 module _ (b : ℕ) (s : List ℕ) (d : (digit b || eqb b (byte ".")) ≡ true) where
-  pub number-in : (first hi : ℕ) → first + 1 + length s ≡ hi → LiteralIn first first hi (numberFrom first (b ∷ s))
+  pub number-in : (first hi : ℕ) → first + 1 + length s ≡ hi → LiteralIn badNumber first first hi (numberFrom first (b ∷ s))
   unfolding numberFrom
   number-in first hi e =
-      cond-both (LiteralIn first first hi) (nameByte (getD (b ∷ s) (numberLength (b ∷ s)) 0))
+      cond-both (LiteralIn badNumber first first hi) (nameByte (getD (b ∷ s) (numberLength (b ∷ s)) 0))
       (omega arith) (omega (arith, number-some b s d, number-within (b ∷ s)))

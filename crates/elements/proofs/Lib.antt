@@ -13,3 +13,4 @@ pub mod FoundKinds
 pub mod Delimiters
 pub mod LexemeLaws
 pub mod Spellings
+pub mod NumberElements

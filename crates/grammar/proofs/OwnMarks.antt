@@ -69,10 +69,10 @@ use Rattle.grammar.proofs.Ranges.{Marks, marks-both, from-lower, to-hig
 use Rattle.grammar.proofs.Counting.{Counting, counting-none, past-closer, at-mark, MarkOf, mark-of}
 
 -- a part's marks are those from the next mark before it to the next mark behind it
-record MarksTo (total low : ℕ) (after : List Token) (value : Syntax) : Type 0 where
-  high : ℕ
-  rest : Counting total high after
-  marks : Marks low high value
+pub record MarksTo (total low : ℕ) (after : List Token) (value : Syntax) : Type 0 where
+  pub high : ℕ
+  pub rest : Counting total high after
+  pub marks : Marks low high value
 
 leaf-marks : {low kind mark : ℕ} → mark ≡ low → Marks low (low + 1) (node kind mark nil nil)
 leaf-marks {low} own = let passed : low < low + 1 = omega arith in before-parts own passed (no-marks (low + 1)) (no-marks (low + 1))
@@ -107,7 +107,7 @@ module _ {total : ℕ} where
   parameters-skip no-parameters counting = skips-none counting
   parameters-skip (some-parameters names) counting = names-skip names counting
 
-  marked : {low : ℕ} {form : Form} {before after : List Token} {value : Syntax} → Derives form before after value → Counting total low before
+  pub marked : {low : ℕ} {form : Form} {before after : List Token} {value : Syntax} → Derives form before after value → Counting total low before
       → MarksTo total low after value
   marked {low} (chain-leaf {class = class} leaf) counting =
       let m = at-mark class (leaf-open leaf) counting in

@@ -1,9 +1,11 @@
 -- Document 02, U4: "each added operator and value word makes one syntax record".
-use Prim.Native.Nat.{ℕ}
-use mathlib.Core.Bool.{Bool}
-use mathlib.Core.List.{List, [], _∷_, _++_}
-use Rattle.machine.specs.Tokens.{thisWord, nullWord, trueWord, falseWord, newWord, question}
+use Prim.Native.Nat.{ℕ, _≤_, _<_}
+use mathlib.Core.Bool.{Bool, cond}
+use mathlib.Core.List.{List, [], _∷_, _++_, List·Memᴰ}
+use lib.Dec.{T, eqb}
+use Rattle.machine.specs.Tokens.{thisWord, nullWord, trueWord, falseWord, newWord, plus, minus, increment, decrement, question}
 use Rattle.machine.specs.Operators.{assignmentOperators, binaryOperators, prefixOperators, postfixOperators, isAmong}
+use Rattle.machine.specs.Syntax.{Syntax, nil, node, snoc, constructSyntax, incrementedSyntax, decrementedSyntax, positiveSyntax, negativeSyntax, marksOf}
 
 -- "`this`, `null`, `true`, `false`"
 abbrev pub valueWords : List ℕ
@@ -16,3 +18,29 @@ recordedClasses = valueWords ++ (newWord ∷ question ∷ (prefixOperators ++ (p
 
 abbrev pub isRecorded : ℕ → Bool
 isRecorded class = isAmong recordedClasses class
+
+-- a record's kind and mark, and the marks of the records in it
+pub data Part : Type 0 where
+  part : ℕ → ℕ → List ℕ → Part
+
+-- those of a tree, in the order of its records
+abbrev pub partsOf : Syntax → List Part
+partsOf nil = []
+partsOf (node kind mark left right) = partsOf left ++ (partsOf right ++ (part kind mark (marksOf left ++ marksOf right) ∷ []))
+partsOf (snoc before last) = partsOf before ++ partsOf last
+
+-- the kinds of a part that starts with its mark, a token of a class: the class, but for `+` and `-` that before one operand; `new` may have arguments
+abbrev pub firstKinds : ℕ → List ℕ
+firstKinds class =
+    cond (eqb class plus) (positiveSyntax ∷ []) (cond (eqb class minus) (negativeSyntax ∷ []) (class ∷ cond (eqb class newWord) (constructSyntax ∷ []) []))
+
+-- the kind of a part that has an operand before its mark: the class, but for `++` and `--` that after one
+abbrev pub behindKind : ℕ → ℕ
+behindKind class = cond (eqb class increment) incrementedSyntax (cond (eqb class decrement) decrementedSyntax class)
+
+-- a token of this class makes one of these, with this mark: nothing in it is marked before the token, or an operand is
+pub data Makes (class mark : ℕ) (parts : List Part) : Type 0 where
+  makes-first : {kind : ℕ} {inside : List ℕ} → List·Memᴰ (part kind mark inside) parts → T (isAmong (firstKinds class) kind)
+      → ((m : ℕ) → List·Memᴰ m inside → mark ≤ m) → Makes class mark parts
+  makes-behind : {operand : ℕ} {inside : List ℕ} → List·Memᴰ (part (behindKind class) mark inside) parts → List·Memᴰ operand inside → operand < mark
+      → Makes class mark parts

@@ -3,3 +3,4 @@ pub mod NumberPlaces
 pub mod StringLaws
 pub mod PatternLaws
 pub mod LongestNumber
+pub mod NumberCuts
