@@ -8,7 +8,7 @@ use mathlib.Core.Bool.{Bool, false, not, cond, _&&_, _||_}
 use lib.Dec.{eqb}
 use lib.ListN.{getD, take, drop}
 use Rattle.text.specs.Quoted.{byte, bytes}
-use Rattle.text.specs.Bytes.{letter, digit, nameByte}
+use Rattle.text.specs.Bytes.{letter, nameByte}
 use Rattle.text.specs.Runs.{run}
 use Rattle.words.specs.Words.{wordNumber, taken}
 use Rattle.signs.specs.Signs.{longestSign}

@@ -20,4 +20,5 @@ pub mod Counts
 pub mod Ranges
 pub mod Counting
 pub mod OwnMarks
+pub mod PartRecords
 pub mod Recorded

@@ -23,7 +23,7 @@ isRecorded class = isAmong recordedClasses class
 pub data Part : Type 0 where
   part : ℕ → ℕ → List ℕ → Part
 
--- those of a tree, in the order of its records
+-- those of a tree, in the order of its records, which they are (`parts-written` of PartRecords.antt)
 abbrev pub partsOf : Syntax → List Part
 partsOf nil = []
 partsOf (node kind mark left right) = partsOf left ++ (partsOf right ++ (part kind mark (marksOf left ++ marksOf right) ∷ []))
