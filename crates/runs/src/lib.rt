@@ -6,19 +6,19 @@ ghost use Rattle.text.specs.Bytes.{digit, nameByte};
 ghost use Rattle.text.specs.Machinery.Codes.{byteCodes, codeOver};
 ghost use Rattle.text.specs.Runs.{run, same};
 
-// Whether two slices hold the same bytes.
+// Whether two slices hold the same bytes, compared from the last to the first: so no end has to be held beside the place.
 pub fn equal(a: &[u8], b: &[u8]) -> bool
     ensures { λ r. ⌜ r ≡ same (now (a .entry)) (now (b .entry)) ⌝ }
 {
     if a.len() != b.len() {
         return false;
     }
-    let mut i = 0;
-    while i < a.len() {
+    let mut i = a.len();
+    while 0 < i {
+        i -= 1;
         if a[i] != b[i] {
             return false;
         }
-        i += 1;
     }
     true
 }

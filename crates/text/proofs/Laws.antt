@@ -5,7 +5,7 @@ use mathlib.Core.Bool.{Bool, true, false, and-false, cond}
 use Prim.Native.Nat.{ℕ, suc, zero, _+_, _<_, _≤_}
 use native.Mathlib.Nat.{add-zero}
 use native.Mathlib.Omega.{arith}
-use borrow.Author.Tests.{eq-eqb, ne-eqb, ltb-true, ltb-false}
+use borrow.Author.Tests.{eq-eqb, ltb-true, ltb-false}
 use lib.Dec.{T, eqb, eqb→eq, ltb}
 use lib.ListN.{length, getD, take, drop, drop-of-length-le, length-drop}
 use Rattle.text.specs.Runs.{run, same}
@@ -105,16 +105,19 @@ same→eq (x ∷ a) [] t = absurd t
 same→eq (x ∷ a) (y ∷ b) t =
     rw (eqb→eq x y (and-left (eqb x y) (same a b) t), same→eq a b (and-right (eqb x y) (same a b) t))
 
-module _ (a b : List ℕ) (i : ℕ) where
-  pub same-end : length a ≤ i → length b ≤ i → same (drop i a) (drop i b) ≡ true
-  unfolding same
-  same-end h k = rw (drop-of-length-le a h, drop-of-length-le b k)
+pub same-self : (a : List ℕ) → same a a ≡ true
+unfolding same
+same-self [] = refl
+same-self (x ∷ a) = rw (eq-eqb x x refl, same-self a)
 
-  module _ (h : i < length a) (k : i < length b) where
-    pub same-differ : (getD a i 0 ≡ getD b i 0 → ⊥) → same (drop i a) (drop i b) ≡ false
-    unfolding same
-    same-differ e = rw (drop-at a i h, drop-at b i k, ne-eqb _ _ e)
+-- two texts with another byte at one place
+pub same-differ : (a b : List ℕ) (i : ℕ) → (getD a i 0 ≡ getD b i 0 → ⊥) → same a b ≡ false
+same-differ a b i differ = go (same a b) refl
+  where
+    go : (t : Bool) → same a b ≡ t → t ≡ false
+    go true e = let eq = same→eq a b (rw e tt) in absurd (differ (ap (λ s. getD s i 0) eq))
+    go false e = refl
 
-    pub same-more : getD a i 0 ≡ getD b i 0 → same (drop i a) (drop i b) ≡ same (drop (i + 1) a) (drop (i + 1) b)
-    unfolding same
-    same-more e = rw (drop-at a i h, drop-at b i k, eq-eqb _ _ e)
+-- two texts that are the same from one place on, and at the place before it
+pub same-from : (a b : List ℕ) (i : ℕ) → i < length a → i < length b → getD a i 0 ≡ getD b i 0 → drop (i + 1) a ≡ drop (i + 1) b → drop i a ≡ drop i b
+same-from a b i h k e rest = rw (drop-at a i h, drop-at b i k, e, rest)

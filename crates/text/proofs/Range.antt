@@ -28,7 +28,7 @@ from test (suc n) lo (suc k) t h =
     rw e (from test n (suc lo) k (and-right (test lo) (every test (suc lo) n) t) (omega arith))
 
 -- each number from lo to hi passes the test
-within : (test : ℕ → Bool) (lo hi b : ℕ) → T (every test lo (suc hi - lo)) → lo ≤ b → b ≤ hi → T (test b)
+pub within : (test : ℕ → Bool) (lo hi b : ℕ) → T (every test lo (suc hi - lo)) → lo ≤ b → b ≤ hi → T (test b)
 within test lo hi b t h k =
     let e : lo + (b - lo) ≡ b = omega arith in
     rw e at (from test (suc hi - lo) lo (b - lo) t (omega arith))

@@ -1,3 +1,2 @@
-pub mod Laws
-pub mod Tried
 pub mod Spellings
+pub mod Laws

@@ -1,4 +1,4 @@
--- A name that has a number among the reserved words is that word's spelling.
+-- What antt computes over all words holds of a name that is one of them: so it is the spelling of the word of its number.
 use mathlib.Core.Path.{_≡_, refl}
 use mathlib.Core.List.{List, [], _∷_}
 use mathlib.Core.Bool.{Bool, true, false, cond}
@@ -6,24 +6,35 @@ use Prim.Native.Nat.{ℕ, _+_}
 use lib.Dec.{T}
 use Rattle.text.specs.Runs.{same}
 use Rattle.text.proofs.Laws.{same→eq}
+use Rattle.text.proofs.Range.{and-left, and-right}
 use Rattle.vocabulary.specs.Vocabulary.{Row, spelling, words, rowAt}
-use Rattle.vocabulary.proofs.RowLaws.{RowsFrom, all-rows, first-row, later-rows}
+use Rattle.vocabulary.proofs.RowLaws.{eachRow}
 use Rattle.words.specs.Words.{placeIn, wordNumber}
 
-place-spelled : (name : List ℕ) (rows : List Row) (number : ℕ) → RowsFrom words number rows → (placeIn name number rows ≡ 0 → ⊥)
-    → name ≡ spelling (rowAt words (placeIn name number rows))
-unfolding placeIn
-place-spelled name [] number left some = absurd (some refl)
-place-spelled name (row ∷ rows) number left some =
-    go (same name (spelling row)) (λ t. t) (place-spelled name rows (number + 1) (later-rows left)) some
-  where
-    go : (b : Bool) → (T b → T (same name (spelling row)))
-        → ((placeIn name (number + 1) rows ≡ 0 → ⊥) → name ≡ spelling (rowAt words (placeIn name (number + 1) rows)))
-        → (cond b number (placeIn name (number + 1) rows) ≡ 0 → ⊥)
-        → name ≡ spelling (rowAt words (cond b number (placeIn name (number + 1) rows)))
-    go true is later some = rw (first-row left) (same→eq name (spelling row) (is tt))
-    go false is later some = later some
+-- a test that all words pass, each with its number
+abbrev pub eachWord : (ℕ → List ℕ → Bool) → ℕ → List Row → Bool
+eachWord test = eachRow λ number row. test number (spelling row)
+
+-- so does a name that is a word, with its number
+module _ (test : ℕ → List ℕ → Bool) (name : List ℕ) where
+  place-passed : (rows : List Row) (number : ℕ) → T (eachWord test number rows) → (placeIn name number rows ≡ 0 → ⊥) → T (test (placeIn name number rows) name)
+  unfolding placeIn
+  place-passed [] number t some = absurd (some refl)
+  place-passed (row ∷ rows) number t some =
+      go (same name (spelling row)) (λ t. t) (place-passed rows (number + 1) (and-right (test number (spelling row)) (eachWord test (number + 1) rows) t)) some
+    where
+      go : (b : Bool) → (T b → T (same name (spelling row)))
+          → ((placeIn name (number + 1) rows ≡ 0 → ⊥) → T (test (placeIn name (number + 1) rows) name))
+          → (cond b number (placeIn name (number + 1) rows) ≡ 0 → ⊥)
+          → T (test (cond b number (placeIn name (number + 1) rows)) name)
+      go true is later some =
+          rw (same→eq name (spelling row) (is tt)) (and-left (test number (spelling row)) (eachWord test (number + 1) rows) t)
+      go false is later some = later some
+
+  pub word-passed : T (eachWord test 1 words) → (wordNumber name ≡ 0 → ⊥) → T (test (wordNumber name) name)
+  unfolding wordNumber
+  word-passed t some = place-passed words 1 t some
 
 pub word-spelled : (name : List ℕ) → (wordNumber name ≡ 0 → ⊥) → name ≡ spelling (rowAt words (wordNumber name))
-unfolding wordNumber
-word-spelled name some = place-spelled name words 1 (all-rows words) some
+unfolding same rowAt
+word-spelled name some = same→eq name _ (word-passed (λ number w. same w (spelling (rowAt words number))) name tt some)

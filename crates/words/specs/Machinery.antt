@@ -1,2 +1,2 @@
 -- How code and proofs hold what the definitions speak of.
-pub mod Lengths
+pub mod Run

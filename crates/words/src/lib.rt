@@ -1,7 +1,13 @@
-// The 36 reserved words of ES5.1 section 7.6.1, compared byte for byte with a name.
+// The 36 reserved words of ES5.1 section 7.6.1, held as one run of their letters with their lengths, and compared byte for byte with a name.
 ghost use mathlib.Core.Path.{_≡_};
+ghost use mathlib.Core.Bool.{true};
+ghost use mathlib.Core.List.{List};
+ghost use Prim.Native.Nat.{ℕ, _+_, _*_, _≤_, _<_};
+ghost use lib.Dec.{T};
+ghost use lib.ListN.{length, getD};
+ghost use Rattle.text.specs.Runs.{same};
 ghost use Rattle.words.specs.Words.{wordNumber, taken};
-ghost use Rattle.words.specs.Machinery.Lengths.{chosen, wordOf, short, four, five, six, long};
+ghost use Rattle.words.specs.Machinery.Run.{word, wordLetters, wordLengths, lettersBefore, admits, slotOf};
 
 // The numbers of the words that are taken here.
 pub const INSTANCEOF: u32 = 3;
@@ -30,101 +36,151 @@ pub const TRUE: u32 = 35;
 
 pub const FALSE: u32 = 36;
 
-// `number` where the name is `word`, else `other`.
-fn choose(name: &[u8], word: &[u8], number: u32, other: u32) -> u32
-    ensures { λ r. ⌜ r ≡ chosen (now (name .entry)) (now (word .entry)) number other ⌝ }
+// The letters of the words in the order of their numbers, with nothing between two words.
+const LETTERS: [u8; 181] = *b"\
+    breakdoinstanceoftypeofcaseelsenewvarcatchfinallyreturnvoid\
+    continueforswitchwhiledebuggerfunctionthiswithdefaultifthrowdelete\
+    intryclassenumextendssuperconstexportimportnulltruefalse";
+
+// How many of them each word has.
+#[rattlefmt::skip]
+const LENGTHS: [u8; 36] = [
+    5, 2, 10, 6, 4, 4, 3, 3, 5, 7, 6, 4,
+    8, 3, 6, 5, 8, 8, 4, 4, 7, 2, 5, 6,
+    2, 3, 5, 4, 7, 5, 5, 6, 6, 4, 4, 5,
+];
+
+// The numbers of the words, each at its slot; 0 where no word has the slot.
+#[rattlefmt::skip]
+const NUMBERS: [u8; 64] = [
+    31, 35, 0, 28, 0, 22, 13, 24, 36, 21, 1, 17, 8, 30, 19, 0,
+    23, 0, 0, 0, 0, 0, 0, 0, 0, 0, 0, 0, 0, 5, 11, 9,
+    0, 25, 0, 20, 0, 14, 15, 0, 10, 0, 0, 0, 6, 0, 0, 12,
+    34, 3, 2, 0, 18, 4, 7, 0, 0, 16, 32, 0, 29, 27, 33, 26,
+];
+
+// What the words of a length start with: a bit for each first letter, at its code modulo 64, which is in the upper half, and one for each second
+// letter, at its code modulo 32, in the lower half.
+fn initials(len: usize) -> u64
+    ensures { λ r. ⌜ ((name : List ℕ) → (wordNumber name ≡ 0 → ⊥) → length name ≡ len → T (admits r name)) × ((r ≡ 0 → ⊥) → len ≤ 10) ⌝ }
 {
-    if runs::equal(name, word) {
-        number
-    } else {
-        other
+    match len {
+        2 => 0x210_0000c040,
+        3 => 0x504040_00048022,
+        4 => 0xd04028_0024d302,
+        5 => 0x98004c_00249102,
+        6 => 0x1c0230_03802020,
+        7 => 0x70_01000220,
+        8 => 0x58_00208020,
+        10 => 0x200_00004000,
+        _ => 0,
     }
 }
 
-// The number of a word of two or three letters.
-fn short_word(name: &[u8]) -> u32
-    ensures { λ r. ⌜ r ≡ wordOf short (now (name .entry)) ⌝ }
+// Whether a word of that length may start with these letters. Most names are told by it before the run is looked at.
+fn may_be_word(name: &[u8]) -> bool
+    ensures { λ r. ⌜ ((wordNumber (now (name .entry)) ≡ 0 → ⊥) → r ≡ true) × (r ≡ true → (2 ≤ length (now (name .entry))) × (length (now (name .entry)) ≤ 10)) ⌝ }
 {
-    let n = choose(name, b"try", 26, 0);
-    let n = choose(name, b"in", IN, n);
-    let n = choose(name, b"if", IF, n);
-    let n = choose(name, b"for", 14, n);
-    let n = choose(name, b"var", 8, n);
-    let n = choose(name, b"new", NEW, n);
-    choose(name, b"do", 2, n)
+    let len = name.len();
+    if len < 2 {
+        return false;
+    }
+    let initials = initials(len);
+    if initials >> (name[0] % 64) & 1 == 0 {
+        return false;
+    }
+    initials >> (name[1] % 32) & 1 == 1
 }
 
-// The number of a word of four letters.
-fn four_letter_word(name: &[u8]) -> u32
-    ensures { λ r. ⌜ r ≡ wordOf four (now (name .entry)) ⌝ }
+// A name's slot, by its length and first two letters: no two words have one slot.
+fn slot(len: usize, first: u8, second: u8) -> usize
+    requires { ⌜ len ≤ 10 ⌝ }
+    ensures { λ r. ⌜ r ≡ slotOf len first second ⌝ }
 {
-    let n = choose(name, b"true", TRUE, 0);
-    let n = choose(name, b"null", NULL, n);
-    let n = choose(name, b"enum", 28, n);
-    let n = choose(name, b"with", 20, n);
-    let n = choose(name, b"this", THIS, n);
-    let n = choose(name, b"void", VOID, n);
-    let n = choose(name, b"else", 6, n);
-    choose(name, b"case", 5, n)
+    (4 * len + 113 * (first as usize) + 87 * (second as usize)) / 2 % 64
 }
 
-// The number of a word of five letters.
-fn five_letter_word(name: &[u8]) -> u32
-    ensures { λ r. ⌜ r ≡ wordOf five (now (name .entry)) ⌝ }
+// The number at a slot.
+fn at_slot(numbers: &[u8], slot: usize) -> usize
+    requires { ⌜ slot < length (now numbers) ⌝ }
+    ensures { λ r. ⌜ r ≡ getD (now (numbers .entry)) slot 0 ⌝ }
 {
-    let n = choose(name, b"false", FALSE, 0);
-    let n = choose(name, b"const", 31, n);
-    let n = choose(name, b"super", 30, n);
-    let n = choose(name, b"class", 27, n);
-    let n = choose(name, b"throw", 23, n);
-    let n = choose(name, b"while", 16, n);
-    let n = choose(name, b"catch", 9, n);
-    choose(name, b"break", 1, n)
+    numbers[slot] as usize
 }
 
-// The number of a word of six letters.
-fn six_letter_word(name: &[u8]) -> u32
-    ensures { λ r. ⌜ r ≡ wordOf six (now (name .entry)) ⌝ }
+// The only number that a name can have as a word.
+fn candidate(name: &[u8]) -> usize
+    requires { ⌜ (2 ≤ length (now name)) × (length (now name) ≤ 10) ⌝ }
+    ensures { λ r. ⌜ (r ≤ 36) × ((wordNumber (now (name .entry)) ≡ 0 → ⊥) → r ≡ wordNumber (now (name .entry))) ⌝ }
 {
-    let n = choose(name, b"import", 33, 0);
-    let n = choose(name, b"export", 32, n);
-    let n = choose(name, b"delete", DELETE, n);
-    let n = choose(name, b"switch", 15, n);
-    let n = choose(name, b"return", RETURN, n);
-    choose(name, b"typeof", TYPEOF, n)
+    at_slot(&NUMBERS, slot(name.len(), name[0], name[1]))
 }
 
-// The number of a word of seven letters or more.
-fn long_word(name: &[u8]) -> u32
-    ensures { λ r. ⌜ r ≡ wordOf long (now (name .entry)) ⌝ }
+// How many letters stand before each fourth word.
+fn before_fourth(fours: usize) -> u8
+    requires { ⌜ fours < 9 ⌝ }
+    ensures { λ r. ⌜ r ≡ lettersBefore (4 * fours) ⌝ }
 {
-    let n = choose(name, b"extends", 29, 0);
-    let n = choose(name, b"default", 21, n);
-    let n = choose(name, b"function", FUNCTION, n);
-    let n = choose(name, b"debugger", 17, n);
-    let n = choose(name, b"continue", 13, n);
-    let n = choose(name, b"finally", 10, n);
-    choose(name, b"instanceof", INSTANCEOF, n)
+    match fours {
+        1 => 23,
+        2 => 37,
+        3 => 59,
+        4 => 81,
+        5 => 105,
+        6 => 125,
+        7 => 139,
+        8 => 162,
+        _ => 0,
+    }
+}
+
+// How many letters stand before the word at an index, from 0.
+fn start(lengths: &[u8], index: usize) -> usize
+    requires { ⌜ (now lengths ≡ wordLengths) × (index < 36) ⌝ }
+    ensures { λ r. ⌜ r ≡ lettersBefore index ⌝ }
+{
+    let mut at = before_fourth(index / 4) as usize;
+    let mut k = index;
+    while k % 4 != 0 {
+        k -= 1;
+        at += lengths[k] as usize;
+    }
+    at
+}
+
+// Whether a name is the word at an index of the run.
+fn stands_at(letters: &[u8], lengths: &[u8], index: usize, name: &[u8]) -> bool
+    requires { ⌜ (now letters ≡ wordLetters) × (now lengths ≡ wordLengths) × (index < 36) ⌝ }
+    ensures { λ r. ⌜ r ≡ same (now (name .entry)) (word (index + 1)) ⌝ }
+{
+    let at = start(lengths, index);
+    let len = lengths[index] as usize;
+    runs::equal(name, &letters[at..at + len])
+}
+
+// Whether a name is the word of a number.
+fn is_word(name: &[u8], number: usize) -> bool
+    requires { ⌜ (1 ≤ number) × (number ≤ 36) ⌝ }
+    ensures { λ r. ⌜ r ≡ same (now (name .entry)) (word number) ⌝ }
+{
+    stands_at(&LETTERS, &LENGTHS, number - 1, name)
 }
 
 // The number of the reserved word that a name is: its place among the 36, from 1; 0 where it is none of them.
 pub fn word_number(name: &[u8]) -> u32
     ensures { λ r. ⌜ r ≡ wordNumber (now (name .entry)) ⌝ }
 {
-    let letters = name.len();
-    if letters < 4 {
-        return short_word(name);
+    if !may_be_word(name) {
+        return 0;
     }
-    if letters == 4 {
-        return four_letter_word(name);
+    let number = candidate(name);
+    if number == 0 {
+        return 0;
     }
-    if letters == 5 {
-        return five_letter_word(name);
+    if is_word(name, number) {
+        return number as u32;
     }
-    if letters == 6 {
-        return six_letter_word(name);
-    }
-    long_word(name)
+    0
 }
 
 // The words that are taken here: a bit for each, at its number.

@@ -1,66 +1,58 @@
--- A name is looked for among the words of its length.
+-- `word_number` is `wordNumber`: a name that cannot be a word is none, and one that can has the number of the word that it is.
 use borrow.Author.Needs.{needs}
-use mathlib.Core.Path.{sym, _∙_}
-use borrow.Author.Tests.{lt-ltb, eq-eqb}
 use native.Mathlib.Omega.{arith}
-use lib.ListN.{length}
-use Rattle.words.specs.Machinery.Lengths.{short, four, five, six, long}
-use Rattle.words.proofs.Laws.{count-kept}
-use borrow.Author.Needs.{needs}
+use mathlib.Core.Path.{_≡_, ap, sym, _∙_}
+use borrow.Author.Tests.{not-true, not-false}
+use Rattle.text.proofs.Laws.{same→eq}
+use Rattle.words.specs.Words.{wordNumber}
+use Rattle.words.specs.Machinery.Run.{word}
+use Rattle.words.proofs.Laws.{clash, no-word, word-numbered, other-word}
 use Rattle.words.proofs.word_number.Statement.{statement}
 use Rattle.words.proofs.word_number.Tie as tie
 
-short-word-requires : tie.Need-short-word-requires
-short-word-requires c κs = search needs
+may-be-word-requires : tie.Need-may-be-word-requires
+may-be-word-requires c κs = search needs
 
 returns : tie.Need-returns
 returns c =
     let name = c .before .before .before .args .name .now in
-    c .short-word .ensures ∙ sym (count-kept short name (lt-ltb (length name) 4 (omega arith)))
+    no-word name λ some. clash (sym (not-true _ (c .if1 .taken)) ∙ c .before .may-be-word .ensures .0 some)
 
-four-letter-word-requires : tie.Need-four-letter-word-requires
-four-letter-word-requires c κs = search needs
+candidate-requires : tie.Need-candidate-requires
+candidate-requires c κs = c .before .may-be-word .ensures .1 (not-false _ (c .if1 .left))
 
 returns-2 : tie.Need-returns-2
 returns-2 c =
-    let name = c .before .before .before .before .args .name .now in
-    c .four-letter-word .ensures ∙ sym (count-kept four name (eq-eqb (length name) 4 (omega arith)))
+    let name = c .before .before .before .before .before .args .name .now in
+    no-word name λ some. some (sym (c .before .candidate .ensures .1 some) ∙ c .if2 .taken)
 
-five-letter-word-requires : tie.Need-five-letter-word-requires
-five-letter-word-requires c κs = search needs
+is-word-requires : tie.Need-is-word-requires
+is-word-requires c κs = search needs
+
+cast-result : tie.Need-cast-result
+cast-result c = search needs
 
 returns-3 : tie.Need-returns-3
 returns-3 c =
-    let name = c .before .before .before .before .before .args .name .now in
-    c .five-letter-word .ensures ∙ sym (count-kept five name (eq-eqb (length name) 5 (omega arith)))
-
-six-letter-word-requires : tie.Need-six-letter-word-requires
-six-letter-word-requires c κs = search needs
+    let name = c .before .before .before .before .before .before .before .args .name .now in
+    let number = c .before .before .before .candidate .result in
+    let is = same→eq name (word number) (rw (sym (c .before .is-word .ensures) ∙ c .if3 .taken) tt) in
+    sym (ap wordNumber is ∙ word-numbered number (omega arith) (omega arith))
 
 returns-4 : tie.Need-returns-4
 returns-4 c =
-    let name = c .before .before .before .before .before .before .args .name .now in
-    c .six-letter-word .ensures ∙ sym (count-kept six name (eq-eqb (length name) 6 (omega arith)))
-
-long-word-requires : tie.Need-long-word-requires
-long-word-requires c κs = search needs
-
-returns-5 : tie.Need-returns-5
-returns-5 c =
-    let name = c .before .before .before .before .before .before .args .name .now in
-    c .long-word .ensures ∙ sym (count-kept long name (lt-ltb 6 (length name) (omega arith)))
+    let name = c .before .before .before .before .before .before .before .args .name .now in
+    other-word name (c .before .before .before .candidate .result) (c .before .before .before .candidate .ensures .1) (sym (c .before .is-word .ensures) ∙ c .if3 .left)
 
 pub word-number-spec : {M : Type 1} → statement M
 word-number-spec =
     tie.close
     (tie.spec
-    short-word-requires
+    may-be-word-requires
     returns
-    four-letter-word-requires
+    candidate-requires
     returns-2
-    five-letter-word-requires
+    is-word-requires
+    cast-result
     returns-3
-    six-letter-word-requires
-    returns-4
-    long-word-requires
-    returns-5)
+    returns-4)
