@@ -110,7 +110,7 @@ unfolding same
 same-self [] = refl
 same-self (x ∷ a) = rw (eq-eqb x x refl, same-self a)
 
--- two texts with another byte at one place
+-- two texts that differ at a place
 pub same-differ : (a b : List ℕ) (i : ℕ) → (getD a i 0 ≡ getD b i 0 → ⊥) → same a b ≡ false
 same-differ a b i differ = go (same a b) refl
   where
@@ -119,5 +119,5 @@ same-differ a b i differ = go (same a b) refl
     go false e = refl
 
 -- two texts that are the same from one place on, and at the place before it
-pub same-from : (a b : List ℕ) (i : ℕ) → i < length a → i < length b → getD a i 0 ≡ getD b i 0 → drop (i + 1) a ≡ drop (i + 1) b → drop i a ≡ drop i b
-same-from a b i h k e rest = rw (drop-at a i h, drop-at b i k, e, rest)
+pub drop-from : (a b : List ℕ) (i : ℕ) → i < length a → i < length b → getD a i 0 ≡ getD b i 0 → drop (i + 1) a ≡ drop (i + 1) b → drop i a ≡ drop i b
+drop-from a b i h k e rest = rw (drop-at a i h, drop-at b i k, e, rest)

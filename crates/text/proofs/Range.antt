@@ -1,4 +1,4 @@
--- A rule of the bytes of a range, proved by one test that antt computes over all of them.
+-- A rule of the numbers of a range, proved by one test that antt computes over all of them.
 use mathlib.Core.Bool.{Bool, true, false, _&&_}
 use mathlib.Core.Path.{_≡_, refl}
 use Prim.Native.Nat.{ℕ, zero, suc, _+_, _-_, _≤_, _<_}

@@ -1,7 +1,7 @@
 -- The run of the words, and how a name's number is found in it: laws that antt computes over all words, or at each place.
-use mathlib.Core.Path.{_≡_, refl, ap, sym, _∙_}
+use mathlib.Core.Path.{_≡_, refl, sym, _∙_}
 use mathlib.Core.List.{List}
-use mathlib.Core.Bool.{Bool, true, false, not, _||_}
+use mathlib.Core.Bool.{Bool, true, false, false≢true, not, _||_}
 use Prim.Native.Nat.{ℕ, _+_, _%_, _^_, _≤_, _<_}
 use native.Mathlib.Nat.{zero-div}
 use native.Mathlib.Omega.{arith}
@@ -14,11 +14,8 @@ use Rattle.text.proofs.Laws.{same→eq, same-self}
 use Rattle.text.proofs.Range.{and-left, and-right, within}
 use Rattle.vocabulary.specs.Vocabulary.{words, rowAt}
 use Rattle.words.specs.Words.{placeIn, wordNumber}
-use Rattle.words.specs.Machinery.Run.{word, wordLetters, wordLengths, lettersBefore, bitAt, admits, slot, numbers}
+use Rattle.words.specs.Machinery.Run.{word, wordLetters, wordLengths, lettersBefore, bitAt, admits, slotOfName, numbers}
 use Rattle.words.proofs.Spellings.{eachWord, word-passed, word-spelled}
-
-pub clash : false ≡ true → ⊥
-clash e = let z : _≡_ {A = ℕ} 0 1 = cc in omega arith
 
 -- the lengths of the words
 abbrev pub isLength : ℕ → Bool
@@ -33,9 +30,9 @@ module _ (name : List ℕ) (some : wordNumber name ≡ 0 → ⊥) where
   word-long = leb→le 2 (length name) (word-passed (λ number w. leb 2 (length w)) name tt some)
 
   -- the number at its slot is its own
-  pub number-at-slot : getD numbers (slot name) 0 ≡ wordNumber name
+  pub number-at-slot : getD numbers (slotOfName name) 0 ≡ wordNumber name
   unfolding numbers
-  number-at-slot = eqb→eq _ _ (word-passed (λ number w. eqb (getD numbers (slot w) 0) number) name tt some)
+  number-at-slot = eqb→eq _ _ (word-passed (λ number w. eqb (getD numbers (slotOfName w) 0) number) name tt some)
 
 -- initials that all words of a length have
 pub words-admitted : (len initials : ℕ) → T (eachWord (λ number w. not (eqb (length w) len) || admits initials w) 1 words)
@@ -66,14 +63,14 @@ no-word name none = go (eqb (wordNumber name) 0) refl
   where
     go : (b : Bool) → eqb (wordNumber name) 0 ≡ b → 0 ≡ wordNumber name
     go true e = sym (eqb→eq (wordNumber name) 0 (rw e tt))
-    go false e = absurd (none λ is. clash (sym e ∙ eq-eqb (wordNumber name) 0 is))
+    go false e = absurd (none λ is. false≢true (sym e ∙ eq-eqb (wordNumber name) 0 is))
 
 -- a name is none either where it is another than the word of the only number that it could have
 pub other-word : (name : List ℕ) (number : ℕ) → ((wordNumber name ≡ 0 → ⊥) → number ≡ wordNumber name) → same name (word number) ≡ false
     → 0 ≡ wordNumber name
-other-word name number own differ = no-word name λ some. clash (sym differ ∙ rw (own some, sym (word-spelled name some)) (same-self name))
+other-word name number own differ = no-word name λ some. false≢true (sym differ ∙ rw (own some, sym (word-spelled name some)) (same-self name))
 
--- the number of a word is its own
+-- the word of a number has that number
 pub word-numbered : (number : ℕ) → 1 ≤ number → number ≤ 36 → wordNumber (word number) ≡ number
 unfolding wordNumber placeIn rowAt same
 word-numbered number h k = eqb→eq _ _ (within (λ n. eqb (wordNumber (word n)) n) 1 36 number tt h k)
@@ -84,13 +81,13 @@ unfolding numbers
 number-within place h = leb→le _ 36 (within (λ k. leb (getD numbers k 0) 36) 0 63 place tt (omega arith) (omega arith))
 
 -- the run has 36 words and 181 letters
-pub lengths-many : (lengths : List ℕ) → lengths ≡ wordLengths → length lengths ≡ 36
+pub lengths-many : length wordLengths ≡ 36
 unfolding wordLengths
-lengths-many lengths e = ap length e
+lengths-many = refl
 
-pub letters-many : (letters : List ℕ) → letters ≡ wordLetters → length letters ≡ 181
+pub letters-many : length wordLetters ≡ 181
 unfolding wordLetters
-letters-many letters e = ap length e
+letters-many = refl
 
 -- the word at an index of the run
 module _ (index : ℕ) (h : index < 36) where

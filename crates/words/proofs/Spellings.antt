@@ -1,4 +1,4 @@
--- What antt computes over all words holds of a name that is one of them: so it is the spelling of the word of its number.
+-- What antt computes over all words holds of a name that is one of them: so such a name is the spelling of the word of its number.
 use mathlib.Core.Path.{_≡_, refl}
 use mathlib.Core.List.{List, [], _∷_}
 use mathlib.Core.Bool.{Bool, true, false, cond}

@@ -59,8 +59,8 @@ const NUMBERS: [u8; 64] = [
     34, 3, 2, 0, 18, 4, 7, 0, 0, 16, 32, 0, 29, 27, 33, 26,
 ];
 
-// What the words of a length start with: a bit for each first letter, at its code modulo 64, which is in the upper half, and one for each second
-// letter, at its code modulo 32, in the lower half.
+// What the words of a length start with: a bit for each first letter, at its code modulo 64, and one for each second letter, at its code modulo 32.
+// Those of first letters are in the upper half, those of second letters in the lower half.
 fn initials(len: usize) -> u64
     ensures { λ r. ⌜ ((name : List ℕ) → (wordNumber name ≡ 0 → ⊥) → length name ≡ len → T (admits r name)) × ((r ≡ 0 → ⊥) → len ≤ 10) ⌝ }
 {
@@ -77,7 +77,8 @@ fn initials(len: usize) -> u64
     }
 }
 
-// Whether a word of that length may start with these letters. Most names are told by it before the run is looked at.
+// Whether a word of the name's length may start with its first two letters: most names that are no words are turned away here, before the run is
+// looked at. Others, some with capitals among them, may pass.
 fn may_be_word(name: &[u8]) -> bool
     ensures { λ r. ⌜ ((wordNumber (now (name .entry)) ≡ 0 → ⊥) → r ≡ true) × (r ≡ true → (2 ≤ length (now (name .entry))) × (length (now (name .entry)) ≤ 10)) ⌝ }
 {
@@ -92,7 +93,7 @@ fn may_be_word(name: &[u8]) -> bool
     initials >> (name[1] % 32) & 1 == 1
 }
 
-// A name's slot, by its length and first two letters: no two words have one slot.
+// A name's slot, by its length and first two letters. The factors were found by trial: no two words share a slot.
 fn slot(len: usize, first: u8, second: u8) -> usize
     requires { ⌜ len ≤ 10 ⌝ }
     ensures { λ r. ⌜ r ≡ slotOf len first second ⌝ }
@@ -108,7 +109,7 @@ fn at_slot(numbers: &[u8], slot: usize) -> usize
     numbers[slot] as usize
 }
 
-// The only number that a name can have as a word.
+// The only number that a name can have as a word; 0 where it can have none.
 fn candidate(name: &[u8]) -> usize
     requires { ⌜ (2 ≤ length (now name)) × (length (now name) ≤ 10) ⌝ }
     ensures { λ r. ⌜ (r ≤ 36) × ((wordNumber (now (name .entry)) ≡ 0 → ⊥) → r ≡ wordNumber (now (name .entry))) ⌝ }
@@ -116,7 +117,7 @@ fn candidate(name: &[u8]) -> usize
     at_slot(&NUMBERS, slot(name.len(), name[0], name[1]))
 }
 
-// How many letters stand before each fourth word.
+// How many letters stand before each fourth word, from the first on: before the word at the index 4 * `fours`.
 fn before_fourth(fours: usize) -> u8
     requires { ⌜ fours < 9 ⌝ }
     ensures { λ r. ⌜ r ≡ lettersBefore (4 * fours) ⌝ }

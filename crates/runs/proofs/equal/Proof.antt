@@ -4,8 +4,7 @@ use native.Mathlib.Omega.{arith}
 use mathlib.Core.Path.{_≡_, sym, _∙_}
 use Prim.Native.Nat.{_-_, _≤_, _+_}
 use lib.ListN.{length, drop, drop-of-length-le}
-use Rattle.text.specs.Runs.{same}
-use Rattle.text.proofs.Laws.{same-length, same-self, same-differ, same-from}
+use Rattle.text.proofs.Laws.{same-length, same-self, same-differ, drop-from}
 use Rattle.runs.proofs.equal.Statement.{statement}
 use Rattle.runs.proofs.equal.Tie as tie
 
@@ -47,7 +46,7 @@ loop-again c =
     let b = d .before .before .args .b .now in
     let i = d .loop .i in
     let e : i - 1 + 1 ≡ i = omega arith in
-    (d .loop .inv .0, omega arith, same-from a b (i - 1) (omega arith) (omega arith) (c .if2 .left) (rw e (d .loop .inv .2)))
+    (d .loop .inv .0, omega arith, drop-from a b (i - 1) (omega arith) (omega arith) (c .if2 .left) (rw e (d .loop .inv .2)))
 
 returns-3 : tie.Need-returns-3 Inv-loop μ-loop
 returns-3 c =

@@ -1,6 +1,5 @@
 -- `before_fourth` is `lettersBefore` at each fourth word: antt computes them.
 use native.Mathlib.Omega.{arith}
-use mathlib.Core.Path.{_≡_}
 use mathlib.Core.Bool.{_||_}
 use borrow.Author.Tests.{ne-eqb}
 use lib.Dec.{eqb, eqb→eq}

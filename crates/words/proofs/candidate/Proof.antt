@@ -3,7 +3,7 @@ use borrow.Author.Needs.{needs}
 use native.Mathlib.Omega.{arith}
 use mathlib.Core.Path.{ap, _∙_}
 use lib.ListN.{getD}
-use Rattle.words.specs.Machinery.Run.{slot, numbers}
+use Rattle.words.specs.Machinery.Run.{slotOfName, numbers}
 use Rattle.words.proofs.Laws.{number-at-slot, number-within}
 use Rattle.words.proofs.candidate.Statement.{statement}
 use Rattle.words.proofs.candidate.Tie as tie
@@ -28,7 +28,7 @@ unfolding numbers
 returns c =
     let name = c .before .before .before .before .before .before .args .name .now in
     let found = c .at-slot .ensures ∙ ap (λ place. getD numbers place 0) (c .before .slot .ensures) in
-    (rw found (number-within (slot name) (omega arith)), λ some. found ∙ number-at-slot name some)
+    (rw found (number-within (slotOfName name) (omega arith)), λ some. found ∙ number-at-slot name some)
 
 pub candidate-spec : {M : Type 1} → statement M
 candidate-spec =

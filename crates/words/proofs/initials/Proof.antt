@@ -1,12 +1,7 @@
--- `initials` has the initials of all words of a length: antt computes that each of them is admits, and that no word has another length.
+-- `initials` has the initials of all words of a length: antt computes that each of them is admitted, and that no word has another length.
 use native.Mathlib.Omega.{arith}
-use mathlib.Core.Path.{_≡_, refl, _∙_}
-use mathlib.Core.List.{List}
-use mathlib.Core.Bool.{_||_}
-use Prim.Native.Nat.{ℕ}
+use mathlib.Core.Path.{refl, _∙_}
 use borrow.Author.Tests.{ne-eqb}
-use lib.Dec.{eqb}
-use lib.ListN.{length}
 use Rattle.words.proofs.Laws.{words-admitted, word-length}
 use Rattle.words.proofs.initials.Statement.{statement}
 use Rattle.words.proofs.initials.Tie as tie

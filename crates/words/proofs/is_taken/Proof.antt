@@ -4,19 +4,19 @@ use native.Mathlib.Omega.{arith}
 use mathlib.Core.Path.{_≡_}
 use mathlib.Core.Bool.{Bool, false}
 use mathlib.Core.List.{_∷_}
-use Prim.Native.Nat.{ℕ, _/_, _^_, _<_}
-use lib.Bits.{bitAnd}
+use Prim.Native.Nat.{ℕ, _<_}
 use lib.Dec.{eqb}
 use lib.ListN.{List·getD-eq-default}
 use Rattle.text.proofs.Range.{agree}
 use Rattle.vocabulary.specs.Vocabulary.{words, rowAt, noRow}
 use Rattle.words.specs.Words.{taken}
+use Rattle.words.specs.Machinery.Run.{bitAt}
 use Rattle.words.proofs.is_taken.Statement.{statement}
 use Rattle.words.proofs.is_taken.Tie as tie
 
 -- the bit of a number, in the code's constant
 abbrev bit : ℕ → Bool
-bit n = eqb (bitAnd (120314402968 / (2 ^ n)) 1) 1
+bit n = eqb (bitAt 120314402968 n) 1
 
 past-taken : (n : ℕ) → 36 < n → false ≡ taken n
 unfolding taken rowAt

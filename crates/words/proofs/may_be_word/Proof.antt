@@ -1,21 +1,16 @@
 -- `may_be_word` turns no word away: the initials of its length have its first two letters.
 use borrow.Author.Needs.{needs}
 use native.Mathlib.Omega.{arith}
-use mathlib.Core.Path.{_≡_, refl, ap, sym, _∙_}
-use mathlib.Core.Bool.{Bool, true, false}
-use Prim.Native.Nat.{ℕ, _/_, _%_, _^_, _≤_}
-use borrow.Author.Tests.{eq-eqb}
-use lib.Bits.{bitAnd}
-use lib.Dec.{eqb, eqb→eq}
-use lib.ListN.{length, getD}
-use Rattle.text.proofs.Range.{and-left, and-right}
-use Rattle.words.specs.Machinery.Run.{bitAt}
-use Rattle.words.proofs.Laws.{clash, word-long, no-bit, first-admitted, second-admitted}
+use mathlib.Core.Path.{refl}
+use mathlib.Core.Bool.{false≢true}
+use Prim.Native.Nat.{_%_}
+use lib.ListN.{getD}
+use Rattle.words.proofs.Laws.{word-long, no-bit, first-admitted, second-admitted}
 use Rattle.words.proofs.may_be_word.Statement.{statement}
 use Rattle.words.proofs.may_be_word.Tie as tie
 
 returns : tie.Need-returns
-returns c = (λ some. absurd (omega (arith, word-long _ some)), λ e. absurd (clash e))
+returns c = (λ some. absurd (omega (arith, word-long _ some)), λ e. absurd (false≢true e))
 
 initials-requires : tie.Need-initials-requires
 initials-requires c κs = search needs
@@ -33,7 +28,7 @@ returns-2 : tie.Need-returns-2
 returns-2 c =
     let found = c .before .before .initials in
     let name = c .before .before .before .before .before .args .name .now in
-    (λ some. absurd (omega (arith, first-admitted (found .result) name (found .ensures .0 name some refl), c .if2 .taken)), λ e. absurd (clash e))
+    (λ some. absurd (omega (arith, first-admitted (found .result) name (found .ensures .0 name some refl), c .if2 .taken)), λ e. absurd (false≢true e))
 
 shared-slice-read-result : tie.Need-shared-slice-read-result
 shared-slice-read-result c = search needs

@@ -3,9 +3,8 @@ use borrow.Author.Needs.{needs}
 use native.Mathlib.Omega.{arith}
 use mathlib.Core.Path.{_≡_, ap, _∙_}
 use Prim.Native.Nat.{_+_, _-_}
-use lib.ListN.{length, getD, take, drop}
+use lib.ListN.{length, getD}
 use Rattle.text.specs.Runs.{same}
-use Rattle.words.specs.Machinery.Run.{lettersBefore, wordLetters, wordLengths}
 use Rattle.words.proofs.Laws.{lengths-many, letters-many, letters-within, word-cut}
 use Rattle.words.proofs.stands_at.Statement.{statement}
 use Rattle.words.proofs.stands_at.Tie as tie
@@ -16,7 +15,7 @@ start-requires c κs = search needs
 shared-slice-read-len : tie.Need-shared-slice-read-len
 shared-slice-read-len c =
     let d = c .before .before .before .before .before in
-    omega (arith, lengths-many (d .args .lengths .now) (d .pre .1), d .pre .2)
+    omega (arith, ap length (d .pre .1), lengths-many, d .pre .2)
 
 cast-len : tie.Need-cast-len
 cast-len c = omega (arith, c .shared-slice-known4 .given (c .before .before .before .before .before .args .index))
@@ -37,7 +36,7 @@ part-equal-end : tie.Need-part-equal-end
 part-equal-end c =
     let d = c .before .before .before .before .before in
     let own = ap (λ lengths. getD lengths (d .args .index) 0) (d .pre .1) in
-    omega (arith, c .before .start .ensures, own, letters-within (d .args .index) (d .pre .2), letters-many (d .args .letters .now) (d .pre .0))
+    omega (arith, c .before .start .ensures, own, letters-within (d .args .index) (d .pre .2), ap length (d .pre .0), letters-many)
 
 equal-requires : tie.Need-equal-requires
 equal-requires c κs = search needs

@@ -1,10 +1,10 @@
 -- `start` is `lettersBefore`: what stands before the fourth word below the index, with the lengths of the words from there up to the index.
 use borrow.Author.Needs.{needs}
 use native.Mathlib.Omega.{arith}
-use mathlib.Core.Path.{_≡_, ap, sym, _∙_}
+use mathlib.Core.Path.{_≡_, ap}
 use Prim.Native.Nat.{_+_, _-_, _*_, _/_, _≤_}
 use lib.ListN.{length, getD}
-use Rattle.words.specs.Machinery.Run.{lettersBefore, wordLengths}
+use Rattle.words.specs.Machinery.Run.{lettersBefore}
 use Rattle.words.proofs.Laws.{lengths-many, letters-more, letters-within}
 use Rattle.words.proofs.start.Statement.{statement}
 use Rattle.words.proofs.start.Tie as tie
@@ -33,7 +33,7 @@ sub-k c = search needs
 shared-slice-read-at : tie.Need-shared-slice-read-at Inv-loop μ-loop
 shared-slice-read-at c =
     let d = c .before .before .before .before .before in
-    omega (arith, lengths-many (d .args .lengths .now) (d .pre .0), d .pre .1)
+    omega (arith, ap length (d .pre .0), lengths-many, d .pre .1)
 
 cast-at-2 : tie.Need-cast-at-2 Inv-loop μ-loop
 cast-at-2 c = omega (arith, c .shared-slice-known2 .given (c .before .before .loop .k - 1))

@@ -1,12 +1,13 @@
 -- `word_number` is `wordNumber`: a name that cannot be a word is none, and one that can has the number of the word that it is.
 use borrow.Author.Needs.{needs}
 use native.Mathlib.Omega.{arith}
-use mathlib.Core.Path.{_≡_, ap, sym, _∙_}
+use mathlib.Core.Path.{ap, sym, _∙_}
+use mathlib.Core.Bool.{false≢true}
 use borrow.Author.Tests.{not-true, not-false}
 use Rattle.text.proofs.Laws.{same→eq}
 use Rattle.words.specs.Words.{wordNumber}
 use Rattle.words.specs.Machinery.Run.{word}
-use Rattle.words.proofs.Laws.{clash, no-word, word-numbered, other-word}
+use Rattle.words.proofs.Laws.{no-word, word-numbered, other-word}
 use Rattle.words.proofs.word_number.Statement.{statement}
 use Rattle.words.proofs.word_number.Tie as tie
 
@@ -16,7 +17,7 @@ may-be-word-requires c κs = search needs
 returns : tie.Need-returns
 returns c =
     let name = c .before .before .before .args .name .now in
-    no-word name λ some. clash (sym (not-true _ (c .if1 .taken)) ∙ c .before .may-be-word .ensures .0 some)
+    no-word name λ some. false≢true (sym (not-true _ (c .if1 .taken)) ∙ c .before .may-be-word .ensures .0 some)
 
 candidate-requires : tie.Need-candidate-requires
 candidate-requires c κs = c .before .may-be-word .ensures .1 (not-false _ (c .if1 .left))

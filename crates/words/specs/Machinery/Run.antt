@@ -41,7 +41,8 @@ lettersBefore index = sumOf wordLengths index
 abbrev pub bitAt : ℕ → ℕ → ℕ
 bitAt bits place = bitAnd (bits / (2 ^ place)) 1
 
--- initials have a bit for the first letter of a name, in their upper half, and one for its second letter, in their lower half
+-- initials have the bits of a name's first two letters: those of small letters are in the upper half for the first, in the lower half for the
+-- second
 abbrev pub admits : ℕ → List ℕ → Bool
 admits initials name = eqb (bitAt initials (getD name 0 0 % 64)) 1 && eqb (bitAt initials (getD name 1 0 % 32)) 1
 
@@ -49,15 +50,15 @@ admits initials name = eqb (bitAt initials (getD name 0 0 % 64)) 1 && eqb (bitAt
 abbrev pub slotOf : ℕ → ℕ → ℕ → ℕ
 slotOf len first second = (4 * len + 113 * first + 87 * second) / 2 % 64
 
-abbrev pub slot : List ℕ → ℕ
-slot name = slotOf (length name) (getD name 0 0) (getD name 1 0)
+abbrev pub slotOfName : List ℕ → ℕ
+slotOfName name = slotOf (length name) (getD name 0 0) (getD name 1 0)
 
 -- the number of the word that has a slot, of words of which the first has the number n; 0 where none has it
 abbrev pub numberIn : ℕ → ℕ → List Row → ℕ
 numberIn at n [] = 0
-numberIn at n (row ∷ rows) = cond (eqb (slot (spelling row)) at) n (numberIn at (n + 1) rows)
+numberIn at n (row ∷ rows) = cond (eqb (slotOfName (spelling row)) at) n (numberIn at (n + 1) rows)
 
--- the numbers at some slots, from one on
+-- the numbers at `many` slots, from `at` on
 abbrev pub numbersFrom : ℕ → ℕ → List ℕ
 numbersFrom at zero = []
 numbersFrom at (suc many) = numberIn at 1 words ∷ numbersFrom (at + 1) many
