@@ -25,7 +25,7 @@ extern "C" {
 #define BULDREKSO_SYNTAX_MOST 16385
 #define BULDREKSO_RESPACED_MOST (2 * BULDREKSO_MOST_BYTES + 1)
 
-/* Kinds of records from 1 to 13 for trees and 1 to 73 for syntax: docs/KINDS.md lists them. */
+/* Kinds of records from 1 to 13 for trees and 1 to 94 for syntax: docs/KINDS.md lists them. */
 
 /* Tree records: kind, first byte, byte after the last, records in it with itself, 1 if a line end lies before it. The count is theirs. */
 uint64_t buldrekso_read(const uint8_t *text, size_t text_len, uint32_t *trees, size_t trees_len);

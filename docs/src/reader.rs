@@ -204,10 +204,11 @@ const OPERAND_FUNCTION: Level = 32;
 const FUNCTION: Level = STATEMENT_FUNCTION | OPERAND_FUNCTION;
 const FUNCTION_NAME: Level = FUNCTION << 2;
 const OPERAND_FUNCTION_PARENTHESES: Level = OPERAND_FUNCTION << 4;
-/// Last is `if`.
-const IF: Level = 1024;
-/// The bits after an operator.
+/// Last is a word that has a head, as `if` has.
+const HEAD_WORD: Level = 1024;
+/// The bits after an operator, and after `return`.
 const OPERATOR: Level = PATTERN | OBJECTS;
+const RETURN: Level = PATTERN | OBJECT_ON_SAME_LINE;
 
 // The next 16 bits are of the group: the bits for its first element, and its closer. Above them is the number of `?`s that no `:` has answered.
 const ALL_BUT_NEXT: Level = !0xffff;
@@ -238,7 +239,7 @@ fn after_name(level: Level) -> Level {
 
 #[inline(always)]
 fn after_parentheses(level: Level) -> Level {
-    (level & FUNCTION) << 4 | (level & FUNCTION_NAME) << 2 | level / IF & PATTERN
+    (level & FUNCTION) << 4 | (level & FUNCTION_NAME) << 2 | level / HEAD_WORD & PATTERN
 }
 
 #[inline(always)]
@@ -321,18 +322,35 @@ fn letters_of(text: &[u8], first: u32, end: u32) -> u64 {
     }
 }
 
-// The words that are taken, and those that are refused.
+// The words by what may stand behind them. The others are told apart only once a name is found to be one of them.
 const RETURN_LETTERS: u64 = letters(b"return");
 const FUNCTION_LETTERS: u64 = letters(b"function");
 const IF_LETTERS: u64 = letters(b"if");
 const OPERATORS: [u64; 5] = [letters(b"delete"), letters(b"in"), letters(b"new"), letters(b"typeof"), letters(b"void")];
 const VALUES: [u64; 4] = [letters(b"false"), letters(b"null"), letters(b"this"), letters(b"true")];
 
-static BARRED: [u64; 23] = [
+static OTHERS: [u64; 23] = [
     letters(b"break"), letters(b"case"), letters(b"catch"), letters(b"class"), letters(b"const"), letters(b"continue"), letters(b"debugger"), letters(b"default"),
     letters(b"do"), letters(b"else"), letters(b"enum"), letters(b"export"), letters(b"extends"), letters(b"finally"), letters(b"for"), letters(b"import"),
     letters(b"super"), letters(b"switch"), letters(b"throw"), letters(b"try"), letters(b"var"), letters(b"while"), letters(b"with"),
 ];
+const CASE_LETTERS: u64 = letters(b"case");
+const THROW_LETTERS: u64 = letters(b"throw");
+const HEAD_WORDS: [u64; 3] = [letters(b"for"), letters(b"while"), letters(b"with")];
+const BARRED: [u64; 7] = [
+    letters(b"class"), letters(b"const"), letters(b"enum"), letters(b"export"), letters(b"extends"), letters(b"import"), letters(b"super"),
+];
+
+/// The bits after one of the others.
+fn after_other(letters: u64, first: u32) -> Result<Level, Fault> {
+    match letters {
+        CASE_LETTERS => Ok(OPERATOR),
+        THROW_LETTERS => Ok(RETURN),
+        letters if HEAD_WORDS.contains(&letters) => Ok(PATTERN | HEAD_WORD),
+        letters if BARRED.contains(&letters) => Err((BARRED_WORD, first)),
+        _ => Ok(PATTERN),
+    }
+}
 
 /// The kind of what may be a word, where words are no names, and the bits after it.
 #[inline(always)]
@@ -342,12 +360,12 @@ fn word_or_name(text: &[u8], first: u32, end: u32, level: Level, newline: u32) -
         return Ok(if word { (WORD, OPERATOR) } else { (NAME, after_name(level)) });
     }
     match letters_of(text, first, end) {
-        RETURN_LETTERS => Ok((WORD, PATTERN | OBJECT_ON_SAME_LINE)),
+        RETURN_LETTERS => Ok((WORD, RETURN)),
         FUNCTION_LETTERS => Ok((WORD, PATTERN | STATEMENT_FUNCTION << opens_object(level, newline))),
-        IF_LETTERS => Ok((WORD, PATTERN | IF)),
+        IF_LETTERS => Ok((WORD, PATTERN | HEAD_WORD)),
         letters if OPERATORS.contains(&letters) => Ok((WORD, OPERATOR)),
         letters if VALUES.contains(&letters) => Ok((WORD, 0)),
-        letters if BARRED.contains(&letters) => Err((BARRED_WORD, first)),
+        letters if OTHERS.contains(&letters) => Ok((WORD, after_other(letters, first)?)),
         _ => Ok((NAME, after_name(level))),
     }
 }
@@ -545,7 +563,7 @@ fn fill(text: &[u8], records: &mut [Record]) -> Result<u32, Fault> {
             },
             Start::Semicolon => {
                 // Open `?`s are forgotten.
-                level = level & GROUP | PATTERN;
+                level = level & GROUP | level >> 16 & OBJECTS | PATTERN;
                 at += 1;
                 kind = SIGN;
             }

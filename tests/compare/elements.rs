@@ -50,13 +50,16 @@ pub const WORDS: [&str; 36] = [
     "false",
 ];
 
+/// The future reserved words, which stand in no form.
+const FUTURE_WORDS: [&str; 7] = ["class", "const", "enum", "export", "extends", "import", "super"];
+
 /// The words that are operators, and those that are values.
 pub const WORD_OPERATORS: [&str; 6] = ["delete", "void", "typeof", "new", "in", "instanceof"];
 pub const VALUE_WORDS: [&str; 4] = ["this", "null", "true", "false"];
 
 /// Is a reserved word taken where it is no name?
 pub fn is_taken(word: &str) -> bool {
-    matches!(word, "return" | "function" | "if") || WORD_OPERATORS.contains(&word) || VALUE_WORDS.contains(&word)
+    !FUTURE_WORDS.contains(&word)
 }
 
 /// The 48 signs: punctuators and the two that divide.

@@ -1,5 +1,5 @@
-//! The grammar as rules: document 01's, with the lists of document 02, U2, and the expressions of ES5.1 chapter 11 (U4) as that writes them; and a recogniser that
-//! keeps every way in which the elements so far can be the beginning of a program (Earley's). So `first element with which the elements so far begin no program` is
+//! The grammar as rules: document 01's, with the lists of document 02, U2, and the expressions of ES5.1 chapter 11 (U4) and statements of its chapter 12 (U6) as those
+//! write them; and a recogniser that keeps every way in which the elements so far can be the beginning of a program (Earley's). So `first element with which the elements so far begin no program` is
 //! found by its definition.
 
 use crate::elements::{Class, Element};
@@ -13,6 +13,8 @@ enum Symbol {
     SameLine,
     /// The next element is neither `{` nor `function`.
     StartsNoDeclaration,
+    /// The next element is no `else`.
+    NoElse,
 }
 
 /// A part, and its forms; an empty form is written as `<nothing>`.
@@ -23,14 +25,47 @@ const RULES: &[(&str, &[&str])] = &[
     (
         "Statement",
         &[
-            "{ Statements }",
+            "Block",
+            "var Variables ;",
+            ";",
             "<starts-no-declaration> Expression ;",
-            "if ( Expression ) Statement",
+            "if ( Expression ) Statement else Statement",
+            "if ( Expression ) Statement <no-else>",
+            "do Statement while ( Expression ) ;",
+            "while ( Expression ) Statement",
+            "for ( OptionalExpressionNoIn ; OptionalExpression ; OptionalExpression ) Statement",
+            "for ( var VariablesNoIn ; OptionalExpression ; OptionalExpression ) Statement",
+            "for ( LeftHandSideExpression in Expression ) Statement",
+            "for ( var VariableNoIn in Expression ) Statement",
+            "continue ;",
+            "continue <same-line> name ;",
+            "break ;",
+            "break <same-line> name ;",
             "return ;",
             "return <same-line> Expression ;",
+            "with ( Expression ) Statement",
+            "switch ( Expression ) { Clauses }",
+            "switch ( Expression ) { Clauses DefaultClause Clauses }",
             "name : Statement",
+            "throw <same-line> Expression ;",
+            "try Block Catch",
+            "try Block Finally",
+            "try Block Catch Finally",
+            "debugger ;",
         ],
     ),
+    ("Block", &["{ Statements }"]),
+    ("Variables", &["Variable", "Variables , Variable"]),
+    ("VariablesNoIn", &["VariableNoIn", "VariablesNoIn , VariableNoIn"]),
+    ("Variable", &["name", "name = AssignmentExpression"]),
+    ("VariableNoIn", &["name", "name = AssignmentExpressionNoIn"]),
+    ("OptionalExpression", &["<nothing>", "Expression"]),
+    ("OptionalExpressionNoIn", &["<nothing>", "ExpressionNoIn"]),
+    ("Clauses", &["<nothing>", "Clauses Clause"]),
+    ("Clause", &["case Expression : Statements"]),
+    ("DefaultClause", &["default : Statements"]),
+    ("Catch", &["catch ( name ) Block"]),
+    ("Finally", &["finally Block"]),
     ("Declaration", &["function name Function"]),
     ("Function", &["( ) { Body }", "( Names ) { Body }"]),
     ("Names", &["name", "Names , name"]),
@@ -105,6 +140,17 @@ const RULES: &[(&str, &[&str])] = &[
         ],
     ),
     (
+        "RelationalExpressionNoIn",
+        &[
+            "ShiftExpression",
+            "RelationalExpressionNoIn < ShiftExpression",
+            "RelationalExpressionNoIn > ShiftExpression",
+            "RelationalExpressionNoIn <= ShiftExpression",
+            "RelationalExpressionNoIn >= ShiftExpression",
+            "RelationalExpressionNoIn instanceof ShiftExpression",
+        ],
+    ),
+    (
         "EqualityExpression",
         &[
             "RelationalExpression",
@@ -114,15 +160,33 @@ const RULES: &[(&str, &[&str])] = &[
             "EqualityExpression !== RelationalExpression",
         ],
     ),
+    (
+        "EqualityExpressionNoIn",
+        &[
+            "RelationalExpressionNoIn",
+            "EqualityExpressionNoIn == RelationalExpressionNoIn",
+            "EqualityExpressionNoIn != RelationalExpressionNoIn",
+            "EqualityExpressionNoIn === RelationalExpressionNoIn",
+            "EqualityExpressionNoIn !== RelationalExpressionNoIn",
+        ],
+    ),
     ("BitwiseANDExpression", &["EqualityExpression", "BitwiseANDExpression & EqualityExpression"]),
+    ("BitwiseANDExpressionNoIn", &["EqualityExpressionNoIn", "BitwiseANDExpressionNoIn & EqualityExpressionNoIn"]),
     ("BitwiseXORExpression", &["BitwiseANDExpression", "BitwiseXORExpression ^ BitwiseANDExpression"]),
+    ("BitwiseXORExpressionNoIn", &["BitwiseANDExpressionNoIn", "BitwiseXORExpressionNoIn ^ BitwiseANDExpressionNoIn"]),
     ("BitwiseORExpression", &["BitwiseXORExpression", "BitwiseORExpression | BitwiseXORExpression"]),
+    ("BitwiseORExpressionNoIn", &["BitwiseXORExpressionNoIn", "BitwiseORExpressionNoIn | BitwiseXORExpressionNoIn"]),
     ("LogicalANDExpression", &["BitwiseORExpression", "LogicalANDExpression && BitwiseORExpression"]),
+    ("LogicalANDExpressionNoIn", &["BitwiseORExpressionNoIn", "LogicalANDExpressionNoIn && BitwiseORExpressionNoIn"]),
     ("LogicalORExpression", &["LogicalANDExpression", "LogicalORExpression || LogicalANDExpression"]),
+    ("LogicalORExpressionNoIn", &["LogicalANDExpressionNoIn", "LogicalORExpressionNoIn || LogicalANDExpressionNoIn"]),
     ("ConditionalExpression", &["LogicalORExpression", "LogicalORExpression ? AssignmentExpression : AssignmentExpression"]),
+    ("ConditionalExpressionNoIn", &["LogicalORExpressionNoIn", "LogicalORExpressionNoIn ? AssignmentExpression : AssignmentExpressionNoIn"]),
     ("AssignmentExpression", &["ConditionalExpression", "LeftHandSideExpression AssignmentOperator AssignmentExpression"]),
+    ("AssignmentExpressionNoIn", &["ConditionalExpressionNoIn", "LeftHandSideExpression AssignmentOperator AssignmentExpressionNoIn"]),
     ("AssignmentOperator", &["=", "*=", "/=", "%=", "+=", "-=", "<<=", ">>=", ">>>=", "&=", "^=", "|="]),
     ("Expression", &["AssignmentExpression", "Expression , AssignmentExpression"]),
+    ("ExpressionNoIn", &["AssignmentExpressionNoIn", "ExpressionNoIn , AssignmentExpressionNoIn"]),
 ];
 
 struct Rule {
@@ -159,6 +223,7 @@ fn symbol(word: &'static str, parts: &HashMap<&str, usize>) -> Symbol {
     match word {
         "<same-line>" => Symbol::SameLine,
         "<starts-no-declaration>" => Symbol::StartsNoDeclaration,
+        "<no-else>" => Symbol::NoElse,
         "name" => Symbol::Element(Class::Name),
         "word" => Symbol::Element(Class::WordAsName),
         "number" => Symbol::Element(Class::Number),
@@ -232,7 +297,7 @@ impl Grammar {
                 };
                 match self.next(item.state) {
                     Some(Symbol::Element(_)) => {}
-                    Some(symbol @ (Symbol::SameLine | Symbol::StartsNoDeclaration)) => {
+                    Some(symbol @ (Symbol::SameLine | Symbol::StartsNoDeclaration | Symbol::NoElse)) => {
                         if allowed(symbol, next_element) {
                             add(&mut current, item.state + 1, item.origin);
                         }
@@ -287,6 +352,7 @@ impl Grammar {
 fn allowed(condition: Symbol, next: Option<&Element>) -> bool {
     match condition {
         Symbol::SameLine => next.is_none_or(|element| !element.line),
+        Symbol::NoElse => next.is_none_or(|element| element.class != Class::Word("else")),
         _ => next.is_none_or(|element| !matches!(element.class, Class::Sign("{") | Class::Word("function"))),
     }
 }
@@ -303,7 +369,7 @@ impl Ways<'_> {
         match symbol {
             Symbol::Element(_) => false,
             Symbol::Part(part) => self.grammar.empty[part],
-            Symbol::SameLine | Symbol::StartsNoDeclaration => true,
+            Symbol::SameLine | Symbol::StartsNoDeclaration | Symbol::NoElse => true,
         }
     }
 

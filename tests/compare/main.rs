@@ -345,6 +345,16 @@ impl Comparison {
         }
     }
 
+    /// The same between two texts, joined directly.
+    fn sequences_within(&mut self, before: &str, pieces: &[&str], most: usize, after: &str) {
+        for count in 0..=most {
+            for number in 0..pieces.len().pow(count as u32) {
+                let chosen: String = digits(number, count, pieces.len()).map(|digit| pieces[digit]).collect();
+                self.text([before, &chosen, after].concat().as_bytes(), count <= 1);
+            }
+        }
+    }
+
     fn walks(&mut self, number: usize) {
         for _ in 0..number {
             let size = 1 + self.random.below(30);
@@ -402,7 +412,7 @@ impl Comparison {
         }
     }
 
-    /// The implementation here against the readings that document 01 gives, and document 02 for U1 and U4.
+    /// The implementation here against the readings that document 01 gives, and document 02 for U1, U4 and U6.
     fn readings(&mut self) {
         type Case = (&'static str, Answer, Answer);
         let cases: &[Case] = &[
@@ -427,7 +437,8 @@ impl Comparison {
             ("a//b", Ok(1), Err((13, 4))),
             ("({", Err((11, 1)), Err((11, 1))),
             ("({)", Err((10, 2)), Err((10, 2))),
-            ("while", Err((7, 0)), Err((7, 0))),
+            ("while", Ok(1), Err((13, 5))),
+            ("class", Err((7, 0)), Err((7, 0))),
             ("1.x", Err((6, 0)), Err((6, 0))),
             ("a.if(b)/c/;", Ok(9), Err((13, 10))),
             ("a.if(b)/c/d;", Ok(10), Ok(10)),
@@ -441,6 +452,59 @@ impl Comparison {
             ("a,b,c;", Ok(6), Ok(7)),
             ("1..a;", Ok(4), Ok(4)),
             ("08", Err((6, 0)), Err((6, 0))),
+            (";", Ok(1), Ok(2)),
+            ("while(a)/b/;", Ok(5), Ok(5)),
+            ("with(a)/b/;", Ok(5), Ok(5)),
+            ("for(a)/b/;", Ok(5), Err((13, 5))),
+            ("do;while(a)/b/;", Ok(7), Err((13, 11))),
+            ("(a;{}/b/c);", Ok(9), Err((13, 2))),
+            ("a;{}/b/;", Ok(5), Ok(6)),
+            ("case{}/a/b", Ok(6), Err((13, 0))),
+            ("case\n{}/a/b", Ok(6), Err((13, 0))),
+            ("throw{}/a/b;", Ok(7), Ok(7)),
+            ("throw\n{}/a/;", Ok(4), Err((13, 6))),
+            ("throw\na;", Ok(3), Err((13, 6))),
+            ("if(a)if(b);else;", Ok(9), Ok(8)),
+            ("break\na;", Ok(3), Err((13, 6))),
+            ("var a,b=1;continue;debugger;", Ok(11), Ok(7)),
+            ("for(;;)/a/;", Ok(6), Ok(4)),
+            ("for(;{}/a;)/b/;", Ok(9), Ok(7)),
+            ("for(a;{}/b/c;{}/d)/e/;", Ok(15), Ok(13)),
+            ("for(var a=b,c;;d)e;", Ok(13), Ok(9)),
+            ("for(a in b)/c/;", Ok(7), Ok(6)),
+            ("for(var a in b);", Ok(7), Ok(6)),
+            ("for(var a=b in c);", Ok(9), Ok(7)),
+            ("for(new a.b in{}/c);", Ok(11), Ok(9)),
+            ("for(a?b in c:d;;);", Ok(12), Ok(9)),
+            ("for(a?b:c in d;;);", Ok(12), Err((13, 10))),
+            ("for((a in b);;);", Ok(9), Ok(7)),
+            ("for(a in b;;);", Ok(8), Err((13, 10))),
+            ("for(a=b in c);", Ok(8), Err((13, 8))),
+            ("for(a++ in b);", Ok(7), Err((13, 8))),
+            ("for(-a in b);", Ok(7), Err((13, 7))),
+            ("for(var a,b in c);", Ok(9), Err((13, 12))),
+            ("for(var a in b,c);", Ok(9), Ok(8)),
+            ("for(;;", Err((11, 3)), Err((11, 3))),
+            ("for(;)a;", Ok(5), Err((13, 5))),
+            ("for(a in);", Ok(5), Err((13, 8))),
+            ("switch(a){}/b/;", Ok(6), Ok(5)),
+            ("switch(a){case{}/b:{}/c/;default:}", Ok(14), Ok(11)),
+            ("switch(a){case\n{}/b/c:}", Ok(11), Ok(9)),
+            ("switch(a){case b?c:d:{}/e/;}", Ok(14), Ok(11)),
+            ("switch(a){default:default:}", Ok(8), Err((13, 18))),
+            ("switch(a){case b:default:case c:}", Ok(12), Ok(8)),
+            ("switch(a){b;}", Ok(6), Err((13, 10))),
+            ("switch(a){case b:function f(){}}", Ok(11), Err((13, 17))),
+            ("switch(a){case b}", Ok(6), Err((13, 16))),
+            ("try{}catch(a){}/b/;", Ok(8), Ok(7)),
+            ("try{}finally{}/b/;", Ok(6), Ok(7)),
+            ("try{}catch(a){}finally{}", Ok(8), Ok(7)),
+            ("try{}", Ok(2), Err((13, 5))),
+            ("try{};", Ok(3), Err((13, 5))),
+            ("try;", Ok(2), Err((13, 3))),
+            ("try{}catch{}", Ok(4), Err((13, 10))),
+            ("try{}finally{}catch(a){}", Ok(8), Err((13, 14))),
+            ("if(a)try{}catch(b){}else;", Ok(11), Ok(9)),
         ];
         for &(text, trees, records) in cases {
             let text = text.as_bytes();
@@ -495,6 +559,11 @@ fn compare(number: usize) -> bool {
     comparison.short_texts();
     comparison.sequences(texts::PIECES, 4);
     comparison.sequences(texts::OPERATORS, 4);
+    comparison.sequences(texts::STATEMENTS, 4);
+    comparison.sequences(texts::NESTS, 6);
+    for (before, pieces, most, after) in texts::WITHIN {
+        comparison.sequences_within(before, pieces, *most, after);
+    }
     comparison.walks(number / 4);
     comparison.random_texts(number);
     comparison.long_texts(number / 2000);

@@ -1,4 +1,4 @@
-//! Reading and respacing, as document 01 states them: the prefix rule, tree records, refusals 1 to 12 and 15. With document 02, U1, U2 and U4.
+//! Reading and respacing, as document 01 states them: the prefix rule, tree records, refusals 1 to 12 and 15. With document 02, U1, U2, U4 and U6.
 
 use crate::elements::{element, gap, is_taken, Class, Element, Fault, VALUE_WORDS, WORD_OPERATORS};
 
@@ -72,10 +72,10 @@ impl Level {
             return self.expression;
         };
         match (last.kind, last.class) {
-            (WORD, Class::Word("return")) => !line,
-            (WORD, Class::Word(word)) => WORD_OPERATORS.contains(&word),
-            (SIGN, Class::Sign(":")) => self.expression,
-            (SIGN, Class::Sign("." | ";")) => false,
+            (WORD, Class::Word("return" | "throw")) => !line,
+            (WORD, Class::Word(word)) => word == "case" || WORD_OPERATORS.contains(&word),
+            (SIGN, Class::Sign(":" | ";")) => self.expression,
+            (SIGN, Class::Sign(".")) => false,
             (SIGN | BEFORE | ANSWER, _) => true,
             _ => false,
         }
@@ -100,7 +100,7 @@ impl Level {
         };
         match (last.kind, last.class) {
             (WORD, Class::Word(word)) => !VALUE_WORDS.contains(&word),
-            (PARENTHESES, _) => self.is_word(2, "if"),
+            (PARENTHESES, _) => ["if", "while", "for", "with"].into_iter().any(|word| self.is_word(2, word)),
             (SIGN | BEFORE | ANSWER | BLOCK, _) => true,
             _ => false,
         }

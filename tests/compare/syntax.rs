@@ -1,4 +1,4 @@
-//! The syntax tree of a program, by recursive descent over all its elements, closers included; expressions in the parts of ES5.1 chapter 11. Where it fails is
+//! The syntax tree of a program, by recursive descent over all its elements, closers included; expressions and statements in the parts of ES5.1 chapters 11 and 12. Where it fails is
 //! compared with the recogniser, which knows no order of trying.
 
 use crate::elements::{Class, Element};
@@ -8,7 +8,7 @@ pub type Record = [u32; 3];
 /// Index of the next element, or of the one where the elements cannot go on (their number, if they end too soon).
 type Step = Result<usize, usize>;
 
-/// The same, and whether what was passed may be assigned to.
+/// The same, and whether what was passed may be assigned to: a LeftHandSideExpression and no more.
 type Operand = Result<(usize, bool), usize>;
 
 /// Syntax records, and the marks of the `:`s that answer a `?`.
@@ -61,6 +61,26 @@ impl Descent<'_> {
         }
     }
 
+    fn is_word(&self, at: usize, word: &str) -> bool {
+        matches!(self.class(at), Some(Class::Word(found)) if found == word)
+    }
+
+    fn expect_word(&self, at: usize, word: &str) -> Step {
+        if self.is_word(at, word) {
+            Ok(at + 1)
+        } else {
+            Err(at)
+        }
+    }
+
+    /// The element there, unless a line end lies before it.
+    fn on_same_line(&self, at: usize) -> Step {
+        match self.elements.get(at) {
+            Some(element) if element.line => Err(at),
+            _ => Ok(at),
+        }
+    }
+
     fn expect_name(&self, at: usize) -> Step {
         if self.class(at) == Some(Class::Name) {
             Ok(at + 1)
@@ -96,34 +116,78 @@ impl Descent<'_> {
     fn statement(&mut self, at: usize) -> Step {
         let start = self.records.len();
         match (self.class(at), self.class(at + 1)) {
-            (Some(Class::Sign("{")), _) => {
-                let mut next = at + 1;
-                while !self.is_sign(next, "}") {
-                    next = self.statement(next)?;
-                }
-                self.made(16, at, start);
-                Ok(next + 1)
+            (Some(Class::Sign("{")), _) => self.block(at),
+            (Some(Class::Word("var")), _) => {
+                let (next, _) = self.variables(at, true)?;
+                self.expect(next, ";")
+            }
+            (Some(Class::Sign(";")), _) => {
+                self.made(76, at, start);
+                Ok(at + 1)
             }
             (Some(Class::Word("if")), _) => {
                 let next = self.parenthesised(at + 1)?;
                 let next = self.statement(next)?;
                 self.made(18, at, start);
+                if self.class(next) != Some(Class::Word("else")) {
+                    return Ok(next);
+                }
+                let end = self.statement(next + 1)?;
+                self.made(77, next, start);
+                Ok(end)
+            }
+            (Some(Class::Word("do")), _) => {
+                let next = self.statement(at + 1)?;
+                let next = self.expect_word(next, "while")?;
+                let next = self.parenthesised(next)?;
+                let next = self.expect(next, ";")?;
+                self.made(78, at, start);
                 Ok(next)
             }
-            (Some(Class::Word("return")), Some(Class::Sign(";"))) => {
-                self.made(14, at, start);
+            (Some(Class::Word(word @ ("while" | "with"))), _) => {
+                let next = self.parenthesised(at + 1)?;
+                let next = self.statement(next)?;
+                self.made(if word == "while" { 79 } else { 86 }, at, start);
+                Ok(next)
+            }
+            (Some(Class::Word("for")), _) => {
+                let (next, kind) = self.head(at + 1)?;
+                let next = self.statement(next)?;
+                self.made(kind, at, start);
+                Ok(next)
+            }
+            (Some(Class::Word("switch")), _) => {
+                let next = self.parenthesised(at + 1)?;
+                let next = self.expect(next, "{")?;
+                let next = self.clauses(next)?;
+                self.made(87, at, start);
+                Ok(next)
+            }
+            (Some(Class::Word("try")), _) => {
+                let next = self.block(at + 1)?;
+                let next = self.handlers(next)?;
+                self.made(91, at, start);
+                Ok(next)
+            }
+            (Some(Class::Word(word @ ("return" | "continue" | "break" | "debugger"))), Some(Class::Sign(";"))) => {
+                self.made(bare_kind(word), at, start);
                 Ok(at + 2)
             }
-            (Some(Class::Word("return")), Some(_)) => {
-                if self.elements[at + 1].line {
-                    return Err(at + 1);
-                }
-                let next = self.expression(at + 1)?;
+            (Some(Class::Word(word @ ("continue" | "break"))), _) => {
+                let label = self.on_same_line(at + 1)?;
+                let next = self.expect_name(label)?;
                 let next = self.expect(next, ";")?;
-                self.made(15, at, start);
+                self.made(if word == "continue" { 83 } else { 85 }, at, start);
                 Ok(next)
             }
-            (Some(Class::Word("return")), None) => Err(at + 1),
+            (Some(Class::Word(word @ ("return" | "throw"))), _) => {
+                let next = self.on_same_line(at + 1)?;
+                let (next, _) = self.expression(next, true)?;
+                let next = self.expect(next, ";")?;
+                self.made(if word == "return" { 15 } else { 90 }, at, start);
+                Ok(next)
+            }
+            (Some(Class::Word("debugger")), _) => Err(at + 1),
             (Some(Class::Name), Some(Class::Sign(":"))) => {
                 let next = self.statement(at + 2)?;
                 self.made(17, at, start);
@@ -131,12 +195,111 @@ impl Descent<'_> {
             }
             (Some(Class::Word("function")), _) => Err(at),
             _ => {
-                let next = self.expression(at)?;
+                let (next, _) = self.expression(at, true)?;
                 self.expect(next, ";")?;
                 self.made(13, next, start);
                 Ok(next + 1)
             }
         }
+    }
+
+    fn block(&mut self, at: usize) -> Step {
+        let start = self.records.len();
+        let mut next = self.expect(at, "{")?;
+        while !self.is_sign(next, "}") {
+            next = self.statement(next)?;
+        }
+        self.made(16, at, start);
+        Ok(next + 1)
+    }
+
+    /// A `var` with its variables, each with or without an initialiser, in which `in` is an operator or not; and whether there is only one.
+    fn variables(&mut self, at: usize, within: bool) -> Operand {
+        let start = self.records.len();
+        let mut name = at + 1;
+        loop {
+            let part = self.records.len();
+            let mut next = self.expect_name(name)?;
+            if self.is_sign(next, "=") {
+                next = self.assignment(next + 1, within)?.0;
+            }
+            self.made(75, name, part);
+            if !self.is_sign(next, ",") {
+                self.made(74, at, start);
+                return Ok((next, name == at + 1));
+            }
+            name = next + 1;
+        }
+    }
+
+    /// The head of a `for`, and the kind that it makes of it.
+    fn head(&mut self, at: usize) -> Result<(usize, u32), usize> {
+        let first = self.expect(at, "(")?;
+        let (next, one) = match self.class(first) {
+            Some(Class::Sign(";")) => (first, false),
+            Some(Class::Word("var")) => self.variables(first, false)?,
+            _ => self.expression(first, false)?,
+        };
+        if one && self.is_word(next, "in") {
+            let (next, _) = self.expression(next + 1, true)?;
+            return Ok((self.expect(next, ")")?, 81));
+        }
+        let second = self.expect(next, ";")?;
+        let third = self.expression_before(second, ";")?;
+        Ok((self.expression_before(third, ")")?, 80))
+    }
+
+    /// An expression, or none, and the sign behind it.
+    fn expression_before(&mut self, at: usize, sign: &str) -> Step {
+        if self.is_sign(at, sign) {
+            return Ok(at + 1);
+        }
+        let (next, _) = self.expression(at, true)?;
+        self.expect(next, sign)
+    }
+
+    /// The clauses of a `switch` behind their `{`.
+    fn clauses(&mut self, at: usize) -> Step {
+        let mut default = false;
+        let mut word = at;
+        while !self.is_sign(word, "}") {
+            let start = self.records.len();
+            let (colon, kind) = match self.class(word) {
+                Some(Class::Word("case")) => (self.expression(word + 1, true)?.0, 88),
+                Some(Class::Word("default")) if !default => (word + 1, 89),
+                _ => return Err(word),
+            };
+            default |= kind == 89;
+            let mut next = self.expect(colon, ":")?;
+            while !matches!(self.class(next), Some(Class::Sign("}") | Class::Word("case" | "default"))) {
+                next = self.statement(next)?;
+            }
+            self.made(kind, word, start);
+            word = next;
+        }
+        Ok(word + 1)
+    }
+
+    /// What stands behind the block of a `try`: a `catch`, a `finally` or both.
+    fn handlers(&mut self, at: usize) -> Step {
+        let mut next = at;
+        if self.is_word(at, "catch") {
+            let start = self.records.len();
+            let name = self.expect(at + 1, "(")?;
+            let closer = self.expect_name(name)?;
+            let block = self.expect(closer, ")")?;
+            next = self.block(block)?;
+            self.made(92, at, start);
+        }
+        if self.is_word(next, "finally") {
+            let (word, start) = (next, self.records.len());
+            next = self.block(word + 1)?;
+            self.made(93, word, start);
+        }
+        if next == at {
+            return Err(at);
+        }
+        Ok(next)
     }
 
     /// A function whose word stands at `at`, from its parameters on.
@@ -160,7 +323,7 @@ impl Descent<'_> {
 
     fn parenthesised(&mut self, at: usize) -> Step {
         let next = self.expect(at, "(")?;
-        let next = self.expression(next)?;
+        let (next, _) = self.expression(next, true)?;
         self.expect(next, ")")
     }
 
@@ -168,9 +331,9 @@ impl Descent<'_> {
     fn arguments(&mut self, at: usize) -> Step {
         let mut next = at;
         if !self.is_sign(next, ")") {
-            next = self.assignment(next)?;
+            next = self.assignment(next, true)?.0;
             while self.is_sign(next, ",") {
-                next = self.assignment(next + 1)?;
+                next = self.assignment(next + 1, true)?.0;
             }
         }
         self.expect(next, ")")
@@ -184,7 +347,7 @@ impl Descent<'_> {
                 Some(Class::Sign("]")) => return Ok(next + 1),
                 Some(Class::Sign(",")) => next += 1,
                 _ => {
-                    next = self.assignment(next)?;
+                    next = self.assignment(next, true)?.0;
                     if !self.is_sign(next, "]") {
                         next = self.expect(next, ",")?;
                     }
@@ -199,7 +362,7 @@ impl Descent<'_> {
         while !self.is_sign(next, "}") {
             next = self.expect_identifier_name(next)?;
             next = self.expect(next, ":")?;
-            next = self.assignment(next)?;
+            next = self.assignment(next, true)?.0;
             if !self.is_sign(next, "}") {
                 next = self.expect(next, ",")?;
             }
@@ -207,49 +370,51 @@ impl Descent<'_> {
         Ok(next + 1)
     }
 
-    fn expression(&mut self, at: usize) -> Step {
+    /// Expression, in which `in` is an operator, or ExpressionNoIn; and so those below.
+    fn expression(&mut self, at: usize, within: bool) -> Operand {
         let start = self.records.len();
-        let mut next = self.assignment(at)?;
+        let (mut next, mut target) = self.assignment(at, within)?;
         while self.is_sign(next, ",") {
             let sign = next;
-            next = self.assignment(sign + 1)?;
+            next = self.assignment(sign + 1, within)?.0;
+            target = false;
             self.made(73, sign, start);
         }
-        Ok(next)
+        Ok((next, target))
     }
 
     /// AssignmentExpression and ConditionalExpression, which start alike.
-    fn assignment(&mut self, at: usize) -> Step {
+    fn assignment(&mut self, at: usize, within: bool) -> Operand {
         let start = self.records.len();
-        let (next, target) = self.binary(at, LOGICAL_OR)?;
+        let (next, target) = self.binary(at, LOGICAL_OR, within)?;
         if self.is_sign(next, "?") {
-            let colon = self.assignment(next + 1)?;
+            let (colon, _) = self.assignment(next + 1, true)?;
             let second = self.expect(colon, ":")?;
-            let end = self.assignment(second)?;
+            let (end, _) = self.assignment(second, within)?;
             self.answers.push(self.marks[colon]);
             self.made(61, next, start);
-            return Ok(end);
+            return Ok((end, false));
         }
         match self.class(next).and_then(assignment_kind) {
             Some(kind) if target => {
-                let end = self.assignment(next + 1)?;
+                let (end, _) = self.assignment(next + 1, within)?;
                 self.made(kind, next, start);
-                Ok(end)
+                Ok((end, false))
             }
-            _ => Ok(next),
+            _ => Ok((next, target)),
         }
     }
 
     /// The expressions from LogicalORExpression to MultiplicativeExpression, and UnaryExpression behind them. All group to the left.
-    fn binary(&mut self, at: usize, level: u32) -> Operand {
+    fn binary(&mut self, at: usize, level: u32, within: bool) -> Operand {
         if level > MULTIPLICATIVE {
             return self.unary(at);
         }
         let start = self.records.len();
-        let (mut next, mut target) = self.binary(at, level + 1)?;
-        while let Some((kind, _)) = self.class(next).and_then(binary_kind).filter(|(_, found)| *found == level) {
+        let (mut next, mut target) = self.binary(at, level + 1, within)?;
+        while let Some((kind, _)) = self.class(next).and_then(binary_kind).filter(|(kind, found)| *found == level && (within || *kind != IN)) {
             let sign = next;
-            next = self.binary(sign + 1, level + 1)?.0;
+            next = self.binary(sign + 1, level + 1, within)?.0;
             target = false;
             self.made(kind, sign, start);
         }
@@ -312,7 +477,7 @@ impl Descent<'_> {
             match self.class(next) {
                 Some(Class::Sign("[")) => {
                     let group = next;
-                    next = self.expression(group + 1)?;
+                    next = self.expression(group + 1, true)?.0;
                     next = self.expect(next, "]")?;
                     self.made(22, group, start);
                 }
@@ -363,8 +528,19 @@ impl Descent<'_> {
     }
 }
 
+/// The kind of the part of a word with `;` behind it.
+fn bare_kind(word: &str) -> u32 {
+    match word {
+        "return" => 14,
+        "continue" => 82,
+        "break" => 84,
+        _ => 94,
+    }
+}
+
 const LOGICAL_OR: u32 = 1;
 const MULTIPLICATIVE: u32 = 10;
+const IN: u32 = 51;
 
 /// The kind of a binary operator's part, and its level, LogicalORExpression's lowest.
 fn binary_kind(class: Class) -> Option<(u32, u32)> {
@@ -383,7 +559,7 @@ fn binary_kind(class: Class) -> Option<(u32, u32)> {
         Class::Sign("<=") => (48, 7),
         Class::Sign(">=") => (49, 7),
         Class::Word("instanceof") => (50, 7),
-        Class::Word("in") => (51, 7),
+        Class::Word("in") => (IN, 7),
         Class::Sign("<<") => (43, 8),
         Class::Sign(">>") => (44, 8),
         Class::Sign(">>>") => (45, 8),

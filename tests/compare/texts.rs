@@ -36,8 +36,26 @@ pub const PIECES: &[&str] = &[
 /// The pieces of operators, likewise.
 pub const OPERATORS: &[&str] = &["a", ";", "/", "/a/", "(", ")", "{", "}", ":", ",", "?", "++", "-", "!", "*", "&&", "=", "-=", "new", "delete", "in", "this", "if", "\n"];
 
+/// The pieces of statements, likewise.
+pub const STATEMENTS: &[&str] = &[
+    "a", ";", "/", "/a/", "(", ")", "(a)", "{", "}", "a:", ",", "=", "var ", "else ", "do ", "while", "with", "for", "if(a)", "throw ", "break ", "case ", "debugger", "\n",
+];
+
+/// The pieces of statements that hold others, of which longer sequences are compared.
+pub const NESTS: &[&str] = &["if(a)", "while(a)", "do ", "else ", "a:", "{", "}", ";"];
+
+/// What stands around pieces of which every sequence of at most so many is compared: the heads of `for`, clauses, and `try`s.
+pub const WITHIN: &[(&str, &[&str], usize, &str)] = &[
+    ("for(", &["a", ";", " in ", "var ", "=", ",", "?", ":", "/", "{}"], 5, ");"),
+    ("for(", &["a", ".a", "(a in a)", " in ", "new ", "-", "++", "=a", ";", "var a", ","], 4, ";)/a/;"),
+    ("switch(a){", &["case ", "default", ":", "a", ";", "{}", "/a/", "?"], 5, "}"),
+    ("switch(a){case a", &[":", "if(a)", "else ", ";", "case{}", "default:", "a:", "switch(a){", "}"], 5, "}"),
+    ("", &["try", "{}", "catch", "(a)", "finally", ";", "/a/", "if(a)", "else "], 5, ""),
+    ("if(a)", &["for(;;)", "for(a in a)", "try{}catch(a){}", "finally{}", "else ", ";", "do ", "while(a)", "a:"], 5, ";"),
+];
+
 /// Bytes of which every text of at most so many is compared.
-pub const ALPHABETS: &[(&str, usize)] = &[("a+-/?:{}();", 5), ("a!=/;,", 6), ("0.5ex", 6), ("a+/;\n", 6), ("a?:/{};", 6), ("<>=a&|", 5), ("1.e+-a", 6)];
+pub const ALPHABETS: &[(&str, usize)] = &[("a+-/?:{}();", 5), ("a/{}();", 6), ("a!=/;,", 6), ("0.5ex", 6), ("a+/;\n", 6), ("a?:/{};", 6), ("<>=a&|", 5), ("1.e+-a", 6)];
 
 /// Pieces for longer random sequences: the same, and whole phrases.
 const PHRASES: &[&str] = &[
@@ -47,6 +65,10 @@ const PHRASES: &[&str] = &[
     ",", ",", "[", "]", "[a]", "[,]", "(a,b)", "()", "function(){}", "function(a,b){", "{a:1,b:2,}", "{if:a,", ",in:b", ",{}", "[a,,b,]", ",/a/",
     "++", "--", "++a", "a++", "\n++", "!", "~", "-", "*", "%", "<", ">>>", "<=", "===", "&&", "||", "|", "^", "?", "?", ":", "? a :", "?{}", ":{}", "++{}", "+=", "/=", ">>>=", "this", "null",
     "true", "false", "new", "new a", "new a(b)", "delete", "void", "typeof", " in ", " instanceof ", "typeof{}", "in{}", "this{}", "0x1F", "1.5e-3", ".5", "5.", "1..a", "0x", "1e", "08", "3in",
+    "var ", "var a,b=", "else ", "else{}", "else/a/", ";else ", "if(a);else;", "do ", "do;while(a);", "do{", "}while(a)", "while(a)", "while(a)/b/", "with(a)", "with(a){}", "for", "for(;;)", "for(;{}",
+    "for(a in b)/c/", "for(", "for(var ", "for(var a=b in c)", "for(var a in", "for(a?b in c:", "for({}/a;", "(;", ";;", ";)", " in{}", ";{}", "switch(a){", "switch(a){}", "case ", "case a:", "case{}", "case\n{}",
+    "case/a/:", "default:", "default:}", "try", "try{", "try{}", "}catch(a){", "catch(a){}", "catch(", "}finally{", "finally{}", "finally", "try{}catch(a){}", "throw ", "throw a;", "throw{}", "throw\n{}", "break;", "break a;", "break\n",
+    "continue;", "continue a;", "debugger;", "class",
 ];
 
 const NAMES: &[&str] = &["a", "b", "f", "$", "_x1", "ifx", "returns", "x", "nulls", "i"];
@@ -61,6 +83,26 @@ const STRINGS: &[&str] = &["'s'", "\"q\\\"\"", "'\\''", "''", "'//'", "\"}\"", "
 const PATTERNS: &[&str] = &["/a/", "/[/]/g", "/=/", "/\\//i", "/)/", "/{/", "/[\\]/]/", "/]/", "/'/", "/ /", "/[[]/0$"];
 const GAPS: &[&str] = &["", "", "", "", "", " ", " ", "\n", "\t", "/*c*/", "/*\n*/", "//c\n", "\r\n", " // '\r", "\u{b}\u{c}"];
 const GAPS_WITHOUT_LINE_END: &[&str] = &["", "", " ", "\t", "/*c*/", "/***/"];
+
+/// Where an expression stands: at the start of a statement, which neither `{` nor `function` starts; in the head of a `for` before what ends its first part, where
+/// `in` is no operator; or elsewhere.
+#[derive(Clone, Copy, PartialEq)]
+enum Place {
+    Statement,
+    Head,
+    Other,
+}
+
+impl Place {
+    /// That of what follows the first part.
+    fn behind(self) -> Self {
+        if self == Place::Head {
+            Place::Head
+        } else {
+            Place::Other
+        }
+    }
+}
 
 /// A random program: its elements, with those told apart before which no line end may stand.
 struct Maker<'a> {
@@ -103,25 +145,78 @@ impl Maker<'_> {
     }
 
     fn statement(&mut self) {
-        let choice = if self.small() { 9 } else { self.random.below(10) };
+        let choice = if self.small() { 9 } else { self.random.below(26) };
         match choice {
-            0 => {
-                self.put(&["{"]);
-                self.open += 1;
-                self.list(false);
-                self.open -= 1;
-                self.put(&["}"]);
-            }
+            0 => self.block(),
             1 | 2 => {
                 self.put(&["if"]);
                 self.parentheses();
                 self.statement();
             }
-            3 => self.put(&["return", ";"]),
+            // An `else` may come to stand behind another `if` than its own, and the text is a program all the same.
+            10 | 11 => {
+                self.put(&["if"]);
+                self.parentheses();
+                self.statement();
+                self.put(&["else"]);
+                self.statement();
+            }
+            12 => {
+                self.put(&["do"]);
+                self.statement();
+                self.put(&["while"]);
+                self.parentheses();
+                self.put(&[";"]);
+            }
+            13 | 14 => {
+                let word = self.random.of(&["while", "with"]);
+                self.put(&[word]);
+                self.parentheses();
+                self.statement();
+            }
+            15 => {
+                let count = 1 + self.random.below(3);
+                self.variables(count, Place::Other);
+                self.put(&[";"]);
+            }
+            20..=22 => {
+                self.put(&["for", "("]);
+                self.open += 1;
+                self.head();
+                self.open -= 1;
+                self.put(&[")"]);
+                self.statement();
+            }
+            23 => self.switch(),
+            24 => {
+                self.put(&["try"]);
+                self.block();
+                let handlers = self.random.below(3);
+                if handlers > 0 {
+                    let name = self.random.of(NAMES);
+                    self.put(&["catch", "(", name, ")"]);
+                    self.block();
+                }
+                if handlers < 2 {
+                    self.put(&["finally"]);
+                    self.block();
+                }
+            }
+            16 => self.put(&[";"]),
+            3 => {
+                let word = self.random.of(&["return", "break", "continue", "debugger"]);
+                self.put(&[word, ";"]);
+            }
+            17 => {
+                let (word, name) = (self.random.of(&["break", "continue"]), self.random.of(NAMES));
+                self.same_line.push(self.elements.len() + 1);
+                self.put(&[word, name, ";"]);
+            }
             4 | 5 => {
-                self.put(&["return"]);
+                let word = self.random.of(&["return", "throw"]);
+                self.put(&[word]);
                 self.same_line.push(self.elements.len());
-                self.expression(false);
+                self.expression(Place::Other);
                 self.put(&[";"]);
             }
             6 => {
@@ -130,10 +225,80 @@ impl Maker<'_> {
                 self.statement();
             }
             _ => {
-                self.expression(true);
+                self.expression(Place::Statement);
                 self.put(&[";"]);
             }
         }
+    }
+
+    fn block(&mut self) {
+        self.put(&["{"]);
+        self.open += 1;
+        self.list(false);
+        self.open -= 1;
+        self.put(&["}"]);
+    }
+
+    fn variables(&mut self, count: usize, place: Place) {
+        self.put(&["var"]);
+        for index in 0..count {
+            if index > 0 {
+                self.put(&[","]);
+            }
+            let name = self.random.of(NAMES);
+            self.put(&[name]);
+            if self.random.one_in(2) {
+                self.put(&["="]);
+                self.assign(place);
+            }
+        }
+    }
+
+    fn head(&mut self) {
+        match self.random.below(5) {
+            0 => self.target(Place::Other),
+            1 => self.variables(1, Place::Head),
+            choice => {
+                match choice {
+                    2 => self.expression(Place::Head),
+                    3 => {
+                        let count = 1 + self.random.below(3);
+                        self.variables(count, Place::Head);
+                    }
+                    _ => {}
+                }
+                for _ in 0..2 {
+                    self.put(&[";"]);
+                    if self.random.one_in(2) {
+                        self.expression(Place::Other);
+                    }
+                }
+                return;
+            }
+        }
+        self.put(&["in"]);
+        self.expression(Place::Other);
+    }
+
+    fn switch(&mut self) {
+        self.put(&["switch"]);
+        self.parentheses();
+        self.put(&["{"]);
+        self.open += 1;
+        let count = self.random.below(4);
+        let default = self.random.below(4);
+        for index in 0..count {
+            if index == default {
+                self.put(&["default"]);
+            } else {
+                self.put(&["case"]);
+                self.expression(Place::Other);
+            }
+            self.put(&[":"]);
+            self.list(false);
+        }
+        self.open -= 1;
+        self.put(&["}"]);
     }
 
     fn function(&mut self) {
@@ -165,7 +330,7 @@ impl Maker<'_> {
             if index > 0 {
                 self.put(&[","]);
             }
-            self.assign(false);
+            self.assign(Place::Other);
         }
         self.open -= 1;
         self.put(&[")"]);
@@ -174,7 +339,7 @@ impl Maker<'_> {
     fn index(&mut self) {
         self.put(&["["]);
         self.open += 1;
-        self.expression(false);
+        self.expression(Place::Other);
         self.open -= 1;
         self.put(&["]"]);
     }
@@ -184,12 +349,12 @@ impl Maker<'_> {
         self.open += 1;
         for _ in 0..self.random.below(4) {
             if !self.random.one_in(4) {
-                self.assign(false);
+                self.assign(Place::Other);
             }
             self.put(&[","]);
         }
         if self.random.one_in(2) {
-            self.assign(false);
+            self.assign(Place::Other);
         }
         self.open -= 1;
         self.put(&["]"]);
@@ -202,7 +367,7 @@ impl Maker<'_> {
         for index in 0..count {
             let name = if self.random.one_in(3) { self.random.of(&WORDS) } else { self.random.of(NAMES) };
             self.put(&[name, ":"]);
-            self.assign(false);
+            self.assign(Place::Other);
             if index + 1 < count || self.random.one_in(4) {
                 self.put(&[","]);
             }
@@ -214,51 +379,51 @@ impl Maker<'_> {
     fn parentheses(&mut self) {
         self.put(&["("]);
         self.open += 1;
-        self.expression(false);
+        self.expression(Place::Other);
         self.open -= 1;
         self.put(&[")"]);
     }
 
-    fn expression(&mut self, statement: bool) {
-        self.assign(statement);
+    fn expression(&mut self, place: Place) {
+        self.assign(place);
         while !self.small() && self.random.one_in(8) {
             self.put(&[","]);
-            self.assign(false);
+            self.assign(place.behind());
         }
     }
 
-    fn assign(&mut self, statement: bool) {
+    fn assign(&mut self, place: Place) {
         if !self.small() && self.random.one_in(4) {
-            self.target(statement);
+            self.target(place);
             let sign = self.random.of(ASSIGNMENT_OPERATORS);
             self.put(&[sign]);
-            return self.assign(false);
+            return self.assign(place.behind());
         }
-        self.binary(statement);
+        self.binary(place);
         if !self.small() && self.random.one_in(6) {
             self.put(&["?"]);
-            self.assign(false);
+            self.assign(Place::Other);
             self.put(&[":"]);
-            self.assign(false);
+            self.assign(place.behind());
         }
     }
 
-    fn binary(&mut self, statement: bool) {
-        self.unary(statement);
+    fn binary(&mut self, place: Place) {
+        self.unary(place);
         while !self.small() && self.random.one_in(3) {
             let sign = self.random.of(BINARY_OPERATORS);
-            self.put(&[sign]);
-            self.unary(false);
+            self.put(&[if sign == "in" && place == Place::Head { "instanceof" } else { sign }]);
+            self.unary(place.behind());
         }
     }
 
-    fn unary(&mut self, statement: bool) {
+    fn unary(&mut self, place: Place) {
         if !self.small() && self.random.one_in(6) {
             let sign = self.random.of(PREFIX_OPERATORS);
             self.put(&[sign]);
-            return self.unary(false);
+            return self.unary(place.behind());
         }
-        self.target(statement);
+        self.target(place);
         if self.random.one_in(8) {
             self.same_line.push(self.elements.len());
             let sign = self.random.of(&["++", "--"]);
@@ -266,15 +431,15 @@ impl Maker<'_> {
         }
     }
 
-    fn target(&mut self, statement: bool) {
+    fn target(&mut self, place: Place) {
         if !self.small() && self.random.one_in(10) {
             self.put(&["new"]);
-            return self.target(false);
+            return self.target(place.behind());
         }
-        self.chain(statement);
+        self.chain(place);
     }
 
-    fn chain(&mut self, statement: bool) {
+    fn chain(&mut self, place: Place) {
         let choice = if self.small() { 0 } else { self.random.below(13) };
         match choice {
             12 => {
@@ -294,9 +459,9 @@ impl Maker<'_> {
                 self.put(&[pattern]);
             }
             7 => self.parentheses(),
-            8 if !statement => self.object(),
-            9 if !statement => self.function(),
-            10 if !statement => {
+            8 if place != Place::Statement => self.object(),
+            9 if place != Place::Statement => self.function(),
+            10 if place != Place::Statement => {
                 self.put(&["function"]);
                 self.parameters_and_body();
             }
@@ -486,7 +651,7 @@ pub fn words_in_braces() -> Vec<Vec<u8>> {
     texts
 }
 
-/// Each sign and each taken word before and behind slashes, braces, `++` and `:`, with each gap.
+/// Each sign and each word before and behind slashes, braces, `++` and `:`, and in the places of statements' words, with each gap.
 pub fn operators() -> Vec<Vec<u8>> {
     const FORMS: &[(&str, &str)] = &[
         ("a", "b/c/d;"),
@@ -539,6 +704,71 @@ pub fn operators() -> Vec<Vec<u8>> {
         ("a", "in b;"),
         ("a", ""),
         ("", ""),
+        ("", "(a)/b/;"),
+        ("", "(a)/b/c;"),
+        ("a", "(a)/b/c;"),
+        ("(", "(a)/b/);"),
+        ("(a", "{}/b/c);"),
+        ("(a", "{}/b/);"),
+        ("{a", "{}/b/}"),
+        ("x={a:b", "{}/c/d};"),
+        ("(a;", "{}/b/c);"),
+        ("a;", "function(){}/b/;"),
+        ("(a", "function(){}/b/c);"),
+        ("", "{}(a)/b/;"),
+        ("", "(a);"),
+        ("", "(a){}/b/;"),
+        ("", "b;"),
+        ("", ";"),
+        ("var ", ";"),
+        ("var a", "b;"),
+        ("var a", "b,c;"),
+        ("if(a);", ";"),
+        ("if(a);", "b;"),
+        ("if(a)b;else", "c;"),
+        ("do;", "(a);"),
+        ("do ", ";while(a);"),
+        ("do;while(a)", "/b/;"),
+        ("while", "(a);"),
+        ("while(a)", "/b/;"),
+        ("break", ";"),
+        ("break a", ";"),
+        ("throw", "/b/;"),
+        ("", "(;;);"),
+        ("for(", ";;);"),
+        ("for(", "a;;);"),
+        ("for(a", "b;;);"),
+        ("for(a", "b);"),
+        ("for(a.b", "{}/c);"),
+        ("for(var a", "b);"),
+        ("for(var a=b", "c);"),
+        ("for(var a=b", "c;;);"),
+        ("for(var a,b", "c);"),
+        ("for(a?b", "c:d;;);"),
+        ("for(a?b:c", "d;;);"),
+        ("for(;", "{}/a/b;);"),
+        ("for(;;", ")/a/;"),
+        ("for(;;)", "/a/;"),
+        ("switch(a)", "{}"),
+        ("switch(a){", ":}"),
+        ("switch(a){", "a:}"),
+        ("switch(a){case", "/a/:}"),
+        ("switch(a){case a", ":}"),
+        ("switch(a){case a:", ":}"),
+        ("switch(a){case a:", "b;}"),
+        ("switch(a){case a:", "{}/b/;}"),
+        ("switch(a){default:", ":}"),
+        ("switch(a){default", "{}/a/;}"),
+        ("switch(a){}", "/b/;"),
+        ("", "{}finally{}"),
+        ("try", "{}finally{}"),
+        ("try{}", "{}"),
+        ("try{}", "(a){}"),
+        ("try{}catch(", "){}"),
+        ("try{}catch(a)", "{}"),
+        ("try{}catch(a){}", "{}"),
+        ("try{}catch(a){}", "/b/;"),
+        ("try{}finally{}", "(a){}"),
     ];
     let mut texts = Vec::new();
     for operator in SIGNS.into_iter().chain(WORDS) {
@@ -561,12 +791,18 @@ pub fn neighbours() -> Vec<Vec<u8>> {
             texts.push(["a ", first, "/b/ ", second, "/c/;"].concat().into_bytes());
             texts.push(["a?b ", first, " c:d ", second, " e;"].concat().into_bytes());
             texts.push(["a ", first, " b?c:d ", second, " e;"].concat().into_bytes());
+            texts.push(["for(a ", first, " b ", second, " c;;);"].concat().into_bytes());
+            texts.push(["for(a ", first, " b ", second, " c);"].concat().into_bytes());
+            texts.push(["for(var a ", first, " b ", second, " c);"].concat().into_bytes());
+            texts.push(["for(;a ", first, " b;c ", second, " d);"].concat().into_bytes());
         }
         for second in PREFIX_OPERATORS.iter().chain(&["new"]) {
             texts.push(["a ", first, " ", second, " b;"].concat().into_bytes());
             texts.push([second, " a ", first, " b;"].concat().into_bytes());
             texts.push([second, "(a) ", first, "/b/;"].concat().into_bytes());
             texts.push([second, " a++", first, " b;"].concat().into_bytes());
+            texts.push(["for(", second, " a ", first, " b;;);"].concat().into_bytes());
+            texts.push(["for(", second, " a ", first, " b);"].concat().into_bytes());
         }
     }
     texts
@@ -649,12 +885,69 @@ pub fn longest_runs() -> Vec<(&'static str, Vec<u8>)> {
         run("not and divides", "!a", "/!a", 3, ";", 3),
         run("this", "this", ".this", 2, ";", 2),
         run("numbers", ".5", "/1.e3/0x1", 4, ";", 2),
+        run("empty statements", "", ";", 1, "", 0),
+        run("vars", "", "var a;", 3, "", 0),
+        run("variables", "var a", ",a", 2, ";", 3),
+        run("initialised variables", "var a=a", ",a=a", 4, ";", 5),
+        run("assignments of a variable", "var a", "=a", 2, ";", 3),
+        run("else ifs", "", "if(a)a;else ", 6, "a;", 2),
+        ("ifs and elses", within((MOST_TREES - 1) / 5, "", "if(a)", b";", "else;", "")),
+        run("ifs and whiles with else", "if(a)", "while(a)if(a);else ", 8, ";", 4),
+        run("whiles", "", "while(a)", 3, ";", 1),
+        run("withs, ifs and labels", "", "x:with(a)if(a)", 8, ";", 1),
+        run("dos in a row", "", "do;while(a);", 6, "", 0),
+        ("dos", within((MOST_TREES - 1) / 5, "", "do ", b";", "while(a);", "")),
+        ("dos of ifs and elses", within((MOST_TREES - 1) / 10, "", "do if(a)", b";", "else;while(a);", "")),
+        ("ifs and elses of dos", within((MOST_TREES - 1) / 10, "", "if(a)do ", b";", "while(a);else;", "")),
+        run("throws", "", "throw a;", 3, "", 0),
+        run("jumps", "", "break;continue a;", 5, "", 0),
+        run("debuggers", "", "debugger;", 2, "", 0),
+        run("fors", "", "for(;;)", 4, ";", 1),
+        run("fors of three parts", "", "for(a;a;a)", 7, ";", 1),
+        run("fors of variables", "", "for(var a=a;;)", 8, ";", 1),
+        run("fors in", "", "for(a in a)", 5, ";", 1),
+        run("fors in of variables", "", "for(var a=a in a)", 8, ";", 1),
+        run("labels, fors in and ifs", "", "x:for(a in a)if(a)", 10, ";", 1),
+        run("variables of a for", "for(var a", ",a", 2, ";;);", 7),
+        run("initialised variables of a for", "for(var a=a", ",a=a", 4, ";;);", 9),
+        run("assignments of a variable of a for in", "for(var a", "=a", 2, " in a);", 7),
+        run("conditionals of a for", "for(", "a?a in a:", 6, "a;;);", 6),
+        run("members of a for in", "for(a", ".a", 2, " in a);", 6),
+        run("commas of a for", "for(;;a", ",a", 2, ");", 6),
+        ("ifs and elses of fors", within((MOST_TREES - 1) / 9, "", "if(a)for(;;)", b";", "else;", "")),
+        ("dos of fors", within((MOST_TREES - 1) / 9, "", "do for(;;)", b";", "while(a);", "")),
+        run("switches", "", "switch(a){}", 4, "", 0),
+        run("cases", "switch(a){", "case a:", 3, "}", 4),
+        run("cases of objects", "switch(a){", "case{}/a:", 5, "}", 4),
+        run("cases with statements behind a default", "switch(a){default:", "case a:{}a;", 6, "}", 6),
+        run("conditionals of a case", "switch(a){case ", "a?a:", 4, "a:}", 7),
+        run("statements of a case", "switch(a){case a:", ";", 1, "}", 7),
+        run("ifs of a default", "switch(a){default:", "if(a)", 3, ";}", 7),
+        run("tries", "", "try{}catch(a){}", 6, "", 0),
+        run("tries with finally", "", "try{}finally{}", 4, "", 0),
+        run("tries with both", "", "try{}catch(a){}finally{}", 8, "", 0),
+        run("tries and ifs", "", "if(a)try{}catch(a){}else ", 10, ";", 1),
         ("parentheses", nested("x=", "(", b"a", ")", ";")),
         ("blocks within", nested("", "{", b"a;", "}", "")),
         ("objects within", nested("x=", "{a:", b"a", "}", ";")),
         ("functions within", nested("", "function f(a){", b"a;", "}", "")),
         ("functions in expressions", nested("", "a=function f(a){", b"a;", "};", "")),
         ("calls within", nested("a", "(a", b"", ")", ";")),
+        ("ifs and elses within", nested("", "if(a){", b"", "}else;", "")),
+        ("dos within", nested("", "do{", b"", "}while(a);", "")),
+        ("dos, blocks and a run", almost("", "do{x:", &within((MOST_TREES - 8 * DEEPEST - 1) / 5, "", "do ", b";", "while(a);", ""), "}while(a);", "")),
+        ("variables within", almost("", "var a=function(){", &repeated("var a", ",a", (MOST_TREES - 7 * DEEPEST - 3) / 2, ";"), "};", "")),
+        ("fors within", nested("", "for(;;){", b"", "}", "")),
+        ("heads of fors within", within(DEEPEST / 2, "", "for(a=function(){", b"", "};;);", "")),
+        ("objects of fors in within", within(DEEPEST / 2, "", "for(var a in function(){", b"", "});", "")),
+        ("switches within", nested("", "switch(a){case a:", b"", "}", "")),
+        ("switches of defaults within", nested("", "switch(a){default:", b"", "case a:}", "")),
+        ("switches and a run", almost("", "switch(a){case a:x:", &repeated("", "for(;;)", (MOST_TREES - 9 * DEEPEST - 1) / 4, ";"), "}", "")),
+        ("cases within", nested("", "switch(a){case a:", &repeated("", "case a:;", (MOST_TREES - 7 * DEEPEST) / 4, ""), "}", "")),
+        ("tries within", nested("", "try{", b"", "}finally{}", "")),
+        ("catches within", nested("", "try{}catch(a){", b"", "}", "")),
+        ("finallies within", nested("", "try{}finally{", b"", "}", "")),
+        ("tries and a run", almost("", "if(a)try{", &repeated("", "x:for(a in a)if(a)", (MOST_TREES - 11 * DEEPEST - 1) / 10, ";"), "}catch(a){}else;", "")),
         ("arrays within", nested("", "[", b"", "]", ";")),
         ("lists within", nested("", "[a,", &repeated("", "a,", (MOST_TREES - 5 * DEEPEST - 2) / 2, ""), ",a]", ";")),
         ("indexes within", nested("a", "[a", b"", "]", ";")),
@@ -700,6 +993,36 @@ pub fn refused_runs() -> Vec<(&'static str, Vec<u8>)> {
         ("minuses and increments of nothing", repeated("", "- ++", MOST_TREES / 2, "")),
         ("increments and an assignment to one", repeated("", "a++;", MOST_TREES / 3 - 2, "a++=a;")),
         ("parentheses of conditionals and an open one", nested(DEEPEST, "a?(", &repeated("", "a?", (MOST_TREES - 3 * DEEPEST) / 2 - 1, "a"), ")")),
+        ("dos and no statement", repeated("", "do ", MOST_TREES, "")),
+        ("dos and no while", repeated("", "do ", MOST_TREES - 1, ";")),
+        ("dos and no condition", [repeated("", "do ", MOST_TREES / 5, ";"), repeated("", "while(a);", MOST_TREES / 5 - 1, "while")].concat()),
+        ("dos and a pattern", [repeated("", "do ", MOST_TREES / 5, ";"), repeated("", "while(a);", MOST_TREES / 5 - 1, "while(a)/b/;")].concat()),
+        ("whiles and no statement", repeated("", "while(a)", MOST_TREES / 3, "")),
+        ("withs, ifs and labels and no statement", repeated("", "x:with(a)if(a)", MOST_TREES / 8, "")),
+        ("else ifs and no statement", repeated("", "if(a)a;else ", MOST_TREES / 6, "")),
+        ("ifs and an else too many", [repeated("", "if(a)", (MOST_TREES - 2) / 5, ";"), repeated("", "else;", (MOST_TREES - 2) / 5, "else")].concat()),
+        ("whiles and an else", repeated("", "while(a)", (MOST_TREES - 2) / 3, ";else")),
+        ("variables and no name", repeated("var a", ",a", MOST_TREES / 2 - 2, ",")),
+        ("initialised variables and no value", repeated("var a", ",a=a", MOST_TREES / 4 - 2, ",a=")),
+        ("empty statements and an else", repeated("", ";", MOST_TREES - 1, "else")),
+        ("fors and no statement", repeated("", "for(;;)", MOST_TREES / 4, "")),
+        ("fors and a head of one part", repeated("", "for(;;)", MOST_TREES / 4 - 1, "for(a)")),
+        ("fors in and an else", repeated("", "for(a in a)", (MOST_TREES - 2) / 5, ";else")),
+        ("labels, fors in and ifs and no statement", repeated("", "x:for(a in a)if(a)", MOST_TREES / 10, "")),
+        ("variables of a for and in", repeated("for(var a", ",a", (MOST_TREES - 7) / 2, " in a);")),
+        ("variables of a for and no name", repeated("for(var a", ",a", (MOST_TREES - 8) / 2, ",;;);")),
+        ("conditionals of a for and in", repeated("for(", "a?a:", (MOST_TREES - 8) / 4, "a in a;;);")),
+        ("commas of a for and in", repeated("for(a", ",a", (MOST_TREES - 6) / 2, " in a);")),
+        ("dos of fors and no while", repeated("", "do for(;;)", (MOST_TREES - 2) / 5, ";else")),
+        ("cases and no colon", repeated("switch(a){", "case a:", (MOST_TREES - 6) / 3, "case a}")),
+        ("cases and a second default", repeated("switch(a){default:", "case a:", (MOST_TREES - 8) / 3, "default:}")),
+        ("statements of a case and a declaration", repeated("switch(a){case a:", ";", MOST_TREES - 11, "function f(){}}")),
+        ("switches within and a second default", nested(DEEPEST, "switch(a){default:", &repeated("", ";", MOST_TREES - 6 * DEEPEST - 2, "default:"), "}")),
+        ("switches within and an else", nested(DEEPEST, "switch(a){case a:", &repeated("", ";", MOST_TREES - 8 * DEEPEST, ""), "}else ")),
+        ("tries and no handler", repeated("", "try{}catch(a){}", MOST_TREES / 6 - 1, "try{}")),
+        ("tries and a second finally", repeated("", "try{}catch(a){}finally{}", MOST_TREES / 8 - 1, "finally{}")),
+        ("tries within and no handler", nested(DEEPEST, "try{", &repeated("", ";", MOST_TREES - 2 * DEEPEST, ""), "}")),
+        ("catches within and a catch", nested(DEEPEST - 1, "try{}catch(a){", &repeated("", ";", MOST_TREES - 6 * DEEPEST, "catch(a){}"), "}")),
         ("functions and no statement", nested(DEEPEST - 1, "if(a)x=function f(a){", &repeated("", "if(a)", (MOST_TREES - 10 * DEEPEST) / 3, ""), "}")),
     ]
 }
@@ -740,9 +1063,11 @@ pub fn limits() -> Vec<Vec<u8>> {
             }
         }
         texts.push(repeated("", "a;", count / 2, "while"));
+        texts.push(repeated("", "a;", count / 2, "class"));
         texts.push(repeated("", ".while", count / 2, ""));
         texts.push(repeated("", ".while", count / 2, ".if"));
-        texts.push(repeated("", "a.in;", count / 4, "while"));
+        texts.push(repeated("", "a.in;", count / 4, "class"));
+        texts.push(repeated("", ".while", count / 2, " class"));
         texts.push(repeated("", "a;", count / 2, "(((1.x"));
         texts.push(repeated("", "a;", count / 2, ")"));
     }

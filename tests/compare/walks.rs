@@ -8,7 +8,18 @@ use crate::texts::{spelled, Random};
 const OTHERS: &[(&str, Class)] = &[("a", Class::Name), ("b", Class::Name), ("0x1", Class::Number), (".5", Class::Number), ("'s'", Class::Text), ("/r/g", Class::Pattern)];
 
 /// What ends statements and groups.
-const ENDS: &[&str] = &[";", ")", "]", "}", ":", "a"];
+const ENDS: &[(&str, Class)] = &[
+    (";", Class::Sign(";")),
+    (")", Class::Sign(")")),
+    ("]", Class::Sign("]")),
+    ("}", Class::Sign("}")),
+    (":", Class::Sign(":")),
+    ("a", Class::Name),
+    ("while", Class::Word("while")),
+    ("(", Class::Sign("(")),
+    ("{", Class::Sign("{")),
+    ("finally", Class::Word("finally")),
+];
 
 struct Walk {
     spellings: Vec<&'static str>,
@@ -41,7 +52,7 @@ impl Walk {
 fn any(random: &mut Random) -> (&'static str, Class) {
     match random.below(8) {
         0..=2 => OTHERS[random.below(OTHERS.len())],
-        3 => {
+        3 | 4 => {
             let word = random.of(&WORDS);
             (word, if random.one_in(2) { Class::Word(word) } else { Class::WordAsName })
         }
@@ -67,7 +78,7 @@ pub fn walk(random: &mut Random, size: usize) -> Vec<u8> {
         if walk.is_program() {
             break;
         }
-        let _ = ENDS.iter().any(|&end| walk.add(end, if end == "a" { Class::Name } else { Class::Sign(end) }, false, false));
+        let _ = ENDS.iter().any(|&(spelling, class)| walk.add(spelling, class, false, false));
     }
     spelled(random, &walk.spellings, &walk.same_line)
 }

@@ -46,6 +46,12 @@ pub const POSITIVE: u32 = 36;
 
 pub const NEGATIVE: u32 = 37;
 
+pub const VARIABLE: u32 = 75;
+
+pub const EMPTY: u32 = 76;
+
+pub const FOR_IN: u32 = 81;
+
 // Writes the syntax record of a kind behind those so far, if it fits, and answers how many there are with it. Those from
 // `start` on are in it.
 pub fn put(syntax: &mut [u32], count: usize, kind: u32, mark: usize, start: usize) -> usize

@@ -17,12 +17,28 @@ use Rattle.derivations.specs.Tokens.{pattern, divide, divideAssign, ques
 use Rattle.machine.specs.Scopes.{body, block, callArguments, arrayElements, objectProperties}
 use Rattle.machine.specs.Machinery.Machine.{
   ifNest,
+  elseNest,
+  doNest,
   Setting,
   among,
+  inClause,
   inNest,
+  Variables,
+  inStatement,
+  inHead,
+  Target,
+  noTarget,
+  someTarget,
+  loneTarget,
   Ending,
   byStatement,
   byReturn,
+  byVariable,
+  byStart,
+  byTest,
+  byStep,
+  byObject,
+  byCase,
   byParen,
   byBracket,
   byColon,
@@ -34,6 +50,31 @@ use Rattle.machine.specs.Machinery.Machine.{
   statementDone,
   nameFirst,
   returnFirst,
+  throwFirst,
+  jumpFirst,
+  headFirst,
+  variableDue,
+  variableNamed,
+  bodyDone,
+  testFirst,
+  semicolonDue,
+  forFirst,
+  startDue,
+  testDue,
+  stepDue,
+  switchFirst,
+  switchPast,
+  clauseDue,
+  defaultFirst,
+  tryFirst,
+  tryDone,
+  catchFirst,
+  catchDue,
+  catchNamed,
+  catchPast,
+  catchDone,
+  finallyFirst,
+  tryEnded,
   ifFirst,
   operandDue,
   memberDue,
@@ -57,6 +98,7 @@ use Rattle.machine.specs.Machinery.Machine.{
   push,
   enter,
   pop,
+  popIn,
   leave,
   ask,
   turn,
@@ -125,14 +167,15 @@ allows kind s newline asked class (goto next effect) =
     takenRight kind s class && (isLeaf class && ((related next kind (addToken kind s newline asked class) && updatesRight s newline class next) && (alike (asks next) asked && keepsQuestions asked class)))
 allows kind s newline asked class (push within behind closing) =
     takenRight kind s class && (opensGroup class && opensRight kind s newline asked (openedKind (braceBy (isExpression kind) s newline) class) within behind)
-allows kind s newline asked class (enter within behind closing) =
+allows kind s newline asked class (enter within effect outer behind closing) =
     takenRight kind s class && (isLeaf class && (((related within kind (addToken kind s newline asked class) && updatesRight s newline class within) && takesOver behind)
     && ((not (asks within) && not (asks behind)) && (not asked && keepsQuestions asked class))))
 allows kind s newline asked class (pop value) = takenRight kind s class && (closesGroup class && (eqb kind 0 || closesKind class kind))
+allows kind s newline asked class popIn = takenRight kind s class && (closesGroup class && (eqb kind 0 || closesKind class kind))
 allows kind s newline asked class (leave value) = settled kind s
 allows kind s newline asked class (ask ending) =
-    takenRight kind s class && (isLeaf class && ((eqb class question && related (operandDue byColon true) kind (addToken kind s newline asked class))
-    && (related (operandDue ending true) kind afterOperator && alike (asks (operandDue ending true)) asked)))
+    takenRight kind s class && (isLeaf class && ((eqb class question && related (operandDue byColon someTarget) kind (addToken kind s newline asked class))
+    && (related (operandDue ending someTarget) kind afterOperator && alike (asks (operandDue ending someTarget)) asked)))
 allows kind s newline asked class turn = takenRight kind s class && (isLeaf class && (eqb class colon && asked))
 allows kind s newline asked class finish = eqb class endOfText
 
@@ -199,9 +242,9 @@ module _ (kind : ℕ) (s : Summary) (newline asked : Bool) where
       pub behind-unasked : asks behind ≡ false
       pub unasked : asked ≡ false
 
-    pub enter-allowed : (within behind : Control) (closing : Closing) → T (allows kind s newline asked class (enter within behind closing)) → EntersRight within behind
+    pub enter-allowed : (within : Control) (effect outer : Effect) (behind : Control) (closing : Closing) → T (allows kind s newline asked class (enter within effect outer behind closing)) → EntersRight within behind
     unfolding allows
-    enter-allowed within behind closing t =
+    enter-allowed within effect outer behind closing t =
         let u = three (takenRight kind s class) (isLeaf class) (((related within kind (addToken kind s newline asked class) && updatesRight s newline class within) && takesOver behind)
         && ((not (asks within) && not (asks behind)) && (not asked && keepsQuestions asked class))) t in
         let v = both ((related within kind (addToken kind s newline asked class) && updatesRight s newline class within) && takesOver behind)
@@ -227,31 +270,35 @@ module _ (kind : ℕ) (s : Summary) (newline asked : Bool) where
     unfolding allows
     pop-allowed value = three (takenRight kind s class) (closesGroup class) (eqb kind 0 || closesKind class kind)
 
+    pub pop-in-allowed : T (allows kind s newline asked class popIn) → T (takenRight kind s class) × T (closesGroup class) × T (eqb kind 0 || closesKind class kind)
+    unfolding allows
+    pop-in-allowed = three (takenRight kind s class) (closesGroup class) (eqb kind 0 || closesKind class kind)
+
     -- a `?` more, and its answer
     pub record AsksRight (ending : Ending) : Type 0 where
       pub taken : T (takenRight kind s class)
       pub leaf : T (isLeaf class)
       pub is-question : T (eqb class question)
-      pub stands : T (related (operandDue byColon true) kind (addToken kind s newline asked class))
-      pub behind-stands : T (related (operandDue ending true) kind afterOperator)
-      pub behind-asked : asks (operandDue ending true) ≡ asked
+      pub stands : T (related (operandDue byColon someTarget) kind (addToken kind s newline asked class))
+      pub behind-stands : T (related (operandDue ending someTarget) kind afterOperator)
+      pub behind-asked : asks (operandDue ending someTarget) ≡ asked
 
     pub ask-allowed : (ending : Ending) → T (allows kind s newline asked class (ask ending)) → AsksRight ending
     unfolding allows
     ask-allowed ending t =
-        let u = three (takenRight kind s class) (isLeaf class) ((eqb class question && related (operandDue byColon true) kind (addToken kind s newline asked class))
-        && (related (operandDue ending true) kind afterOperator && alike (asks (operandDue ending true)) asked)) t in
-        let v = both (eqb class question && related (operandDue byColon true) kind (addToken kind s newline asked class))
-        (related (operandDue ending true) kind afterOperator && alike (asks (operandDue ending true)) asked) (u .2) in
-        let w = both (eqb class question) (related (operandDue byColon true) kind (addToken kind s newline asked class)) (v .0) in
-        let x = both (related (operandDue ending true) kind afterOperator) (alike (asks (operandDue ending true)) asked) (v .1) in
+        let u = three (takenRight kind s class) (isLeaf class) ((eqb class question && related (operandDue byColon someTarget) kind (addToken kind s newline asked class))
+        && (related (operandDue ending someTarget) kind afterOperator && alike (asks (operandDue ending someTarget)) asked)) t in
+        let v = both (eqb class question && related (operandDue byColon someTarget) kind (addToken kind s newline asked class))
+        (related (operandDue ending someTarget) kind afterOperator && alike (asks (operandDue ending someTarget)) asked) (u .2) in
+        let w = both (eqb class question) (related (operandDue byColon someTarget) kind (addToken kind s newline asked class)) (v .0) in
+        let x = both (related (operandDue ending someTarget) kind afterOperator) (alike (asks (operandDue ending someTarget)) asked) (v .1) in
         record {
           taken = u .0;
           leaf = u .1;
           is-question = w .0;
           stands = w .1;
           behind-stands = x .0;
-          behind-asked = alike→eq (asks (operandDue ending true)) asked (x .1);
+          behind-asked = alike→eq (asks (operandDue ending someTarget)) asked (x .1);
         }
 
     pub turn-allowed : T (allows kind s newline asked class turn) → T (takenRight kind s class) × T (isLeaf class) × T (eqb class colon && asked)
@@ -267,8 +314,9 @@ abbrev allowsOther : ℕ → Summary → Action → Bool
 allowsOther kind s fail = true
 allowsOther kind s (goto next effect) = false
 allowsOther kind s (push within behind closing) = false
-allowsOther kind s (enter within behind closing) = false
+allowsOther kind s (enter within effect outer behind closing) = false
 allowsOther kind s (pop value) = false
+allowsOther kind s popIn = false
 allowsOther kind s (leave value) = settled kind s
 allowsOther kind s (ask ending) = false
 allowsOther kind s turn = false
@@ -284,8 +332,9 @@ unfolding allows
 other-allowed kind s newline asked class fail t = tt
 other-allowed kind s newline asked class (goto next effect) t = absurd t
 other-allowed kind s newline asked class (push within behind closing) t = absurd t
-other-allowed kind s newline asked class (enter within behind closing) t = absurd t
+other-allowed kind s newline asked class (enter within effect outer behind closing) t = absurd t
 other-allowed kind s newline asked class (pop value) t = absurd t
+other-allowed kind s newline asked class popIn t = absurd t
 other-allowed kind s newline asked class (leave value) t = t
 other-allowed kind s newline asked class (ask ending) t = absurd t
 other-allowed kind s newline asked class turn t = absurd t
@@ -297,65 +346,126 @@ passes control kind s = implies (related control kind s) (bothBools λ newline. 
 unfoldable test : Control → Bool
 test control = allIn (λ kind. allSummaries λ s. passes control kind s) (kinds control)
 
--- all endings and settings
+-- all settings, variables, endings and targets
 abbrev settings : List Setting
-settings = among body ∷ among block ∷ inNest ifNest ∷ []
+settings = among body ∷ among block ∷ inClause ∷ inNest ifNest ∷ inNest elseNest ∷ inNest doNest ∷ []
 
 a-setting : (setting : Setting) → Has setting settings
 a-setting (among body) = here
 a-setting (among block) = there here
-a-setting (inNest ifNest) = there (there here)
+a-setting inClause = there (there here)
+a-setting (inNest ifNest) = there (there (there here))
+a-setting (inNest elseNest) = there (there (there (there here)))
+a-setting (inNest doNest) = there (there (there (there (there here))))
+
+-- what is made of each of a list, and others
+abbrev madeOf : {A B : Type 0} → (A → B) → List A → List B → List B
+madeOf make [] rest = rest
+madeOf make (x ∷ more) rest = make x ∷ madeOf make more rest
+
+made-of : {A B : Type 0} (make : A → B) (rest : List B) {x : A} {all : List A} → Has x all → Has (make x) (madeOf make all rest)
+made-of make rest here = here
+made-of make rest (there h) = there (made-of make rest h)
+
+past-made : {A B : Type 0} (make : A → B) {rest : List B} {y : B} (all : List A) → Has y rest → Has y (madeOf make all rest)
+past-made make [] h = h
+past-made make (x ∷ more) h = there (past-made make more h)
+
+abbrev variables : List Variables
+variables = madeOf inStatement settings (inHead true ∷ inHead false ∷ [])
+
+some-variables : (place : Variables) → Has place variables
+some-variables (inStatement setting) = made-of inStatement (inHead true ∷ inHead false ∷ []) (a-setting setting)
+some-variables (inHead true) = past-made inStatement settings here
+some-variables (inHead false) = past-made inStatement settings (there here)
+
+abbrev otherEndings : List Ending
+otherEndings =
+    byStart ∷ byTest ∷ byStep ∷ byObject ∷ byCase true ∷ byCase false ∷ byParen ∷ byBracket ∷ byColon ∷ byItem callArguments ∷ byItem arrayElements
+    ∷ byItem objectProperties ∷ []
 
 abbrev endings : List Ending
-endings =
-    byStatement (among body)
-    ∷ byStatement (among block)
-    ∷ byStatement (inNest ifNest)
-    ∷ byReturn (among body)
-    ∷ byReturn (among block)
-    ∷ byReturn (inNest ifNest)
-    ∷ byParen
-    ∷ byBracket
-    ∷ byColon
-    ∷ byItem callArguments
-    ∷ byItem arrayElements
-    ∷ byItem objectProperties
-    ∷ []
+endings = madeOf byStatement settings (madeOf byReturn settings (madeOf byVariable variables otherEndings))
+
+past-all : {ending : Ending} → Has ending otherEndings → Has ending endings
+past-all h = past-made byStatement settings (past-made byReturn settings (past-made byVariable variables h))
 
 an-ending : (ending : Ending) → Has ending endings
-an-ending (byStatement (among body)) = here
-an-ending (byStatement (among block)) = there here
-an-ending (byStatement (inNest ifNest)) = there (there here)
-an-ending (byReturn (among body)) = there (there (there here))
-an-ending (byReturn (among block)) = there (there (there (there here)))
-an-ending (byReturn (inNest ifNest)) = there (there (there (there (there here))))
-an-ending byParen = there (there (there (there (there (there here)))))
-an-ending byBracket = there (there (there (there (there (there (there here))))))
-an-ending byColon = there (there (there (there (there (there (there (there here)))))))
-an-ending (byItem callArguments) = there (there (there (there (there (there (there (there (there here))))))))
-an-ending (byItem arrayElements) = there (there (there (there (there (there (there (there (there (there here)))))))))
-an-ending (byItem objectProperties) = there (there (there (there (there (there (there (there (there (there (there here))))))))))
+an-ending (byStatement setting) = made-of byStatement (madeOf byReturn settings (madeOf byVariable variables otherEndings)) (a-setting setting)
+an-ending (byReturn setting) = past-made byStatement settings (made-of byReturn (madeOf byVariable variables otherEndings) (a-setting setting))
+an-ending (byVariable place) = past-made byStatement settings (past-made byReturn settings (made-of byVariable otherEndings (some-variables place)))
+an-ending byStart = past-all here
+an-ending byTest = past-all (there here)
+an-ending byStep = past-all (there (there here))
+an-ending byObject = past-all (there (there (there here)))
+an-ending (byCase true) = past-all (there (there (there (there here))))
+an-ending (byCase false) = past-all (there (there (there (there (there here)))))
+an-ending byParen = past-all (there (there (there (there (there (there here))))))
+an-ending byBracket = past-all (there (there (there (there (there (there (there here)))))))
+an-ending byColon = past-all (there (there (there (there (there (there (there (there here))))))))
+an-ending (byItem callArguments) = past-all (there (there (there (there (there (there (there (there (there here)))))))))
+an-ending (byItem arrayElements) = past-all (there (there (there (there (there (there (there (there (there (there here))))))))))
+an-ending (byItem objectProperties) = past-all (there (there (there (there (there (there (there (there (there (there (there here)))))))))))
+
+abbrev allTargets : (Target → Bool) → Bool
+allTargets p = p noTarget && (p someTarget && p loneTarget)
+
+at-target : (p : Target → Bool) → T (allTargets p) → (target : Target) → T (p target)
+at-target p t noTarget = (three (p noTarget) (p someTarget) (p loneTarget) t) .0
+at-target p t someTarget = (three (p noTarget) (p someTarget) (p loneTarget) t) .1
+at-target p t loneTarget = (three (p noTarget) (p someTarget) (p loneTarget) t) .2
 
 each-setting : (control : Setting → Control) → T (allIn (λ setting. test (control setting)) settings) → (setting : Setting) → T (test (control setting))
 each-setting control t setting = at (λ setting. test (control setting)) (a-setting setting) t
 
-each-ending : (control : Ending → Bool → Control) → T (allIn (λ ending. bothBools λ target. test (control ending target)) endings)
-    → (ending : Ending) (target : Bool) → T (test (control ending target))
+each-variables : (control : Variables → Control) → T (allIn (λ place. test (control place)) variables) → (place : Variables) → T (test (control place))
+each-variables control t place = at (λ place. test (control place)) (some-variables place) t
+
+each-ending : (control : Ending → Target → Control) → T (allIn (λ ending. allTargets λ target. test (control ending target)) endings)
+    → (ending : Ending) (target : Target) → T (test (control ending target))
 each-ending control t ending target =
-    at-bool (λ target. test (control ending target)) (at (λ ending. bothBools λ target. test (control ending target)) (an-ending ending) t) target
+    at-target (λ target. test (control ending target)) (at (λ ending. allTargets λ target. test (control ending target)) (an-ending ending) t) target
 
 passed : (control : Control) → T (test control)
 unfolding test passes related allows opensRight takenRight isLeaf treeClass settledClass groupClass takesOver
 passed (statementDue true setting) = each-setting (statementDue true) tt setting
 passed (statementDue false setting) = each-setting (statementDue false) tt setting
 passed (statementDone ifNest) = tt
+passed (statementDone elseNest) = tt
+passed (statementDone doNest) = tt
 passed (nameFirst setting) = each-setting nameFirst tt setting
 passed (returnFirst setting) = each-setting returnFirst tt setting
+passed (throwFirst setting) = each-setting throwFirst tt setting
+passed (jumpFirst setting) = each-setting jumpFirst tt setting
+passed (headFirst setting) = each-setting headFirst tt setting
+passed (variableDue place) = each-variables variableDue tt place
+passed (variableNamed place) = each-variables variableNamed tt place
+passed (forFirst setting) = each-setting forFirst tt setting
+passed startDue = tt
+passed testDue = tt
+passed stepDue = tt
+passed (switchFirst setting) = each-setting switchFirst tt setting
+passed (switchPast setting) = each-setting switchPast tt setting
+passed (clauseDue true) = tt
+passed (clauseDue false) = tt
+passed defaultFirst = tt
+passed tryFirst = tt
+passed tryDone = tt
+passed catchFirst = tt
+passed catchDue = tt
+passed catchNamed = tt
+passed catchPast = tt
+passed catchDone = tt
+passed finallyFirst = tt
+passed tryEnded = tt
+passed (bodyDone setting) = each-setting bodyDone tt setting
+passed (testFirst setting) = each-setting testFirst tt setting
+passed (semicolonDue setting) = each-setting semicolonDue tt setting
 passed ifFirst = tt
 passed (operandDue ending target) = each-ending operandDue tt ending target
 passed (memberDue ending target) = each-ending memberDue tt ending target
 passed (operandDone ending target) = each-ending operandDone tt ending target
-passed (postfixDone ending) = each-ending (λ ending target. postfixDone ending) tt ending true
+passed (postfixDone ending) = each-ending (λ ending target. postfixDone ending) tt ending someTarget
 passed (dotLast ending target) = each-ending dotLast tt ending target
 passed (functionFirst declared) = tt
 passed (functionFirst (operandIn ending target)) = each-ending (λ ending target. functionFirst (operandIn ending target)) tt ending target

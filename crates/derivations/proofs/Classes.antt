@@ -36,9 +36,16 @@ fails false t = refl
 pub data TreeRow : Type 0 where
   is : ℕ → Class → TreeRow
 
--- words and signs by their rows; a delimiter, whose row says nothing to the rule, is no tree
+-- delimiters by their classes
+abbrev pub opensGroup : ℕ → Bool
+opensGroup class = eqb class openParen || eqb class openBracket || eqb class openBrace
+
+abbrev pub closesGroup : ℕ → Bool
+closesGroup class = eqb class closeParen || eqb class closeBracket || eqb class closeBrace
+
+-- words and signs by their rows; a delimiter is no tree by itself
 abbrev withRow : ℕ → Class → List TreeRow → List TreeRow
-withRow class tree rest = cond (eqb class 0 || isClass Class.other tree) rest (is class tree ∷ rest)
+withRow class tree rest = cond (eqb class 0 || (opensGroup class || closesGroup class)) rest (is class tree ∷ rest)
 
 abbrev treeRows : List Row → List TreeRow
 treeRows [] = []
@@ -67,15 +74,9 @@ isLeaf class = isIn (classesOf leaves) class
 unfoldable pub treeClass : ℕ → Class
 treeClass class = treeIn leaves class
 
--- delimiters by their classes, and the kind of the group that an opener opens, by whether a brace opens an object there
-abbrev pub opensGroup : ℕ → Bool
-opensGroup class = eqb class openParen || eqb class openBracket || eqb class openBrace
-
+-- the kind of the group that an opener opens, by whether a brace opens an object there
 abbrev pub openedKind : Bool → ℕ → ℕ
 openedKind object class = cond (eqb class openParen) parenKind (cond (eqb class openBracket) bracketKind (cond object objectKind blockKind))
-
-abbrev pub closesGroup : ℕ → Bool
-closesGroup class = eqb class closeParen || eqb class closeBracket || eqb class closeBrace
 
 -- whether a closer closes a group of a kind
 abbrev pub closesKind : ℕ → ℕ → Bool

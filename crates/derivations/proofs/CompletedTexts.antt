@@ -1,7 +1,7 @@
 -- The spelling of a completion: each of its classes has an element of its own.
 use mathlib.Core.Path.{_≡_, refl, subst}
 use mathlib.Core.List.{List, [], _∷_}
-use mathlib.Core.Bool.{false, cond}
+use mathlib.Core.Bool.{Bool, true, false, cond}
 use Prim.Native.Nat.{ℕ, _+_, _-_}
 use Rattle.text.specs.Quoted.{bytes}
 use Rattle.text.specs.Bytes.{blank, lineEnd, illegal, letter, digit, nameByte}
@@ -25,7 +25,8 @@ use Rattle.grammar.proofs.Completion.{
   spelled-close-bracket,
   spelled-open-brace,
   spelled-close-brace,
-  spelled-return,
+  spelled-while,
+  spelled-catch,
   AllSpelled,
   none-spelled,
   more-spelled,
@@ -39,11 +40,21 @@ use Rattle.derivations.proofs.Spelling.{Piece, moved, placedFrom}
 record Spelling (class : ℕ) : Type 0 where
   piece : Piece
   is : (n : ℕ) → classOf (recorded (moved n piece)) ≡ class
+  inline : (n : ℕ) → recorded (moved n piece) .newline ≡ false
+
+neither : (b : Bool) → cond b false false ≡ false
+neither true = refl
+neither false = refl
 
 -- a spelling by a text of its own
 made : (class : ℕ) (s : List ℕ) (e : Element) → elementAt s 0 (stating false false) ≡ Next.Found e → classOf e ≡ class → Spelling class
 unfolding classOf
-made class s e found c = record { piece = record { source = s; place = 0; given = stating false false; element = e; found = found; newline = false }; is = λ n. c }
+made class s e found c =
+    record {
+      piece = record { source = s; place = 0; given = stating false false; element = e; found = found; newline = false };
+      is = λ n. c;
+      inline = λ n. neither (isCloser e);
+    }
 
 spelling : {class : ℕ} → Spelled class → Spelling class
 unfolding elementAt gap elementFrom named letter digit nameByte blank lineEnd illegal quote placeIn wordNumber taken delimiter longestSign longestOf Runs.same Runs.run classOf
@@ -55,7 +66,8 @@ spelling spelled-close-paren = made _ (bytes ") ") _ refl refl
 spelling spelled-close-bracket = made _ (bytes "] ") _ refl refl
 spelling spelled-open-brace = made _ (bytes "{ ") _ refl refl
 spelling spelled-close-brace = made _ (bytes "} ") _ refl refl
-spelling spelled-return = made _ (bytes "return ") _ refl refl
+spelling spelled-while = made _ (bytes "while ") _ refl refl
+spelling spelled-catch = made _ (bytes "catch ") _ refl refl
 
 -- pieces that are cut into tokens of the classes, wherever they stand
 pub record Completed (classes : List ℕ) : Type 0 where
@@ -74,5 +86,5 @@ completed (more-spelled {classes = classes} one all) =
       are = λ mark place.
           let e = recorded (moved place (s .piece)) in
           subst (λ (class : ℕ). OfClasses (class ∷ classes) (tokensFrom mark (placedFrom place (s .piece ∷ rest .pieces)))) (s .is place)
-          (more-tokens (rest .are (cond (isCloser e) mark (mark + 1)) (place + 1 + size)));
+          (more-tokens (s .inline place) (rest .are (cond (isCloser e) mark (mark + 1)) (place + 1 + size)));
     }

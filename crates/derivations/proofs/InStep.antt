@@ -9,7 +9,7 @@ use Rattle.rule.specs.Rule.{backwards, groupClass, unanswered}
 use Rattle.rule.specs.Levels.{Levels, wholeText, inside, kindOf, onTop}
 use Rattle.rule.specs.Machinery.Summary.{Summary, afterOperator, summary}
 use Rattle.derivations.specs.Tokens.{Token, token}
-use Rattle.machine.specs.Machinery.Machine.{endOfText, Frame, Ending, Control, operandDue, Closing, Open, grouped, nested, asking, State, dead, live, start, asks}
+use Rattle.machine.specs.Machinery.Machine.{endOfText, Frame, Ending, Control, someTarget, operandDue, Closing, Open, grouped, nested, asking, State, dead, live, start, asks}
 use Rattle.machine.proofs.Ran.{ran, ran-is-run, stays-dead, anywhere, isLive}
 use Rattle.derivations.proofs.Classes.{questionsOf}
 use Rattle.derivations.proofs.Related.{related, takesOver}
@@ -35,8 +35,8 @@ pub data Stacks : List Open → Levels → Type 0 where
       → Stacks rest around → Stacks (grouped behind closing mark f ∷ rest) (inside around kind first newline trees)
   in-nest : {behind : Control} {closing : Closing} {mark : ℕ} {f : Frame} {rest : List Open} {levels : Levels} → T (takesOver behind)
       → asked rest ≡ 0 → Fits behind rest → Stacks rest levels → Stacks (nested behind closing mark f ∷ rest) levels
-  in-question : {ending : Ending} {mark : ℕ} {f : Frame} {rest : List Open} {levels : Levels} → T (related (operandDue ending true) (kindOf levels) afterOperator)
-      → Fits (operandDue ending true) rest → Stacks rest levels → Stacks (asking ending mark f ∷ rest) levels
+  in-question : {ending : Ending} {mark : ℕ} {f : Frame} {rest : List Open} {levels : Levels} → T (related (operandDue ending someTarget) (kindOf levels) afterOperator)
+      → Fits (operandDue ending someTarget) rest → Stacks rest levels → Stacks (asking ending mark f ∷ rest) levels
 
 -- a machine that has stopped is in step with all levels
 pub data InStep : State → Levels → Type 0 where

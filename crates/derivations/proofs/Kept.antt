@@ -25,6 +25,7 @@ use Rattle.machine.specs.Machinery.Machine.{
   Ending,
   byColon,
   Control,
+  someTarget,
   operandDue,
   Closing,
   Action,
@@ -33,6 +34,7 @@ use Rattle.machine.specs.Machinery.Machine.{
   push,
   enter,
   pop,
+  popIn,
   leave,
   ask,
   turn,
@@ -47,6 +49,8 @@ use Rattle.machine.specs.Machinery.Machine.{
   live,
   valueOf,
   expressionValue,
+  listValue,
+  headIn,
   popTo,
   turnTo,
   finishIn,
@@ -60,7 +64,7 @@ use Rattle.machine.specs.Machinery.Machine.{
 use Rattle.derivations.proofs.Classes.{isLeaf, treeClass, told, leaf-told, opensGroup, openedKind, closesGroup, closesKind, holds, fails, settledClass, settled-there, questionsOf}
 use Rattle.derivations.proofs.ClassSteps.{opener-step, closer-step, leaf-no-closer, opener-no-closer, closer-closer, newline-kept, no-end}
 use Rattle.derivations.proofs.Related.{related, on-kind, settled, takes-over}
-use Rattle.derivations.proofs.Agreement.{wordClasses, takenRight, addToken, updatesRight, allows, OpensRight, opens-right, GoesRight, goto-allowed, push-allowed, enter-allowed, leave-allowed, pop-allowed, AsksRight, ask-allowed, turn-allowed, finish-allowed, rule, questions-kept, both}
+use Rattle.derivations.proofs.Agreement.{wordClasses, takenRight, addToken, updatesRight, allows, OpensRight, opens-right, GoesRight, goto-allowed, push-allowed, enter-allowed, leave-allowed, pop-allowed, pop-in-allowed, AsksRight, ask-allowed, turn-allowed, finish-allowed, rule, questions-kept, both}
 use Rattle.derivations.proofs.LevelSummary.{summaryOf, summaryWith, slash-summary, name-summary, brace-summary, summary-leaf, summary-group, questions-leaf, questions-group}
 use Rattle.derivations.proofs.MachineSenses.{senseAt}
 use Rattle.derivations.proofs.ReadSenses.{sensesSoFar, leaf-senses, opener-senses, closer-senses}
@@ -143,7 +147,7 @@ module _ (limits : Limits) (levels : Levels) (e : Element) where
   -- a `?` is opened
   question-outcome : {ending : Ending} {mark : ℕ} {f inner : Frame} {around : List Open} → AsksRight (kindOf levels) (summaryOf levels) (e .newline) (someOpen levels) (classOf e) ending
       → questionsOf levels ≡ asked around → Stacks around levels
-      → Outcome limits levels e (someOpen levels) (live (operandDue byColon true) inner (asking ending mark f ∷ around)) (step limits levels e)
+      → Outcome limits levels e (someOpen levels) (live (operandDue byColon someTarget) inner (asking ending mark f ∷ around)) (step limits levels e)
   unfolding settledClass treeClass
   question-outcome {ending} {mark} {f} {inner} {around} a n s =
       let class : classOf e ≡ question = eqb→eq (classOf e) question (a .is-question) in
@@ -185,6 +189,13 @@ closer-outcome limits levels e isOpen place value (in-group {behind = behind} {c
     (summary-group around kind first (e .end) newline trees) r (questions-group around kind first (e .end) newline trees ∙ q) u s)
     (rw (closer-closer e (told e) t) (count-on-top (λ before. group before kind first (e .end) newline trees) (count trees + 1) (λ before. refl) around))
     (closer-senses around kind first (e .end) newline trees isOpen (live behind (close closing mark value f) rest) (classOf e) (e .first) t))
+
+-- the head of a `for` is a group like any other
+head-stacks : {around : List Open} {levels : Levels} → Stacks around levels → Stacks (headIn around) levels
+head-stacks whole-text = whole-text
+head-stacks (in-group n r q u s) = in-group n r q u s
+head-stacks (in-nest over few u s) = in-nest over few u s
+head-stacks (in-question r u s) = in-question r u s
 
 -- a slash, and a reserved word, is taken as the prefix rule says
 opens : (levels : Levels) (class : ℕ) → T (takenRight (kindOf levels) (summaryOf levels) class) → class ≡ pattern → slashOpens levels ≡ true
@@ -262,14 +273,17 @@ module _ (limits : Limits) (levels : Levels) (e : Element) where
       keep (a .0) (opener-outcome limits levels e (a .1)
       (opens-right (kindOf levels) (summaryOf levels) (e .newline) (someOpen levels) (openedKind (braceOpens levels (e .newline)) (classOf e)) within behind
       (rw (newline-kept e (opener-no-closer e (told e) (a .1)), brace-summary levels (e .newline)) at (a .2))) n s)
-  acted out left spot f around n s (enter within behind closing) t alive =
-      let a = enter-allowed (kindOf levels) (summaryOf levels) newline (someOpen levels) (classOf e) within behind closing t in
+  acted out left spot f around n s (enter within effect outer behind closing) t alive =
+      let a = enter-allowed (kindOf levels) (summaryOf levels) newline (someOpen levels) (classOf e) within effect outer behind closing t in
       let g = a .goes in
       let few : asked around ≡ 0 = let z : questionsOf levels ≤ 0 = ltb-false 0 (questionsOf levels) (a .unasked) in omega arith in
       keep (g .taken) (plain-outcome limits levels e (rw (leaf-newline (g .leaf)) at g) (n ∙ few) (in-nest (a .takes) few (a .behind-unasked ∙ rw few) s))
   acted out left spot f around n s (pop value) t alive =
       let a = pop-allowed (kindOf levels) (summaryOf levels) newline (someOpen levels) (classOf e) value t in
       keep (a .0) (closer-outcome limits levels e (someOpen levels) (spot .first) (valueOf value f) s (a .1) (a .2) alive)
+  acted out left spot f around n s popIn t alive =
+      let a = pop-in-allowed (kindOf levels) (summaryOf levels) newline (someOpen levels) (classOf e) t in
+      keep (a .0) (closer-outcome limits levels e (someOpen levels) (spot .first) (valueOf listValue f) (head-stacks s) (a .1) (a .2) alive)
   acted out left spot f around n s (leave value) t alive =
       left (valueOf value f) (leave-allowed (kindOf levels) (summaryOf levels) newline (someOpen levels) (classOf e) value t) alive
   acted out left spot f around n s (ask ending) t alive =
@@ -355,9 +369,10 @@ module _ (levels : Levels) (spot : Spot) where
   ended out left f s (goto next effect) isOpen t alive = absurd ((goto-allowed (kindOf levels) (summaryOf levels) (spot .newline) isOpen endOfText next effect t) .leaf)
   ended out left f s (push within behind closing) isOpen t alive =
       absurd ((push-allowed (kindOf levels) (summaryOf levels) (spot .newline) isOpen endOfText within behind closing t) .1)
-  ended out left f s (enter within behind closing) isOpen t alive =
-      absurd ((enter-allowed (kindOf levels) (summaryOf levels) (spot .newline) isOpen endOfText within behind closing t) .goes .leaf)
+  ended out left f s (enter within effect outer behind closing) isOpen t alive =
+      absurd ((enter-allowed (kindOf levels) (summaryOf levels) (spot .newline) isOpen endOfText within effect outer behind closing t) .goes .leaf)
   ended out left f s (pop value) isOpen t alive = absurd ((pop-allowed (kindOf levels) (summaryOf levels) (spot .newline) isOpen endOfText value t) .1)
+  ended out left f s popIn isOpen t alive = absurd ((pop-in-allowed (kindOf levels) (summaryOf levels) (spot .newline) isOpen endOfText t) .1)
   ended out left f s (leave value) isOpen t alive =
       left (valueOf value f) (leave-allowed (kindOf levels) (summaryOf levels) (spot .newline) isOpen endOfText value t) alive
   ended out left f s (ask ending) isOpen t alive = absurd ((ask-allowed (kindOf levels) (summaryOf levels) (spot .newline) isOpen endOfText ending t) .leaf)

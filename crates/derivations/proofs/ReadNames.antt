@@ -31,11 +31,17 @@ use Rattle.machine.specs.Machinery.Machine.{
   byItem,
   declared,
   operandIn,
+  among,
+  inClause,
+  inNest,
+  inStatement,
+  inHead,
   Control,
   statementDue,
   statementDone,
   nameFirst,
   returnFirst,
+  variableDue,
   ifFirst,
   operandDue,
   memberDue,
@@ -77,10 +83,14 @@ recordToken (token class spot) = token (recordClass class) spot
 names-alike : (control : Control) (spot : Spot) (f : Frame) (around : List Open) → T (mayName control)
     → consume (live control f around) (token name spot) ≡ consume (live control f around) (token wordName spot)
 names-alike (statementDue true setting) spot f around t = absurd t
-names-alike (statementDue false setting) spot f around t = absurd t
+names-alike (statementDue false (among scope)) spot f around t = absurd t
+names-alike (statementDue false inClause) spot f around t = absurd t
+names-alike (statementDue false (inNest nest)) spot f around t = absurd t
 names-alike (statementDone nest) spot f around t = absurd t
 names-alike (nameFirst setting) spot f around t = absurd t
 names-alike (returnFirst setting) spot f around t = absurd t
+names-alike (variableDue (inStatement setting)) spot f around t = absurd t
+names-alike (variableDue (inHead first)) spot f around t = absurd t
 names-alike ifFirst spot f around t = absurd t
 names-alike (operandDue (byStatement setting) target) spot f around t = absurd t
 names-alike (operandDue (byReturn setting) target) spot f around t = absurd t

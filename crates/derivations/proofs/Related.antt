@@ -9,13 +9,13 @@ use Rattle.rule.specs.Machinery.Summary.{
   nothing,
   operand,
   afterOperator,
-  afterColon,
+  afterSeparator,
   afterDot,
   afterComma,
   afterOther,
   afterReturn,
-  afterIf,
-  afterIfParens,
+  afterHeadWord,
+  afterHead,
   afterBlock,
   afterFunction,
   afterFunctionName,
@@ -27,6 +27,12 @@ use Rattle.machine.specs.Machinery.Machine.{
   Ending,
   byStatement,
   byReturn,
+  byVariable,
+  byStart,
+  byTest,
+  byStep,
+  byObject,
+  byCase,
   byParen,
   byBracket,
   byColon,
@@ -36,10 +42,42 @@ use Rattle.machine.specs.Machinery.Machine.{
   operandIn,
   Control,
   ifNest,
+  Setting,
+  among,
+  inClause,
+  inNest,
+  Variables,
+  inStatement,
+  inHead,
   statementDue,
   statementDone,
   nameFirst,
   returnFirst,
+  throwFirst,
+  jumpFirst,
+  headFirst,
+  variableDue,
+  variableNamed,
+  bodyDone,
+  testFirst,
+  semicolonDue,
+  forFirst,
+  startDue,
+  testDue,
+  stepDue,
+  switchFirst,
+  switchPast,
+  clauseDue,
+  defaultFirst,
+  tryFirst,
+  tryDone,
+  catchFirst,
+  catchDue,
+  catchNamed,
+  catchPast,
+  catchDone,
+  finallyFirst,
+  tryEnded,
   ifFirst,
   operandDue,
   memberDue,
@@ -72,10 +110,20 @@ itemKinds callArguments = parenKind ∷ []
 itemKinds arrayElements = bracketKind ∷ []
 itemKinds objectProperties = objectKind ∷ []
 
+abbrev variableKinds : Variables → List ℕ
+variableKinds (inStatement setting) = statementKinds
+variableKinds (inHead first) = parenKind ∷ []
+
 -- a conditional may stand on any level
 abbrev endingKinds : Ending → List ℕ
 endingKinds (byStatement setting) = statementKinds
 endingKinds (byReturn setting) = statementKinds
+endingKinds (byVariable place) = variableKinds place
+endingKinds byStart = parenKind ∷ []
+endingKinds byTest = parenKind ∷ []
+endingKinds byStep = parenKind ∷ []
+endingKinds byObject = parenKind ∷ []
+endingKinds (byCase seen) = statementKinds
 endingKinds byParen = parenKind ∷ []
 endingKinds byBracket = bracketKind ∷ []
 endingKinds byColon = 0 ∷ blockKind ∷ parenKind ∷ bracketKind ∷ objectKind ∷ []
@@ -90,6 +138,31 @@ kinds (statementDue must setting) = statementKinds
 kinds (statementDone nest) = statementKinds
 kinds (nameFirst setting) = statementKinds
 kinds (returnFirst setting) = statementKinds
+kinds (throwFirst setting) = statementKinds
+kinds (jumpFirst setting) = statementKinds
+kinds (headFirst setting) = statementKinds
+kinds (variableDue place) = variableKinds place
+kinds (variableNamed place) = variableKinds place
+kinds (forFirst setting) = statementKinds
+kinds startDue = parenKind ∷ []
+kinds testDue = parenKind ∷ []
+kinds stepDue = parenKind ∷ []
+kinds (switchFirst setting) = statementKinds
+kinds (switchPast setting) = statementKinds
+kinds (clauseDue seen) = statementKinds
+kinds defaultFirst = statementKinds
+kinds tryFirst = statementKinds
+kinds tryDone = statementKinds
+kinds catchFirst = statementKinds
+kinds catchDue = parenKind ∷ []
+kinds catchNamed = parenKind ∷ []
+kinds catchPast = statementKinds
+kinds catchDone = statementKinds
+kinds finallyFirst = statementKinds
+kinds tryEnded = statementKinds
+kinds (bodyDone setting) = statementKinds
+kinds (testFirst setting) = statementKinds
+kinds (semicolonDue setting) = statementKinds
 kinds ifFirst = statementKinds
 kinds (operandDue ending target) = endingKinds ending
 kinds (memberDue ending target) = endingKinds ending
@@ -109,12 +182,18 @@ kinds finished = []
 abbrev dueBehind : Ending → List Summary
 dueBehind (byStatement setting) = afterOperator ∷ afterComma ∷ []
 dueBehind (byReturn setting) = afterOperator ∷ afterComma ∷ []
+dueBehind (byVariable place) = afterOperator ∷ []
+dueBehind byStart = afterOperator ∷ afterComma ∷ []
+dueBehind byTest = afterOperator ∷ afterComma ∷ []
+dueBehind byStep = afterOperator ∷ afterComma ∷ []
+dueBehind byObject = afterOperator ∷ afterComma ∷ []
+dueBehind (byCase seen) = afterOperator ∷ afterComma ∷ []
 dueBehind byParen = nothing ∷ afterOperator ∷ afterComma ∷ []
 dueBehind byBracket = nothing ∷ afterOperator ∷ afterComma ∷ []
 dueBehind byColon = afterOperator ∷ []
 dueBehind (byItem callArguments) = afterComma ∷ afterOperator ∷ []
 dueBehind (byItem arrayElements) = afterOperator ∷ []
-dueBehind (byItem objectProperties) = afterColon ∷ afterOperator ∷ []
+dueBehind (byItem objectProperties) = afterSeparator ∷ afterOperator ∷ []
 
 abbrev itemBehind : Items → List Summary
 itemBehind callArguments = nothing ∷ []
@@ -126,13 +205,44 @@ abbrev isOperand : Role → Bool
 isOperand declared = false
 isOperand (operandIn ending target) = true
 
+-- a statement has come before in a clause, or its `:`
+abbrev mayStart : Setting → List Summary
+mayStart (among scope) = nothing ∷ afterSeparator ∷ afterBlock ∷ []
+mayStart inClause = afterSeparator ∷ afterBlock ∷ []
+mayStart (inNest nest) = nothing ∷ afterSeparator ∷ afterBlock ∷ []
+
 abbrev pub summaries : Control → List Summary
-summaries (statementDue true setting) = afterColon ∷ afterIfParens ∷ []
-summaries (statementDue false setting) = nothing ∷ afterOther ∷ afterBlock ∷ []
-summaries (statementDone nest) = afterOther ∷ afterBlock ∷ []
+summaries (statementDue true setting) = afterSeparator ∷ afterHead ∷ afterOther ∷ []
+summaries (statementDue false setting) = mayStart setting
+summaries (statementDone nest) = afterSeparator ∷ afterBlock ∷ []
 summaries (nameFirst setting) = operand ∷ []
 summaries (returnFirst setting) = afterReturn ∷ []
-summaries ifFirst = afterIf ∷ []
+summaries (throwFirst setting) = afterReturn ∷ []
+summaries (jumpFirst setting) = afterOther ∷ []
+summaries (headFirst setting) = afterHeadWord ∷ []
+summaries (variableDue place) = afterOther ∷ afterComma ∷ []
+summaries (variableNamed place) = operand ∷ []
+summaries (forFirst setting) = afterHeadWord ∷ []
+summaries startDue = nothing ∷ []
+summaries testDue = afterSeparator ∷ []
+summaries stepDue = afterSeparator ∷ []
+summaries (switchFirst setting) = afterOther ∷ []
+summaries (switchPast setting) = operand ∷ []
+summaries (clauseDue seen) = nothing ∷ afterSeparator ∷ afterBlock ∷ []
+summaries defaultFirst = afterOther ∷ []
+summaries tryFirst = afterOther ∷ []
+summaries tryDone = afterBlock ∷ []
+summaries catchFirst = afterOther ∷ []
+summaries catchDue = nothing ∷ []
+summaries catchNamed = operand ∷ []
+summaries catchPast = operand ∷ []
+summaries catchDone = afterBlock ∷ []
+summaries finallyFirst = afterOther ∷ []
+summaries tryEnded = afterBlock ∷ []
+summaries (bodyDone setting) = afterSeparator ∷ afterBlock ∷ []
+summaries (testFirst setting) = afterHeadWord ∷ []
+summaries (semicolonDue setting) = operand ∷ afterOther ∷ afterHead ∷ []
+summaries ifFirst = afterHeadWord ∷ []
 summaries (operandDue ending target) = dueBehind ending
 summaries (memberDue ending target) = afterOperator ∷ []
 summaries (operandDone ending target) = operand ∷ []
@@ -152,13 +262,13 @@ abbrev ordinal : Summary → ℕ
 ordinal nothing = 0
 ordinal operand = 1
 ordinal afterOperator = 2
-ordinal afterColon = 3
+ordinal afterSeparator = 3
 ordinal afterDot = 4
 ordinal afterComma = 5
 ordinal afterOther = 6
 ordinal afterReturn = 7
-ordinal afterIf = 8
-ordinal afterIfParens = 9
+ordinal afterHeadWord = 8
+ordinal afterHead = 9
 ordinal afterBlock = 10
 ordinal (afterFunction inObject) = cond inObject 12 11
 ordinal (afterFunctionName inObject) = cond inObject 14 13
@@ -223,11 +333,11 @@ module _ (control : Control) (kind : ℕ) where
   word-named afterDot r n = left-of (isLast control afterDot) (dueFirst control) (and-right (isIn (kinds control) kind) (isLast control afterDot) r)
   word-named operand r n = absurd (false≢true n)
   word-named afterOperator r n = absurd (false≢true n)
-  word-named afterColon r n = absurd (false≢true n)
+  word-named afterSeparator r n = absurd (false≢true n)
   word-named afterOther r n = absurd (false≢true n)
   word-named afterReturn r n = absurd (false≢true n)
-  word-named afterIf r n = absurd (false≢true n)
-  word-named afterIfParens r n = absurd (false≢true n)
+  word-named afterHeadWord r n = absurd (false≢true n)
+  word-named afterHead r n = absurd (false≢true n)
   word-named afterBlock r n = absurd (false≢true n)
   word-named (afterFunction inObject) r n = absurd (false≢true n)
   word-named (afterFunctionName inObject) r n = absurd (false≢true n)

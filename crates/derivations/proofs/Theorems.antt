@@ -21,9 +21,10 @@ use Rattle.reading.proofs.Formed.{Formed, reading-formed}
 use Rattle.reading.proofs.LengthFirst.{first-accepted}
 use Rattle.reading.proofs.Theorems.{count-of-records}
 use Rattle.derivations.specs.Cuts.{CutsInto}
-use Rattle.derivations.specs.Tokens.{Token, comma, colon, semicolon, dot, openParen, closeParen, openBrace, closeBrace, openBracket, closeBracket, returnWord, functionWord, ifWord, classOf, tokenOf, tokens}
+use Rattle.derivations.specs.Tokens.{Token, assign, varWord, elseWord, doWord, whileWord, forWord, continueWord, breakWord, withWord, switchWord, caseWord, defaultWord, throwWord, tryWord, catchWord, finallyWord, debuggerWord, comma, colon, semicolon, dot, openParen, closeParen, openBrace, closeBrace, openBracket, closeBracket, returnWord, functionWord, ifWord, classOf, tokenOf, tokens}
+use Rattle.machine.specs.Tokens.{inWord}
 use Rattle.grammar.specs.Grammar.{Program, isAmong}
-use Rattle.grammar.specs.Recorded.{isRecorded, partsOf, Makes}
+use Rattle.grammar.specs.Recorded.{isRecorded, partsOf, Makes, Assigns, Relates}
 use Rattle.derivations.specs.Derivations.{Derivation, countTrees, BeginsProgram}
 use Rattle.derivations.specs.TreeElements.{elementsOf}
 use Rattle.machine.specs.Machinery.Machine.{frame, start}
@@ -34,7 +35,7 @@ use Rattle.derivations.proofs.ReadCuts.{reading-cuts}
 use Rattle.derivations.proofs.SameChoice.{same-choice}
 use Rattle.grammar.proofs.Counts.{few-parts}
 use Rattle.grammar.proofs.TableLaws.{eachClass}
-use Rattle.grammar.proofs.Recorded.{token-recorded}
+use Rattle.grammar.proofs.Recorded.{token-recorded, assign-recorded, in-recorded}
 use Rattle.derivations.specs.Demand3.{answersOf, ReadAs, OneDerivation, FewParts, RuleTakes}
 use Rattle.derivations.proofs.TokenLaws.{elements-counting, element-marks}
 use Rattle.derivations.proofs.CountTrees.{count-tokens, program-distinct}
@@ -150,10 +151,26 @@ operators-recorded text d before e after split h =
     token-recorded (elements-counting (d .elements)) (d .steps) (tokens before) (classOf e)
     (record { newline = e .newline; mark = countTrees before; first = e .first }) (t .0) (ap tokens split ∙ t .1) h
 
--- Of the words and signs these are all but those that no program takes, those of statements and functions, delimiters, `;`, `.`, `:` and `,`.
+-- a `=` does so too, but where a variable's name stands before it
+pub assignments-recorded : (text : List ℕ) (d : Derivation text) (before : List Element) (e : Element) (after : List Element)
+    → d .elements ≡ before ++ (e ∷ after) → classOf e ≡ assign → Assigns (countTrees before) (partsOf (d .parts))
+assignments-recorded text d before e after split h =
+    let t = token-marked before e after in
+    assign-recorded (elements-counting (d .elements)) (d .steps) (tokens before)
+    (record { newline = e .newline; mark = countTrees before; first = e .first }) (t .0) (rw h at (ap tokens split ∙ t .1))
+
+-- and so does `in`, but inside a `for` with `in` (`Relates`)
+pub relations-recorded : (text : List ℕ) (d : Derivation text) (before : List Element) (e : Element) (after : List Element)
+    → d .elements ≡ before ++ (e ∷ after) → classOf e ≡ inWord → Relates (countTrees before) (partsOf (d .parts))
+relations-recorded text d before e after split h =
+    let t = token-marked before e after in
+    in-recorded (elements-counting (d .elements)) (d .steps) (tokens before)
+    (record { newline = e .newline; mark = countTrees before; first = e .first }) (t .0) (rw h at (ap tokens split ∙ t .1))
+
+-- Of the words and signs these are all but those that no program takes, those of statements and functions, delimiters, `;`, `.`, `:`, `,`, `=` and `in`.
 abbrev otherClasses : List ℕ
 otherClasses =
-    0 ∷ returnWord ∷ functionWord ∷ ifWord ∷ openParen ∷ closeParen ∷ openBracket ∷ closeBracket ∷ openBrace ∷ closeBrace ∷ semicolon ∷ dot ∷ colon ∷ comma ∷ []
+    0 ∷ assign ∷ inWord ∷ varWord ∷ elseWord ∷ doWord ∷ whileWord ∷ forWord ∷ continueWord ∷ breakWord ∷ withWord ∷ switchWord ∷ caseWord ∷ defaultWord ∷ throwWord ∷ tryWord ∷ catchWord ∷ finallyWord ∷ debuggerWord ∷ returnWord ∷ functionWord ∷ ifWord ∷ openParen ∷ closeParen ∷ openBracket ∷ closeBracket ∷ openBrace ∷ closeBrace ∷ semicolon ∷ dot ∷ colon ∷ comma ∷ []
 
 pub all-others-recorded : T (eachClass (λ class. isRecorded class || isAmong otherClasses class) (map tokenClass (words ++ signs)))
 all-others-recorded = tt

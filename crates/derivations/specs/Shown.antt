@@ -19,11 +19,40 @@ use Rattle.grammar.specs.Grammar.{
   no-statements,
   add-statement,
   add-declaration,
+  block-all,
   statement-block,
   statement-expression,
+  statement-var,
+  no-variables,
+  add-variable,
+  variable-bare,
+  variable-initialised,
+  statement-empty,
   statement-if,
+  statement-else,
+  statement-do,
+  statement-head,
+  statement-for,
+  statement-for-var,
+  left-out,
+  not-left-out,
+  statement-for-in,
+  statement-for-var-in,
+  statement-bare-jump,
+  statement-jump,
   statement-bare-return,
   statement-full-return,
+  statement-switch,
+  no-clauses,
+  add-case,
+  add-default,
+  statement-throw,
+  statement-try,
+  statement-try-finally,
+  statement-try-all,
+  catch-all,
+  finally-all,
+  statement-debugger,
   statement-label,
   function-all,
   expression-assign,
@@ -77,17 +106,47 @@ wordsOf (cut-slash met found rest) = wordsOf rest
 wordsOf (cut-word {e = e} {answer = answer} met found rest) = cond answer [] (e .first ∷ []) ++ wordsOf rest
 
 -- The senses of a derivation, in text order. The braces of a Chain with properties, or none, are objects; the "block holding a body" of a
--- Function and the "block of statements" are blocks; `++` or `--` of a Unary stands before it or after it; the `:` of a conditional is an answer, and
+-- Function, the "block of statements" and the clauses of a `switch` are blocks; `++` or `--` of a Unary stands before it or after it; the `:` of a conditional is an answer, and
 -- any other has no sense. A derivation says so by its steps: nothing of the prefix rule is here.
 unfoldable pub sensesOf : {form : Form} {before after : List Token} {value : Syntax} → Derives form before after value → List Sense
 sensesOf no-statements = []
 sensesOf (add-statement statements last) = sensesOf statements ++ sensesOf last
 sensesOf (add-declaration statements function) = sensesOf statements ++ sensesOf function
-sensesOf (statement-block {opener = opener} statements) = blockAt (opener .first) ∷ sensesOf statements
+sensesOf (block-all {opener = opener} statements) = blockAt (opener .first) ∷ sensesOf statements
+sensesOf (statement-block inner) = sensesOf inner
 sensesOf (statement-expression allowed value) = sensesOf value
-sensesOf (statement-if condition inner) = sensesOf condition ++ sensesOf inner
+sensesOf (statement-var variables last) = sensesOf variables ++ sensesOf last
+sensesOf no-variables = []
+sensesOf (add-variable variables last) = sensesOf variables ++ sensesOf last
+sensesOf variable-bare = []
+sensesOf (variable-initialised value) = sensesOf value
+sensesOf statement-empty = []
+sensesOf (statement-if alone condition inner) = sensesOf condition ++ sensesOf inner
+sensesOf (statement-else condition first second) = sensesOf condition ++ (sensesOf first ++ sensesOf second)
+sensesOf (statement-do inner condition) = sensesOf inner ++ sensesOf condition
+sensesOf (statement-head word head inner) = sensesOf head ++ sensesOf inner
+sensesOf (statement-for start condition step inner) = sensesOf start ++ (sensesOf condition ++ (sensesOf step ++ sensesOf inner))
+sensesOf (statement-for-var variables last condition step inner) =
+    sensesOf variables ++ (sensesOf last ++ (sensesOf condition ++ (sensesOf step ++ sensesOf inner)))
+sensesOf left-out = []
+sensesOf (not-left-out value) = sensesOf value
+sensesOf (statement-for-in target object inner) = sensesOf target ++ (sensesOf object ++ sensesOf inner)
+sensesOf (statement-for-var-in variable object inner) = sensesOf variable ++ (sensesOf object ++ sensesOf inner)
+sensesOf (statement-bare-jump word) = []
+sensesOf (statement-jump word same) = []
 sensesOf statement-bare-return = []
 sensesOf (statement-full-return same value) = sensesOf value
+sensesOf (statement-switch {opener = opener} subject clauses) = sensesOf subject ++ (blockAt (opener .first) ∷ sensesOf clauses)
+sensesOf no-clauses = []
+sensesOf (add-case clauses test statements) = sensesOf clauses ++ (sensesOf test ++ sensesOf statements)
+sensesOf (add-default clauses statements) = sensesOf clauses ++ sensesOf statements
+sensesOf (statement-throw same value) = sensesOf value
+sensesOf (statement-try alone inner handler) = sensesOf inner ++ sensesOf handler
+sensesOf (statement-try-finally inner last) = sensesOf inner ++ sensesOf last
+sensesOf (statement-try-all inner handler last) = sensesOf inner ++ (sensesOf handler ++ sensesOf last)
+sensesOf (catch-all inner) = sensesOf inner
+sensesOf (finally-all inner) = sensesOf inner
+sensesOf statement-debugger = []
 sensesOf (statement-label inner) = sensesOf inner
 sensesOf (function-all {openBody = openBody} parameters statements) = blockAt (openBody .first) ∷ sensesOf statements
 sensesOf (expression-assign value) = sensesOf value

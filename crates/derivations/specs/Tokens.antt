@@ -6,7 +6,7 @@ use lib.Dec.{eqb}
 use Rattle.elements.specs.Elements.{nameKind, wordKind, numberKind, stringKind, patternKind, signKind, delimiterKind, delimiter}
 use Rattle.elements.specs.declared.Element.{Element}
 use Rattle.vocabulary.specs.Vocabulary.{words, signs, tokenClass, rowAt}
-pub use Rattle.machine.specs.Tokens.{Token, token, Spot, name, number, string, pattern, divide, divideAssign, increment, decrement, question, comma, colon, semicolon, dot, openParen, closeParen, openBrace, closeBrace, returnWord, functionWord, ifWord, wordName, openBracket, closeBracket}
+pub use Rattle.machine.specs.Tokens.{Token, token, Spot, name, number, string, pattern, divide, divideAssign, increment, decrement, assign, question, comma, varWord, elseWord, doWord, whileWord, forWord, continueWord, breakWord, withWord, switchWord, caseWord, defaultWord, throwWord, tryWord, catchWord, finallyWord, debuggerWord, colon, semicolon, dot, openParen, closeParen, openBrace, closeBrace, returnWord, functionWord, ifWord, wordName, openBracket, closeBracket}
 use Rattle.derivations.specs.Cuts.{isCloser}
 
 -- the class of a name by its number among the reserved words: one of these that is taken as a name has a class of its own

@@ -8,17 +8,17 @@ use lib.Dec.{T, eqb}
 use Rattle.machine.specs.Tokens.{name, newWord, colon, openParen, openBrace, openBracket, functionWord}
 use Rattle.machine.specs.Operators.{prefixOperators, prefixKind, isAmong}
 use Rattle.machine.specs.Scopes.{arrayElements, objectProperties}
-use Rattle.machine.specs.Machinery.Machine.{Setting, Ending, byParen, operandIn, statementDue, nameFirst, operandDue, memberDue, operandDone, functionFirst, itemDue, takeLeaf, takePrefix, takeLabel, holdWord, toParens, toArray, toObject, Entry, on, Action, fail, goto, push, look, values, primaries, operand, member, noParameter, row}
+use Rattle.machine.specs.Machinery.Machine.{Setting, Target, noTarget, someTarget, Ending, byParen, operandIn, statementDue, nameFirst, operandDue, memberDue, operandDone, functionFirst, itemDue, takeLeaf, takePrefix, takeLabel, holdWord, toParens, toArray, toObject, Entry, on, Action, fail, goto, push, look, values, primaries, operand, member, noParameter, row}
 use Rattle.machine.specs.Machinery.Classes.{isLeaf, isEnd, isSingle}
 use Rattle.controls.proofs.ClassLaws.{among-all, among-apart, leaf-among}
 use Rattle.controls.proofs.EndLaws.{NoCloser, at-closers}
 use Rattle.forms.proofs.EntryLaws.{among-entry, other-entry}
 
-module _ (class : ℕ) (ending : Ending) (target : Bool) where
+module _ (class : ℕ) (ending : Ending) (target : Target) where
   -- what `primaries` has besides values
   abbrev groups : List Entry
   groups =
-      on openParen (push (operandDue byParen true) (operandDone ending target) toParens)
+      on openParen (push (operandDue byParen someTarget) (operandDone ending target) toParens)
       ∷ on openBracket (push (itemDue arrayElements) (operandDone ending target) toArray)
       ∷ on newWord (goto (memberDue ending target) (takePrefix newWord))
       ∷ []
@@ -38,17 +38,17 @@ module _ (class : ℕ) (ending : Ending) (target : Bool) where
 
   -- operators before an operand at once, and what is no such operator
   pub prefix-row : isAmong prefixOperators class ≡ true
-      → (look class (operand ending target) ≡ goto (operandDue ending false) (takePrefix (prefixKind class))) × T (isSingle class)
+      → (look class (operand ending target) ≡ goto (operandDue ending noTarget) (takePrefix (prefixKind class))) × T (isSingle class)
   prefix-row is = (
     rw (among-apart class prefixOperators name refl is, among-apart class prefixOperators openBrace refl is, among-apart class prefixOperators functionWord refl is)
-        (among-entry class (λ class. goto (operandDue ending false) (takePrefix (prefixKind class))) prefixOperators (primaries ending target []) is),
+        (among-entry class (λ class. goto (operandDue ending noTarget) (takePrefix (prefixKind class))) prefixOperators (primaries ending target []) is),
     among-all class isSingle prefixOperators tt is,
   )
 
   pub no-prefix-row : isAmong prefixOperators class ≡ false → look class (operand ending target) ≡ look class (member ending target)
   no-prefix-row none =
       ap (λ (x : Action). cond (eqb class name) (goto (operandDone ending target) (takeLeaf name)) (cond (eqb class openBrace) (push (itemDue objectProperties) (operandDone ending target) toObject) (cond (eqb class functionWord) (goto (functionFirst (operandIn ending target)) holdWord) x)))
-      (other-entry class (λ class. goto (operandDue ending false) (takePrefix (prefixKind class))) prefixOperators (primaries ending target []) none)
+      (other-entry class (λ class. goto (operandDue ending noTarget) (takePrefix (prefixKind class))) prefixOperators (primaries ending target []) none)
 
   -- a class that starts no operand
   pub no-member : isLeaf class ≡ false → (class ≡ openParen → ⊥) → (class ≡ openBrace → ⊥) → (class ≡ openBracket → ⊥) → (class ≡ functionWord → ⊥)
@@ -68,7 +68,7 @@ pub label-row : (class : ℕ) (setting : Setting) (newline : Bool) → class ≡
 label-row class setting newline e = rw e
 
 -- no operand starts with a closer
-pub operand-closers : (ending : Ending) (target : Bool) (class : ℕ) → T (isEnd class) → look class (operand ending target) ≡ fail
+pub operand-closers : (ending : Ending) (target : Target) (class : ℕ) → T (isEnd class) → look class (operand ending target) ≡ fail
 operand-closers ending target = at-closers (λ (k : ℕ). look k (operand ending target) ≡ fail) refl refl refl refl
 
 -- what a place that needs no parameter takes besides is a closer

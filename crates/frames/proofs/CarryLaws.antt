@@ -7,16 +7,16 @@ use lib.ListN.{length, getD, length-set}
 use lib.Seq.{getD-set-other}
 use Rattle.tables.specs.Records.{mostTrees}
 use Rattle.machine.specs.Syntax.{Syntax, nil, node, snoc, size}
-use Rattle.machine.specs.Tokens.{newWord, question}
+use Rattle.machine.specs.Tokens.{newWord, question, doWord}
 use Rattle.machine.specs.Machinery.Machine as machine
-use Rattle.machine.specs.Machinery.Machine.{Pending, pending, Frame, frame, tightness, wrap, behindStatement, toStatement, Control, nested, asking}
-use Rattle.controls.specs.Machinery.Numbers.{settingBy}
+use Rattle.machine.specs.Machinery.Machine.{Pending, pending, Frame, frame, tightness, wrap, Control, nested, asking}
+use Rattle.controls.specs.Machinery.Numbers.{settingBy, behindBy, leftBy}
 use Rattle.controls.specs.Machinery.Written.{putRecord, putSyntax}
-use Rattle.waiting.specs.Machinery.Waiting.{width, binding, nestKind, askKind, Shut, shut, close, lefts, Stacked, bare, above, Holds, HoldsShut, Closes, Completes, stackWith, stackAs, waitingOne, madeOne, withHeld, restarted}
+use Rattle.waiting.specs.Machinery.Waiting.{width, binding, askKind, Shut, shut, close, lefts, Stacked, bare, above, Holds, HoldsShut, Closes, Completes, stackWith, stackAs, waitingOne, madeOne, withHeld, restarted}
 use Rattle.waiting.specs.declared.Level.{Level}
-use Rattle.waiting.proofs.HoldLaws.{start-le, bottom-top, floor-le, word-held, alone-held, uppermost, done-held, nest-done-held, nested-held, unstacked-held, asked-held, left-held, taken-back-held}
-use Rattle.waiting.proofs.PutLaws.{made-held, made-both, valued-held, waits-held, answered-held, stack-long, stack-kept}
-use Rattle.frames.specs.Machinery.Stands.{Operators, no-operators, more-operators, Beginnings, no-beginnings, more-beginnings, InNest, in-nest, Asked, asked, InSetting, Within, askedIn, Below, below-none, below-nest, below-asked, Shaped, written, HeldAt, owed, Kept, Stands}
+use Rattle.waiting.proofs.HoldLaws.{start-le, bottom-top, floor-le, word-held, alone-held, uppermost, done-held, nest-done-held, nested-held, unstacked-held, asked-held, left-held, taken-back-held, left-alone-held, left-lone-held, undone-held}
+use Rattle.waiting.proofs.PutLaws.{made-held, made-both, valued-held, waits-held, answered-held, kind-held, stack-long, stack-kept}
+use Rattle.frames.specs.Machinery.Stands.{Operators, no-operators, more-operators, Beginnings, no-beginnings, more-beginnings, InNest, in-nest, Asked, asked, InNumbered, Within, askedIn, AskNumber, nestIn, Below, below-none, below-nest, below-asked, Shaped, written, HeldAt, owed, Kept, Stands}
 use Rattle.frames.specs.Machinery.Effects.{Valued}
 use Rattle.frames.proofs.CloseLaws.{LighterBy, close-lightens, below-stops, Reduced, close-expression, close-statement}
 
@@ -31,6 +31,10 @@ backOne l = record { count = l .count; top = l .top - 1; floor = l .floor; start
 -- and the level around a nest
 abbrev pub leftOne : Level → List ℕ → Level
 leftOne l stack = record { count = l .count; top = l .top - 1; floor = l .floor; start = getD stack ((l .top - 1) * width + 2) 0; held = l .held }
+
+-- the level where what is done in a nest is the operand again
+abbrev pub undoneOne : Level → List ℕ → Level
+undoneOne l stack = record { count = l .count; top = l .top; floor = l .floor; start = getD stack ((l .top - 1) * width + 2) 0; held = l .held }
 
 -- the level carries statements done, beginnings of statements, operators, and what is written of an operand
 pub record Carries (nests : List machine.Open) (table stack₀ : List ℕ) (first floor : ℕ) (done : Syntax) (starts waiting : List Pending) (last : Syntax) (l : Level) (stack cells : List ℕ) : Type 0 where
@@ -119,6 +123,9 @@ operators-rest (more-operators e alone more) = more
 beginnings-rest : {p : Pending} {ps : List Pending} → Beginnings (p ∷ ps) → Beginnings ps
 beginnings-rest (more-beginnings e more) = more
 
+beginnings-any : {kind mark : ℕ} {left after : Syntax} {ps : List Pending} → Beginnings (pending kind mark left ∷ ps) → Beginnings (pending kind mark after ∷ ps)
+beginnings-any (more-beginnings {kind = kind} e more) = more-beginnings {kind = kind} e more
+
 -- the stack is the same, or with a part more above what waits
 same-stack : {stack : List ℕ} {top : ℕ} → Kept stack stack top
 same-stack = record { same-length = refl; same = λ k less. refl }
@@ -150,6 +157,24 @@ module _ {nests : List machine.Open} {table stack₀ : List ℕ} {first floor : 
         worded = word;
         floored = f ∙ h .floored;
         kept = kept-under (h .kept) same (omega (arith, floor-le (h .holds), h .floored));
+      }
+
+  -- the same where what waits uppermost has another kind
+  carries-renamed : {others : List machine.Open} {statements base : Syntax} {begun operators tail : List Pending} (kind : ℕ)
+      → Operators operators → Beginnings begun → Below statements others base tail
+      → Holds table first base (operators ++ (begun ++ tail)) nil (restarted l) (stackAs stack (l .top) kind) cells → l .floor < l .top
+      → Carries others table stack₀ first floor statements begun operators nil (restarted l) (stackAs stack (l .top) kind) cells
+  carries-renamed kind operators beginnings below k higher =
+      record {
+        operators = operators;
+        beginnings = beginnings;
+        base = _;
+        tail = _;
+        below = below;
+        holds = k;
+        worded = h .worded;
+        floored = h .floored;
+        kept = kept-under (h .kept) (other-stack stack (l .top) kind) (omega (arith, h .floored));
       }
 
   -- what is written behind the operators changes, and the stack may above them
@@ -196,17 +221,17 @@ module _ {nests : List machine.Open} {table stack₀ : List ℕ} {first floor : 
       (more-stack stack (l .top) kind mark (l .start))
 
   -- and nothing as that of a nest
-  pub carries-nest : (setting mark : ℕ) → Carries nests table stack₀ first floor done starts [] nil l stack cells → InSetting (settingBy setting) done nests
-      → l .count + l .top < mostTrees → setting ≤ mostTrees → (l .top + 1) * width ≤ length stack
-      → Carries (nested (behindStatement (settingBy setting)) toStatement mark (frame done starts [] nil) ∷ nests) table stack₀ first floor nil [] [] nil
-      (waitingOne l) (stackWith stack (l .top) nestKind setting (l .start)) cells
-  carries-nest setting mark h within room small fits =
-      carries-other h no-operators no-beginnings (below-nest (h .beginnings) within (h .below)) (waits-held nestKind setting (h .holds) room small fits) (h .worded) refl
-      (more-stack stack (l .top) nestKind setting (l .start))
+  pub carries-nest : (nest setting mark : ℕ) → Carries nests table stack₀ first floor done starts [] nil l stack cells → InNumbered nest setting done nests
+      → nest ≤ 4 → setting ≤ 5 → l .count + l .top < mostTrees → mark ≤ mostTrees → (l .top + 1) * width ≤ length stack
+      → Carries (nested (behindBy nest (settingBy setting)) (leftBy nest) mark (frame done starts [] nil) ∷ nests) table stack₀ first floor nil [] [] nil
+      (waitingOne l) (stackWith stack (l .top) (nestIn nest setting) mark (l .start)) cells
+  carries-nest nest setting mark h within one few room marked fits =
+      carries-other h no-operators no-beginnings (below-nest one few (h .beginnings) within (h .below)) (waits-held (nestIn nest setting) mark (h .holds) room marked fits)
+      (h .worded) refl (more-stack stack (l .top) (nestIn nest setting) mark (l .start))
 
   -- the operand waits as the condition of an open `?`, behind which nothing stands yet
   pub carries-asked : {waiting : List Pending} {condition : Syntax} (kind mark : ℕ) → Carries nests table stack₀ first floor done starts waiting condition l stack cells
-      → Within (askedIn kind) done starts nests → askKind ≤ kind → l .count + l .top < mostTrees → mark ≤ mostTrees → (l .top + 1) * width ≤ length stack
+      → Within (askedIn kind) done starts nests → AskNumber kind → l .count + l .top < mostTrees → mark ≤ mostTrees → (l .top + 1) * width ≤ length stack
       → Carries (asking (askedIn kind) mark (frame done starts waiting condition) ∷ nests) table stack₀ first floor nil [] [] nil
       (waitingOne l) (stackWith stack (l .top) kind mark (l .start)) cells
   carries-asked kind mark h within many room marked fits =
@@ -224,6 +249,30 @@ module _ {nests : List machine.Open} {table stack₀ : List ℕ} {first floor : 
       → Carries nests table stack₀ first floor done starts [] nil (backOne l) stack cells
   carries-back h = carries-other h no-operators (beginnings-rest (h .beginnings)) (h .below) (taken-back-held (h .holds)) (h .worded) refl same-stack
 
+  -- the operand is the left side of a beginning that had none
+  pub carries-headed : {kind mark : ℕ} {value : Syntax} → Carries nests table stack₀ first floor done (pending kind mark nil ∷ starts) [] value l stack cells
+      → Carries nests table stack₀ first floor done (pending kind mark value ∷ starts) [] nil (restarted l) stack cells
+  carries-headed h =
+      carries-other h no-operators (beginnings-any (h .beginnings)) (h .below) (left-alone-held (nest-done-held (h .holds))) (h .worded) refl same-stack
+
+  -- and the beginning has another kind then
+  pub carries-headed-as : {kind mark : ℕ} {value : Syntax} (other : ℕ) → binding other ≡ 1 → Carries nests table stack₀ first floor done (pending kind mark nil ∷ starts) [] value l stack cells
+      → Carries nests table stack₀ first floor done (pending other mark value ∷ starts) [] nil (restarted l) (stackAs stack (l .top) other) cells
+  carries-headed-as other binds h =
+      let u = uppermost (h .holds) in
+      let k = carries-headed h in
+      carries-renamed k other no-operators (more-beginnings binds (beginnings-rest (h .beginnings))) (k .below) (kind-held other (k .holds)) (u .higher)
+
+  -- a beginning with what stands behind it joins the left side of the one around it
+  pub carries-joined : {kind mark word spot : ℕ} {left others value : Syntax}
+      → Carries nests table stack₀ first floor done (pending kind mark left ∷ pending word spot others ∷ starts) [] value l stack cells
+      → Carries nests table stack₀ first floor done (pending word spot (snoc others (node kind mark left value)) ∷ starts) [] nil (restarted (madeOne (leftOne l stack))) stack
+      (putRecord cells (l .count) kind mark (l .count - getD stack ((l .top - 1) * width + 2) 0 + 1))
+  carries-joined {kind = kind} {mark = mark} h =
+      let u = uppermost (h .holds) in
+      carries-other h no-operators (beginnings-any (beginnings-rest (h .beginnings))) (h .below)
+      (nest-done-held (made-both kind mark (unstacked-held (h .holds)) (omega (arith, u .some, h .holds .few)))) (h .worded) refl same-stack
+
 -- a statement goes to those done, wherever those are
 record Followed (nests : List machine.Open) (table : List ℕ) (first : ℕ) (done : Syntax) (l : Level) (stack cells : List ℕ) : Type 0 where
   base : Syntax
@@ -234,7 +283,7 @@ record Followed (nests : List machine.Open) (table : List ℕ) (first : ℕ) (do
 followed : {nests : List machine.Open} {table : List ℕ} {first : ℕ} {done base value : Syntax} {tail : List Pending} {l : Level} {stack cells : List ℕ}
     → Below done nests base tail → Holds table first base tail value l stack cells → Followed nests table first (snoc done value) (restarted l) stack cells
 followed below-none h = record { base = _; tail = []; below = below-none; holds = done-held h }
-followed (below-nest beginnings setting below) h = record { base = _; tail = _; below = below-nest beginnings setting below; holds = nest-done-held h }
+followed (below-nest one few beginnings within below) h = record { base = _; tail = _; below = below-nest one few beginnings within below; holds = nest-done-held h }
 followed (below-asked many operators beginnings within below) h =
     record { base = _; tail = _; below = below-asked many operators beginnings within below; holds = nested-held (nest-done-held h) }
 
@@ -271,45 +320,80 @@ module _ {nests : List machine.Open} {table stack₀ : List ℕ} {first floor : 
       let m = closes-lightens (h .holds) (k .same-floor) (k .closes) in
       rw (k .is) (record { same = m .same; lower = m .lower; started = omega arith })
 
--- what is carried around a nest with its statement done
-pub record Around (nests : List machine.Open) (table stack₀ : List ℕ) (first floor : ℕ) (last : Syntax) (l : Level) (stack cells : List ℕ) : Type 0 where
+-- a nest is left with all that it has, or with the one statement that it has
+pub data LeftWith (done : Syntax) : Syntax → Type 0 where
+  left-one : {last : Syntax} → done ≡ snoc nil last → LeftWith done last
+  left-all : LeftWith done done
+
+-- What is carried around a nest that is left with a value: the value is the operand there; or it is the left side of a `do`, which waits in place of the
+-- nest
+pub record Around (nests : List machine.Open) (table stack₀ : List ℕ) (first floor : ℕ) (value : Syntax) (l : Level) (stack cells : List ℕ) : Type 0 where
+  pub nest : ℕ
   pub setting : ℕ
   pub mark : ℕ
   pub done : Syntax
   pub starts : List Pending
   pub rest : List machine.Open
-  pub is : nests ≡ nested (behindStatement (settingBy setting)) toStatement mark (frame done starts [] nil) ∷ rest
-  pub within : InSetting (settingBy setting) done rest
-  pub stacked : getD stack ((l .top - 1) * width + 1) 0 ≡ setting
-  pub small : getD stack ((l .top - 1) * width + 1) 0 ≤ mostTrees
+  pub is : nests ≡ nested (behindBy nest (settingBy setting)) (leftBy nest) mark (frame done starts [] nil) ∷ rest
+  pub within : InNumbered nest setting done rest
+  pub one : nest ≤ 4
+  pub few : setting ≤ 5
+  pub stacked : getD stack ((l .top - 1) * width) 0 ≡ nestIn nest setting
+  pub mark-is : getD stack ((l .top - 1) * width + 1) 0 ≡ mark
+  pub marked : mark ≤ mostTrees
   pub started : getD stack ((l .top - 1) * width + 2) 0 ≤ mostTrees
   pub waits : 1 ≤ l .top
   pub fits : l .top * width ≤ length stack
-  pub carries : Carries rest table stack₀ first floor done starts [] last (leftOne l stack) stack cells
+  pub carries : Carries rest table stack₀ first floor done starts [] value (leftOne l stack) stack cells
+  pub joins : Carries rest table stack₀ first floor done (pending doWord mark value ∷ starts) [] nil (restarted l) (stackAs stack (l .top) doWord) cells
 
-pub carries-around : {nests : List machine.Open} {table stack₀ : List ℕ} {first floor : ℕ} {last : Syntax} {l : Level} {stack cells : List ℕ}
-    → InNest nests → Carries nests table stack₀ first floor (snoc nil last) [] [] nil l stack cells → Around nests table stack₀ first floor last l stack cells
-carries-around {table = table} {stack₀ = stack₀} {first = first} {floor = floor} {last = last} {l = l} {stack = stack} {cells = cells} inside h = go inside (h .below) (h .holds)
-  where
-    go : {hs : List machine.Open} {base : Syntax} {tail : List Pending} → InNest hs → Below (snoc nil last) hs base tail → Holds table first base tail nil l stack cells
-        → Around hs table stack₀ first floor last l stack cells
-    go in-nest (below-nest {around = done} {setting = setting} {mark = mark} {starts = starts} {nests = rest} beginnings within below) k =
-        let u = uppermost k in
-        record {
-          setting = setting;
-          mark = mark;
-          done = done;
-          starts = starts;
-          rest = rest;
-          is = refl;
-          within = within;
-          stacked = u .mark-is;
-          small = omega (arith, u .mark-is, u .marked);
-          started = omega (arith, u .start-is, k .starts, k .counts, k .few);
-          waits = u .some;
-          fits = u .fits;
-          carries = carries-other h no-operators beginnings below (left-held k) (h .worded) refl same-stack;
-        }
+module _ {table stack₀ : List ℕ} {first floor : ℕ} {l : Level} {stack cells : List ℕ} where
+  pub carries-around : {nests : List machine.Open} {done value : Syntax} → InNest nests → LeftWith done value → Carries nests table stack₀ first floor done [] [] nil l stack cells
+      → Around nests table stack₀ first floor value l stack cells
+  unfolding binding
+  carries-around {value = value} inside left h = go inside left (h .below) (h .holds)
+    where
+      around : {base : Syntax} {nest setting mark : ℕ} {outer : Syntax} {starts tail : List Pending} {rest : List machine.Open} → nest ≤ 4 → setting ≤ 5 → Beginnings starts
+          → InNumbered nest setting outer rest → Below outer rest base tail
+          → Holds table first base (pending (nestIn nest setting) mark (snoc nil value) ∷ (starts ++ tail)) nil l stack cells
+          → Around (nested (behindBy nest (settingBy setting)) (leftBy nest) mark (frame outer starts [] nil) ∷ rest) table stack₀ first floor value l stack cells
+      around {nest = nest} {setting = setting} {mark = mark} {outer = outer} {starts = starts} {rest = rest} one few beginnings within below k =
+          let u = uppermost k in
+          record {
+            nest = nest;
+            setting = setting;
+            mark = mark;
+            done = outer;
+            starts = starts;
+            rest = rest;
+            is = refl;
+            within = within;
+            one = one;
+            few = few;
+            stacked = u .kind-is;
+            mark-is = u .mark-is;
+            marked = u .marked;
+            started = omega (arith, u .start-is, k .starts, k .counts, k .few);
+            waits = u .some;
+            fits = u .fits;
+            carries = carries-other h no-operators beginnings below (left-held k) (h .worded) refl same-stack;
+            joins = carries-renamed h doWord no-operators (more-beginnings {kind = doWord} refl beginnings) below (kind-held doWord (left-alone-held k)) (u .higher);
+          }
+
+      go : {hs : List machine.Open} {base inner : Syntax} {tail : List Pending} → InNest hs → LeftWith inner value → Below inner hs base tail → Holds table first base tail nil l stack cells
+          → Around hs table stack₀ first floor value l stack cells
+      go in-nest (left-one e) (below-nest one few beginnings within below) k = around one few beginnings within below (rw e at k)
+      go in-nest left-all (below-nest one few beginnings within below) k = around one few beginnings within below (left-lone-held k)
+
+  -- what is done in a nest is the operand again
+  pub carries-undone : {nests : List machine.Open} {last : Syntax} → InNest nests → Carries nests table stack₀ first floor (snoc nil last) [] [] nil l stack cells
+      → Carries nests table stack₀ first floor nil [] [] last (undoneOne l stack) stack cells
+  carries-undone {last = last} inside h = go inside (h .below) (h .holds)
+    where
+      go : {hs : List machine.Open} {base : Syntax} {tail : List Pending} → InNest hs → Below (snoc nil last) hs base tail → Holds table first base tail nil l stack cells
+          → Carries hs table stack₀ first floor nil [] [] last (undoneOne l stack) stack cells
+      go in-nest (below-nest one few beginnings within below) k =
+          carries-other h no-operators no-beginnings (below-nest one few beginnings within below) (undone-held k) (h .worded) refl same-stack
 
 -- what is carried around an open `?` that is answered with a value
 pub record Answering (nests : List machine.Open) (table stack₀ : List ℕ) (first floor : ℕ) (value : Syntax) (l : Level) (stack cells : List ℕ) : Type 0 where
@@ -323,7 +407,7 @@ pub record Answering (nests : List machine.Open) (table stack₀ : List ℕ) (fi
   pub is : nests ≡ asking (askedIn kind) mark (frame done starts waiting condition) ∷ rest
   pub within : Within (askedIn kind) done starts rest
   pub stacked : getD stack ((l .top - 1) * width) 0 ≡ kind
-  pub many : askKind ≤ kind
+  pub many : AskNumber kind
   pub waits : 1 ≤ l .top
   pub fits : l .top * width ≤ length stack
   pub carries : Carries rest table stack₀ first floor done starts (pending question mark (snoc condition value) ∷ waiting) nil (restarted l) (stackAs stack (l .top) question) cells
@@ -350,17 +434,9 @@ carries-answered {table = table} {stack₀ = stack₀} {first = first} {floor = 
           many = many;
           waits = u .some;
           fits = u .fits;
-          carries = record {
-            operators = more-operators {kind = question} (omega arith) (λ e. let z : _≡_ {A = ℕ} question newWord = e in absurd (omega arith)) operators;
-            beginnings = beginnings;
-            base = _;
-            tail = _;
-            below = below;
-            holds = answered-held question k;
-            worded = h .worded;
-            floored = h .floored;
-            kept = kept-under (h .kept) (other-stack stack (l .top) question) (omega (arith, u .higher, h .floored));
-          };
+          carries = carries-renamed h question
+              (more-operators {kind = question} (omega arith) (λ e. let z : _≡_ {A = ℕ} question newWord = e in absurd (omega arith)) operators) beginnings below
+              (answered-held question k) (u .higher);
         }
 
 -- a level with no nests, all of whose operators are closed, has written all it carries

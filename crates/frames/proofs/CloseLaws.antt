@@ -10,9 +10,9 @@ use lib.ListN.{length}
 use Rattle.machine.specs.Syntax.{Syntax, node, size}
 use Rattle.machine.specs.Machinery.Machine as machine
 use Rattle.machine.specs.Machinery.Machine.{Pending, pending, frame, tightness, reduce, wrap}
-use Rattle.waiting.specs.Machinery.Waiting.{nestKind, binding, Shut, shut, close, lefts}
-use Rattle.waiting.proofs.OperatorLaws.{binding-asked, binding-operator}
-use Rattle.frames.specs.Machinery.Stands.{Operators, no-operators, more-operators, Beginnings, no-beginnings, more-beginnings, Below, below-none, below-nest, below-asked}
+use Rattle.waiting.specs.Machinery.Waiting.{binding, Shut, shut, close, lefts}
+use Rattle.waiting.proofs.OperatorLaws.{binding-nest, binding-operator}
+use Rattle.frames.specs.Machinery.Stands.{Operators, no-operators, more-operators, Beginnings, no-beginnings, more-beginnings, nestIn, Below, below-none, below-nest, below-asked}
 
 -- nothing, or something that binds less, waits next: closing stops there
 pub data Stops (least : ℕ) : List Pending → Type 0 where
@@ -28,10 +28,10 @@ stops-more up stops-none = stops-none
 stops-more up (stops-at {kind = kind} less) = stops-at {kind = kind} (omega arith)
 
 pub below-stops : {done base : Syntax} {nests : List machine.Open} {tail : List Pending} → Below done nests base tail → Stops 1 tail
-unfolding binding
 below-stops below-none = stops-none
-below-stops (below-nest beginnings setting below) = stops-at {kind = nestKind} (omega arith)
-below-stops (below-asked {kind = kind} many operators beginnings within below) = stops-at {kind = kind} (omega (arith, binding-asked kind many))
+below-stops (below-nest {nest = nest} {setting = setting} one few beginnings within below) =
+    stops-at {kind = nestIn nest setting} (omega (arith, binding-nest (nestIn nest setting) (omega arith)))
+below-stops (below-asked {kind = kind} many operators beginnings within below) = stops-at {kind = kind} (omega (arith, binding-nest kind (omega (arith, many .0))))
 
 pub starts-stop : {starts tail : List Pending} → Beginnings starts → Stops 1 tail → Stops 2 (starts ++ tail)
 starts-stop no-beginnings stops = stops-more (omega arith) stops

@@ -29,6 +29,8 @@ use Rattle.machine.specs.Machinery.Machine.{
   State,
   dead,
   live,
+  popIn,
+  headIn,
   popTo,
   turnTo,
   finishIn,
@@ -80,10 +82,11 @@ module _ (newline : Bool) (mark here there : ℕ) where
   acts-alike out away left fail f around = both-dead
   acts-alike out away left (goto control effect) f around = alike
   acts-alike out away left (push inside behind closing) f around = alike
-  acts-alike out away left (enter inside behind closing) f around = alike
+  acts-alike out away left (enter inside effect outer behind closing) f around = alike
   acts-alike out away left (pop value) f around = pops-alike _ around
   acts-alike out away left (leave value) f around = left _
   acts-alike out away left (ask ending) f around = alike
+  acts-alike out away left popIn f around = pops-alike _ (headIn around)
   acts-alike out away left turn f around = turns-alike _ around
   acts-alike out away left finish f around = finishes-alike f around
 

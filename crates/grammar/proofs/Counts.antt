@@ -4,7 +4,7 @@ use mathlib.Core.List.{List, [], _∷_}
 use Prim.Native.Nat.{ℕ, _+_, _≤_}
 use native.Mathlib.Omega.{arith}
 use lib.Dec.{T, eqb}
-use Rattle.machine.specs.Tokens.{Token, token, Spot, colon, closeParen, closeBracket, closeBrace}
+use Rattle.machine.specs.Tokens.{Token, token, Spot, name, colon, semicolon, openParen, closeParen, closeBracket, closeBrace}
 use Rattle.machine.specs.Syntax.{Syntax, size}
 use Rattle.grammar.specs.Grammar.{
   Leaf,
@@ -15,6 +15,12 @@ use Rattle.grammar.specs.Grammar.{
   isAmong,
   Form,
   Derives,
+  HeadWord,
+  while-word,
+  with-word,
+  JumpWord,
+  continue-word,
+  break-word,
   IdentifierName,
   identifier,
   reserved-word,
@@ -58,18 +64,47 @@ use Rattle.grammar.specs.Grammar.{
   target-chain,
   target-new,
   function-all,
+  block-all,
   statement-block,
   statement-expression,
+  statement-var,
+  no-variables,
+  add-variable,
+  variable-bare,
+  variable-initialised,
+  statement-empty,
   statement-if,
+  statement-else,
+  statement-do,
+  statement-head,
+  statement-for,
+  statement-for-var,
+  left-out,
+  not-left-out,
+  statement-for-in,
+  statement-for-var-in,
+  statement-bare-jump,
+  statement-jump,
   statement-bare-return,
   statement-full-return,
+  statement-switch,
+  no-clauses,
+  add-case,
+  add-default,
+  statement-throw,
+  statement-try,
+  statement-try-finally,
+  statement-try-all,
+  catch-all,
+  finally-all,
+  statement-debugger,
   statement-label,
   no-statements,
   add-statement,
   add-declaration,
   Program,
 }
-use Rattle.grammar.proofs.TableLaws.{eachClass, at-class, at-leaf}
+use Rattle.grammar.proofs.TableLaws.{eachClass, at-class, at-leaf, binary-by}
 
 -- the class of a closer
 abbrev pub isClosing : ℕ → Bool
@@ -90,6 +125,14 @@ operator-open classes none class op = at-class (λ x. not (isClosing x)) classes
 pub name-open : {class : ℕ} → IdentifierName class → T (not (isClosing class))
 name-open identifier = tt
 name-open reserved-word = tt
+
+pub head-open : {class : ℕ} → HeadWord class → T (not (isClosing class))
+head-open while-word = tt
+head-open with-word = tt
+
+pub jump-open : {class bare : ℕ} → JumpWord class bare → T (not (isClosing class))
+jump-open continue-word = tt
+jump-open break-word = tt
 
 one-more : (class : ℕ) (spot : Spot) (rest : List Token) → T (not (isClosing class)) → countTreeTokens rest + 1 ≤ countTreeTokens (token class spot ∷ rest)
 one-more class spot rest h = go (isClosing class) h
@@ -134,8 +177,8 @@ counted (unary-prefix {class = class} {sign = sign} {middle = middle} op operand
 counted (unary-postfix {class = class} {sign = sign} {after = after} op same operand) =
     omega (arith, counted operand, one-more class sign after (operator-open postfixOperators tt class op))
 counted (binary-unary unary) = counted unary
-counted (binary-operator {class = class} {sign = sign} {middle = middle} op tight left right) =
-    omega (arith, counted left, counted right, one-more class sign middle (operator-open binaryOperators tt class op))
+counted (binary-operator {within = within} {class = class} {sign = sign} {middle = middle} op tight left right) =
+    omega (arith, counted left, counted right, one-more class sign middle (operator-open binaryOperators tt class (binary-by within class op)))
 counted (assign-binary binary) = counted binary
 counted (assign-to {class = class} {sign = sign} {middle = middle} op target value) =
     omega (arith, counted target, counted value, one-more class sign middle (operator-open assignmentOperators tt class op))
@@ -143,11 +186,44 @@ counted (assign-conditional condition first second) = omega (arith, counted cond
 counted (expression-assign value) = counted value
 counted (expression-comma left right) = omega (arith, counted left, counted right)
 counted (function-all parameters statements) = omega (arith, parameters-counted parameters, counted statements)
-counted (statement-block statements) = omega (arith, counted statements)
+counted (block-all statements) = omega (arith, counted statements)
+counted (statement-block inner) = counted inner
 counted (statement-expression allowed value) = omega (arith, counted value)
-counted (statement-if condition inner) = omega (arith, counted condition, counted inner)
+counted (statement-var variables last) = omega (arith, counted variables, counted last)
+counted no-variables = omega arith
+counted (add-variable variables last) = omega (arith, counted variables, counted last)
+counted variable-bare = omega arith
+counted (variable-initialised value) = omega (arith, counted value)
+counted statement-empty = omega arith
+counted (statement-if none condition inner) = omega (arith, counted condition, counted inner)
+counted (statement-else condition first second) = omega (arith, counted condition, counted first, counted second)
+counted (statement-do inner condition) = omega (arith, counted inner, counted condition)
+counted (statement-head {class = class} {word = word} {opener = opener} {inside = inside} heads head inner) =
+    omega (arith, counted head, counted inner, one-more class word (token openParen opener ∷ inside) (head-open heads))
+counted (statement-for start condition step inner) = omega (arith, counted start, counted condition, counted step, counted inner)
+counted (statement-for-var variables last condition step inner) =
+    omega (arith, counted variables, counted last, counted condition, counted step, counted inner)
+counted left-out = omega arith
+counted (not-left-out value) = counted value
+counted (statement-for-in target object inner) = omega (arith, counted target, counted object, counted inner)
+counted (statement-for-var-in variable object inner) = omega (arith, counted variable, counted object, counted inner)
+counted (statement-bare-jump {class = class} {word = word} {end = end} {after = after} jumps) =
+    omega (arith, one-more class word (token semicolon end ∷ after) (jump-open jumps))
+counted (statement-jump {class = class} {word = word} {label = label} {end = end} {after = after} jumps same) =
+    omega (arith, one-more class word (token name label ∷ token semicolon end ∷ after) (jump-open jumps))
 counted statement-bare-return = omega arith
 counted (statement-full-return same value) = omega (arith, counted value)
+counted (statement-switch subject clauses) = omega (arith, counted subject, counted clauses)
+counted no-clauses = omega arith
+counted (add-case cases test statements) = omega (arith, counted cases, counted test, counted statements)
+counted (add-default cases statements) = omega (arith, counted cases, counted statements)
+counted (statement-throw same value) = omega (arith, counted value)
+counted (statement-try none inner handler) = omega (arith, counted inner, counted handler)
+counted (statement-try-finally inner last) = omega (arith, counted inner, counted last)
+counted (statement-try-all inner handler last) = omega (arith, counted inner, counted handler, counted last)
+counted (catch-all inner) = omega (arith, counted inner)
+counted (finally-all inner) = omega (arith, counted inner)
+counted statement-debugger = omega arith
 counted (statement-label inner) = omega (arith, counted inner)
 counted no-statements = omega arith
 counted (add-statement statements last) = omega (arith, counted statements, counted last)

@@ -33,6 +33,8 @@ use Rattle.machine.specs.Machinery.Machine.{
   State,
   dead,
   live,
+  popIn,
+  headIn,
   popTo,
   turnTo,
   finishIn,
@@ -71,10 +73,11 @@ module _ (class : ℕ) (spot : Spot) where
   act-dies out left fail f around = refl
   act-dies out left (goto control effect) f around = tt
   act-dies out left (push inside behind closing) f around = tt
-  act-dies out left (enter inside behind closing) f around = tt
+  act-dies out left (enter inside effect outer behind closing) f around = tt
   act-dies out left (pop value) f around = pop-dies (spot .first) _ around
   act-dies out left (leave value) f around = left _
   act-dies out left (ask ending) f around = tt
+  act-dies out left popIn f around = pop-dies (spot .first) _ (headIn around)
   act-dies out left turn f around = turn-dies (spot .first) _ around
   act-dies out left finish f around = finish-dies (spot .first) f around
 

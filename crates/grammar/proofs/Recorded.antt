@@ -3,11 +3,11 @@
 use mathlib.Core.Path.{_≡_, refl, subst}
 use mathlib.Core.Bool.{Bool, true, not}
 use mathlib.Core.List.{List, [], _∷_, _++_, List·Memᴰ, List·Memᴰ·head, Memᴰ·append-left, Memᴰ·append-right, append-assoc}
-use Prim.Native.Nat.{ℕ, _+_, _<_}
+use Prim.Native.Nat.{ℕ, _+_, _≤_, _<_}
 use native.Mathlib.Omega.{arith}
 use lib.Dec.{T, T-not}
-use Rattle.machine.specs.Tokens.{Token, token, Spot, name, comma, colon, semicolon, dot, openParen, closeParen, openBracket, closeBracket, openBrace, closeBrace, returnWord, functionWord, ifWord}
-use Rattle.machine.specs.Syntax.{Syntax, node, snoc, marksOf}
+use Rattle.machine.specs.Tokens.{Token, token, Spot, name, assign, comma, varWord, elseWord, doWord, whileWord, forWord, inWord, switchWord, caseWord, defaultWord, throwWord, tryWord, catchWord, finallyWord, debuggerWord, colon, semicolon, dot, openParen, closeParen, openBracket, closeBracket, openBrace, closeBrace, returnWord, functionWord, ifWord}
+use Rattle.machine.specs.Syntax.{Syntax, nil, node, snoc, marksOf, variableSyntax, forInSyntax}
 use Rattle.grammar.specs.Grammar.{
   assignmentOperators,
   binaryOperators,
@@ -16,6 +16,12 @@ use Rattle.grammar.specs.Grammar.{
   postfixOperators,
   postfixKind,
   isAmong,
+  HeadWord,
+  while-word,
+  with-word,
+  JumpWord,
+  continue-word,
+  break-word,
   IdentifierName,
   identifier,
   reserved-word,
@@ -61,42 +67,92 @@ use Rattle.grammar.specs.Grammar.{
   target-chain,
   target-new,
   function-all,
+  block-all,
   statement-block,
   statement-expression,
+  statement-var,
+  no-variables,
+  add-variable,
+  variable-bare,
+  variable-initialised,
+  statement-empty,
   statement-if,
+  statement-else,
+  statement-do,
+  statement-head,
+  statement-for,
+  statement-for-var,
+  left-out,
+  not-left-out,
+  statement-for-in,
+  statement-for-var-in,
+  statement-bare-jump,
+  statement-jump,
   statement-bare-return,
   statement-full-return,
+  statement-switch,
+  no-clauses,
+  add-case,
+  add-default,
+  statement-throw,
+  statement-try,
+  statement-try-finally,
+  statement-try-all,
+  catch-all,
+  finally-all,
+  statement-debugger,
   statement-label,
   no-statements,
   add-statement,
   add-declaration,
-  Binary,
+  binaryForm,
+  expressionForm,
   Target,
   Chain,
   Program,
 }
-use Rattle.grammar.specs.Recorded.{isRecorded, firstKinds, behindKind, Part, part, partsOf, Makes, makes-first, makes-behind}
-use Rattle.grammar.proofs.TableLaws.{at-class, at-leaf, number-at}
+use Rattle.grammar.specs.Recorded.{recordedClasses, isRecorded, firstKinds, behindKind, Part, part, partsOf, Makes, makes-first, makes-behind, Assigns, assigns, initialises, Relates, relates, iterates}
+use Rattle.grammar.proofs.TableLaws.{at-class, at-leaf, number-at, binary-by}
 use Rattle.grammar.proofs.Counts.{isClosing, leaf-open, operator-open}
 use Rattle.grammar.proofs.Ranges.{within}
 use Rattle.grammar.proofs.Counting.{Counting, counting-closer, counting-mark, at-mark}
-use Rattle.grammar.proofs.OwnMarks.{MarksTo, marked}
+use Rattle.grammar.proofs.OwnMarks.{MarksTo, Skips, part-skips, marked}
 
--- each token of a list that is to have a record has it among these
+-- a token that is to have a record, or a `=` or `in`
+abbrev mayMark : ℕ → Bool
+mayMark class = isAmong (assign ∷ inWord ∷ recordedClasses) class
+
+-- it has it among these, or stands behind the name of a variable, or in the head of a `for`
+data Has (class mark : ℕ) (parts : List Part) : Type 0 where
+  has-part : Makes class mark parts → Has class mark parts
+  has-variable : {called : ℕ} {inside : List ℕ} → class ≡ assign → List·Memᴰ (part variableSyntax called inside) parts → called + 1 ≡ mark
+      → Has class mark parts
+  has-for : {word later : ℕ} {inside : List ℕ} → class ≡ inWord → List·Memᴰ (part forInSyntax word inside) parts → word < mark → List·Memᴰ later inside
+      → mark < later → Has class mark parts
+
+-- so it is with each of a list
 data Recorded (parts : List Part) : List Token → Type 0 where
   recorded-none : Recorded parts []
-  recorded-more : {class : ℕ} {spot : Spot} {rest : List Token} → (T (isRecorded class) → Makes class (spot .mark) parts) → Recorded parts rest
+  recorded-more : {class : ℕ} {spot : Spot} {rest : List Token} → (T (mayMark class) → Has class (spot .mark) parts) → Recorded parts rest
       → Recorded parts (token class spot ∷ rest)
 
 recorded-at : {parts : List Part} (before : List Token) (class : ℕ) (spot : Spot) (after : List Token)
-    → Recorded parts (before ++ (token class spot ∷ after)) → T (isRecorded class) → Makes class (spot .mark) parts
-recorded-at [] class spot after (recorded-more makes rest) h = makes h
-recorded-at (token c s ∷ before) class spot after (recorded-more makes rest) h = recorded-at before class spot after rest h
+    → Recorded parts (before ++ (token class spot ∷ after)) → T (mayMark class) → Has class (spot .mark) parts
+recorded-at [] class spot after (recorded-more has rest) h = has h
+recorded-at (token c s ∷ before) class spot after (recorded-more has rest) h = recorded-at before class spot after rest h
 
--- no name is one
-name-other : {class : ℕ} → IdentifierName class → T (not (isRecorded class))
+-- no name is one, and no word of a statement
+name-other : {class : ℕ} → IdentifierName class → T (not (mayMark class))
 name-other identifier = tt
 name-other reserved-word = tt
+
+head-other : {class : ℕ} → HeadWord class → T (not (mayMark class))
+head-other while-word = tt
+head-other with-word = tt
+
+jump-other : {class bare : ℕ} → JumpWord class bare → T (not (mayMark class))
+jump-other continue-word = tt
+jump-other break-word = tt
 
 -- an operand has a mark
 record HasMark (value : Syntax) : Type 0 where
@@ -123,11 +179,17 @@ target-mark : {calls : Bool} {before after : List Token} {value : Syntax} → Ta
 target-mark (target-chain chain) = chain-mark chain
 target-mark (target-new callee) = node-mark
 
-binary-mark : {least : ℕ} {before after : List Token} {value : Syntax} → Binary least before after value → HasMark value
+binary-mark : {within : Bool} {least : ℕ} {before after : List Token} {value : Syntax} → Derives (binaryForm within least) before after value → HasMark value
 binary-mark (binary-unary (unary-target target)) = target-mark target
 binary-mark (binary-unary (unary-prefix op operand)) = node-mark
 binary-mark (binary-unary (unary-postfix op same operand)) = node-mark
 binary-mark (binary-operator op tight left right) = node-mark
+
+expression-mark : {within : Bool} {before after : List Token} {value : Syntax} → Derives (expressionForm within) before after value → HasMark value
+expression-mark (expression-assign (assign-binary binary)) = binary-mark binary
+expression-mark (expression-assign (assign-to op target value)) = node-mark
+expression-mark (expression-assign (assign-conditional condition first second)) = node-mark
+expression-mark (expression-comma left right) = node-mark
 
 -- the records of a part are among these
 record Among (parts : List Part) (value : Syntax) : Type 0 where
@@ -156,13 +218,13 @@ abbrev Held : ℕ → List Part → List Token → Type 0
 Held total parts tokens = (low : ℕ) → Counting total low tokens → Recorded parts tokens
 
 module _ {total : ℕ} {parts : List Part} where
-  taken : {class : ℕ} {spot : Spot} {rest : List Token} → (T (isRecorded class) → Makes class (spot .mark) parts) → Held total parts rest → Held total parts (token class spot ∷ rest)
-  taken makes r low (counting-closer closing counting) = recorded-more makes (r low counting)
-  taken makes r low (counting-mark opens own counting) = recorded-more makes (r (low + 1) counting)
+  taken : {class : ℕ} {spot : Spot} {rest : List Token} → (T (mayMark class) → Has class (spot .mark) parts) → Held total parts rest → Held total parts (token class spot ∷ rest)
+  taken has r low (counting-closer closing counting) = recorded-more has (r low counting)
+  taken has r low (counting-mark opens own counting) = recorded-more has (r (low + 1) counting)
 
-  -- a token that is to have no record, one that marks a part from its start, and one that marks a part behind an operand
-  other : (class : ℕ) {spot : Spot} {rest : List Token} → T (not (isRecorded class)) → Held total parts rest → Held total parts (token class spot ∷ rest)
-  other class none = taken (λ h. absurd (T-not (isRecorded class) none h))
+  -- a token that marks no part, one that marks a part from its start, one that marks a part behind an operand, and the `=` behind the name of a variable
+  other : (class : ℕ) {spot : Spot} {rest : List Token} → T (not (mayMark class)) → Held total parts rest → Held total parts (token class spot ∷ rest)
+  other class none = taken (λ h. absurd (T-not (mayMark class) none h))
 
   starting : {kind class : ℕ} {spot : Spot} {left right : Syntax} {rest after : List Token} → T (isAmong (firstKinds class) kind) → T (not (isClosing class))
       → ((low : ℕ) → Counting total low (token class spot ∷ rest) → MarksTo total low after (node kind (spot .mark) left right))
@@ -170,8 +232,8 @@ module _ {total : ℕ} {parts : List Part} where
   starting {class = class} {spot = spot} kinds opens marks among r low counting =
       let m = at-mark class opens counting in
       let all = within (marks low counting .marks) in
-      taken (λ h. makes-first (own-part among) kinds λ x member. omega (arith, all x (rw append-assoc at (Memᴰ·append-left (spot .mark ∷ []) member)))) r low
-      counting
+      taken (λ h. has-part (makes-first (own-part among) kinds λ x member. omega (arith, all x (rw append-assoc at (Memᴰ·append-left (spot .mark ∷ []) member))))) r
+      low counting
 
   behind : {kind class : ℕ} {spot : Spot} {operand left right : Syntax} {before rest : List Token} → kind ≡ behindKind class → T (not (isClosing class))
       → HasMark operand → ((m : ℕ) → List·Memᴰ m (marksOf operand) → List·Memᴰ m (marksOf left))
@@ -182,7 +244,32 @@ module _ {total : ℕ} {parts : List Part} where
       let to = marks low counting in
       let m = at-mark class opens (to .rest) in
       let under : some .has < spot .mark = omega (arith, within (to .marks) (some .has) (some .member)) in
-      first (taken (λ h. makes-behind (rw same at (own-part among)) (Memᴰ·append-left (marksOf right) (inside (some .has) (some .member))) under) r) low counting
+      first (taken (λ h. has-part (makes-behind (rw same at (own-part among)) (Memᴰ·append-left (marksOf right) (inside (some .has) (some .member))) under)) r)
+      low counting
+
+  initialised : {called sign : Spot} {value : Syntax} {rest : List Token} → Among parts (node variableSyntax (called .mark) nil value)
+      → Held total parts rest → Held total parts (token name called ∷ token assign sign ∷ rest)
+  initialised {called} {sign} among r low counting =
+      let n = at-mark name tt counting in
+      let s = at-mark assign tt (n .then) in
+      let next : called .mark + 1 ≡ sign .mark = omega (arith, n .own, s .own) in
+      other name tt (taken (λ h. has-variable refl (own-part among) next) r) low counting
+
+  -- the `in` of a `for`, behind what stands before it in the head, and before its object
+  iterated : {word opener sign : Spot} {start object inner : Syntax} {inside rest after : List Token} → HasMark object
+      → Among parts (node forInSyntax (word .mark) (snoc (snoc nil start) object) inner)
+      → ((low : ℕ) → Counting total low inside → Skips total low (token inWord sign ∷ rest))
+      → ((low : ℕ) → Counting total low rest → MarksTo total low after object) → (Held total parts (token inWord sign ∷ rest) → Held total parts inside)
+      → Held total parts rest → Held total parts (token forWord word ∷ token openParen opener ∷ inside)
+  iterated {word} {sign = sign} {start = start} {inner = inner} some among skips marks first r low counting =
+      let m = at-mark forWord tt counting in
+      let o = at-mark openParen tt (m .then) in
+      let s = skips (low + 1 + 1) (o .then) in
+      let n = at-mark inWord tt (s .rest) in
+      let over : word .mark < sign .mark = omega (arith, s .up) in
+      let under : sign .mark < some .has = omega (arith, within (marks (s .high + 1) (n .then) .marks) (some .has) (some .member)) in
+      let member = Memᴰ·append-left (marksOf inner) (Memᴰ·append-right (marksOf start) (some .member)) in
+      other forWord tt (other openParen tt (first (taken (λ h. has-for refl (own-part among) over member under) r))) low counting
 
   item-recorded : {items : Items} {before after : List Token} → ItemStart items before after → Held total parts after → Held total parts before
   item-recorded at-argument r = r
@@ -222,8 +309,9 @@ module _ {total : ℕ} {parts : List Part} where
       behind (number-at postfixKind behindKind postfixOperators tt class op) (operator-open postfixOperators tt class op) (target-mark operand) (λ m e. e)
       (λ low. marked operand) a (λ t. derived operand (in-left a) t) r
   derived (binary-unary unary) a r = derived unary a r
-  derived (binary-operator {class = class} op tight left right) a r =
-      behind (number-at (λ x. x) behindKind binaryOperators tt class op) (operator-open binaryOperators tt class op) (binary-mark left) (λ m e. e)
+  derived (binary-operator {within = within} {class = class} op tight left right) a r =
+      let among = binary-by within class op in
+      behind (number-at (λ x. x) behindKind binaryOperators tt class among) (operator-open binaryOperators tt class among) (binary-mark left) (λ m e. e)
       (λ low. marked left) a (λ t. derived left (in-left a) t) (derived right (in-right a) r)
   derived (assign-binary binary) a r = derived binary a r
   derived (assign-to {class = class} op target value) a r =
@@ -236,12 +324,85 @@ module _ {total : ℕ} {parts : List Part} where
   derived (expression-comma left right) a r = derived left (in-left a) (other comma tt (derived right (in-right a) r))
   derived (function-all parameters statements) a r =
       other openParen tt (parameters-recorded parameters (other closeParen tt (other openBrace tt (derived statements a (other closeBrace tt r)))))
-  derived (statement-block statements) a r = other openBrace tt (derived statements (in-left a) (other closeBrace tt r))
+  derived (block-all statements) a r = other openBrace tt (derived statements (in-left a) (other closeBrace tt r))
+  derived (statement-block inner) a r = derived inner a r
   derived (statement-expression allowed value) a r = derived value (in-left a) (other semicolon tt r)
-  derived (statement-if condition inner) a r =
+  derived (statement-var variables last) a r = other varWord tt (derived variables (in-left a) (derived last (in-right a) (other semicolon tt r)))
+  derived no-variables a r = r
+  derived (add-variable variables last) a r = derived variables (in-before a) (derived last (in-last a) (other comma tt r))
+  derived variable-bare a r = other name tt r
+  derived (variable-initialised value) a r = initialised a (derived value (in-right a) r)
+  derived statement-empty a r = other semicolon tt r
+  derived (statement-if none condition inner) a r =
       other ifWord tt (other openParen tt (derived condition (in-left a) (other closeParen tt (derived inner (in-right a) r))))
+  derived (statement-else condition first second) a r =
+      other ifWord tt
+      (other openParen tt
+      (derived condition (in-left (in-left a))
+      (other closeParen tt (derived first (in-right (in-left a)) (other elseWord tt (derived second (in-right a) r))))))
+  derived (statement-do inner condition) a r =
+      other doWord tt
+      (derived inner (in-left a) (other whileWord tt (other openParen tt (derived condition (in-right a) (other closeParen tt (other semicolon tt r))))))
+  derived (statement-head {class = class} heads head inner) a r =
+      other class (head-other heads) (other openParen tt (derived head (in-left a) (other closeParen tt (derived inner (in-right a) r))))
+  derived (statement-for start condition step inner) a r =
+      let head = in-left a in
+      other forWord tt
+      (other openParen tt
+      (derived start (in-last (in-before (in-before head)))
+      (other semicolon tt
+      (derived condition (in-last (in-before head)) (other semicolon tt (derived step (in-last head) (other closeParen tt (derived inner (in-right a) r))))))))
+  derived (statement-for-var variables last condition step inner) a r =
+      let head = in-left a in
+      let start = in-last (in-before (in-before head)) in
+      other forWord tt
+      (other openParen tt
+      (other varWord tt
+      (derived variables (in-left start)
+      (derived last (in-right start)
+      (other semicolon tt
+      (derived condition (in-last (in-before head)) (other semicolon tt (derived step (in-last head) (other closeParen tt (derived inner (in-right a) r))))))))))
+  derived left-out a r = r
+  derived (not-left-out value) a r = derived value a r
+  derived (statement-for-in target object inner) a r =
+      iterated (expression-mark object) a (λ low counting. part-skips (marked target counting)) (λ low. marked object)
+      (λ t. derived target (in-last (in-before (in-left a))) t) (derived object (in-last (in-left a)) (other closeParen tt (derived inner (in-right a) r)))
+  derived (statement-for-var-in variable object inner) a r =
+      iterated (expression-mark object) a
+      (λ low counting.
+      let s = part-skips (marked variable (at-mark varWord tt counting .then)) in
+      let up : low ≤ s .high = omega (arith, s .up) in
+      record { high = s .high; rest = s .rest; up = up })
+      (λ low. marked object) (λ t. other varWord tt (derived variable (in-right (in-last (in-before (in-left a)))) t))
+      (derived object (in-last (in-left a)) (other closeParen tt (derived inner (in-right a) r)))
+  derived (statement-bare-jump {class = class} jumps) a r = other class (jump-other jumps) (other semicolon tt r)
+  derived (statement-jump {class = class} jumps same) a r = other class (jump-other jumps) (other name tt (other semicolon tt r))
   derived statement-bare-return a r = other returnWord tt (other semicolon tt r)
   derived (statement-full-return same value) a r = other returnWord tt (derived value (in-right a) (other semicolon tt r))
+  derived (statement-switch subject clauses) a r =
+      other switchWord tt
+      (other openParen tt
+      (derived subject (in-left a) (other closeParen tt (other openBrace tt (derived clauses (in-right a) (other closeBrace tt r))))))
+  derived no-clauses a r = r
+  derived (add-case cases test statements) a r =
+      let clause = in-last a in
+      derived cases (in-before a) (other caseWord tt (derived test (in-left clause) (other colon tt (derived statements (in-right clause) r))))
+  derived (add-default cases statements) a r =
+      derived cases (in-before a) (other defaultWord tt (other colon tt (derived statements (in-right (in-last a)) r)))
+  derived (statement-throw same value) a r = other throwWord tt (derived value (in-right a) (other semicolon tt r))
+  derived (statement-try none inner handler) a r =
+      let parts = in-left a in
+      other tryWord tt (derived inner (in-last (in-before parts)) (derived handler (in-last parts) r))
+  derived (statement-try-finally inner last) a r =
+      let parts = in-left a in
+      other tryWord tt (derived inner (in-last (in-before parts)) (derived last (in-last parts) r))
+  derived (statement-try-all inner handler last) a r =
+      let parts = in-left a in
+      other tryWord tt
+      (derived inner (in-last (in-before (in-before parts))) (derived handler (in-last (in-before parts)) (derived last (in-last parts) r)))
+  derived (catch-all inner) a r = other catchWord tt (other openParen tt (other name tt (other closeParen tt (derived inner (in-right a) r))))
+  derived (finally-all inner) a r = other finallyWord tt (derived inner (in-right a) r)
+  derived statement-debugger a r = other debuggerWord tt (other semicolon tt r)
   derived (statement-label inner) a r = other name tt (other colon tt (derived inner (in-right a) r))
   derived no-statements a r = r
   derived (add-statement statements last) a r = derived statements (in-before a) (derived last (in-last a) r)
@@ -254,9 +415,36 @@ module _ {total : ℕ} {parts : List Part} where
   derived (list-items allowed values) a r = derived values a r
   derived (list-last values starts last) a r = derived values (in-before a) (item-recorded starts (derived last (in-last a) r))
 
-pub token-recorded : {total low : ℕ} {all : List Token} {value : Syntax} → Counting total low all → Program all value
-    → (before : List Token) (class : ℕ) (spot : Spot) (after : List Token) → all ≡ before ++ (token class spot ∷ after) → T (isRecorded class)
-    → Makes class (spot .mark) (partsOf value)
-token-recorded {low = low} {value = value} counting program before class spot after split h =
-    recorded-at before class spot after
-    (subst (Recorded (partsOf value)) split (derived program (record { each = λ p member. member }) (λ end none. recorded-none) low counting)) h
+module _ {total low : ℕ} {all : List Token} {value : Syntax} (counting : Counting total low all) (program : Program all value) (before : List Token) where
+  has-at : (class : ℕ) (spot : Spot) (after : List Token) → all ≡ before ++ (token class spot ∷ after) → T (mayMark class)
+      → Has class (spot .mark) (partsOf value)
+  has-at class spot after split h =
+      recorded-at before class spot after
+      (subst (Recorded (partsOf value)) split (derived program (record { each = λ p member. member }) (λ end none. recorded-none) low counting)) h
+
+  pub token-recorded : (class : ℕ) (spot : Spot) (after : List Token) → all ≡ before ++ (token class spot ∷ after) → T (isRecorded class)
+      → Makes class (spot .mark) (partsOf value)
+  token-recorded class spot after split h = made (has-at class spot after split (at-class mayMark recordedClasses class h tt))
+    where
+      made : {mark : ℕ} {parts : List Part} → Has class mark parts → Makes class mark parts
+      made (has-part makes) = makes
+      made (has-variable same member next) = absurd (subst (λ (x : ℕ). T (isRecorded x)) same h)
+      made (has-for same member over later under) = absurd (subst (λ (x : ℕ). T (isRecorded x)) same h)
+
+  -- a `=` marks one too, unless it stands behind the name of a variable
+  pub assign-recorded : (spot : Spot) (after : List Token) → all ≡ before ++ (token assign spot ∷ after) → Assigns (spot .mark) (partsOf value)
+  assign-recorded spot after split = made (has-at assign spot after split tt)
+    where
+      made : {mark : ℕ} {parts : List Part} → Has assign mark parts → Assigns mark parts
+      made (has-part makes) = assigns makes
+      made (has-variable same member next) = initialises member next
+      made (has-for same member over later under) = absurd (omega arith)
+
+  -- and so does `in`, unless it is that of a `for`
+  pub in-recorded : (spot : Spot) (after : List Token) → all ≡ before ++ (token inWord spot ∷ after) → Relates (spot .mark) (partsOf value)
+  in-recorded spot after split = made (has-at inWord spot after split tt)
+    where
+      made : {mark : ℕ} {parts : List Part} → Has inWord mark parts → Relates mark parts
+      made (has-part makes) = relates makes
+      made (has-variable same member next) = absurd (omega arith)
+      made (has-for same member over later under) = iterates member over later under

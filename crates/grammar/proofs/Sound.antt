@@ -6,8 +6,8 @@ use Prim.Native.Nat.{ℕ}
 use native.Mathlib.Omega.{arith}
 use Rattle.machine.specs.Tokens.{Token, token, Spot}
 use Rattle.machine.specs.Syntax.{Syntax, nil}
-use Rattle.grammar.specs.Grammar.{body, block, callArguments, arrayElements, objectProperties, statement-if, no-statements, Program}
-use Rattle.machine.specs.Machinery.Machine.{endOfText, Frame, frame, doneOf, Ending, byStatement, byReturn, byParen, byBracket, byColon, byItem, among, declared, operandIn, Control, returnFirst, finished, Action, fail, look, afterUnary, afterOperand, row, Open, State, dead, live, finishIn, act, consume, run, start}
+use Rattle.grammar.specs.Grammar.{body, block, callArguments, arrayElements, objectProperties, statement-if, statement-try, no-statements, Program}
+use Rattle.machine.specs.Machinery.Machine.{endOfText, Frame, frame, doneOf, Target, noTarget, someTarget, loneTarget, Ending, byStatement, byReturn, byVariable, byStart, byTest, byStep, byObject, byCase, byParen, byBracket, byColon, byItem, among, inStatement, inHead, declared, operandIn, Control, returnFirst, throwFirst, jumpFirst, finished, Action, fail, Entry, look, inEntry, afterUnary, assignmentRow, takesIn, postfixRow, afterOperand, row, Open, State, dead, live, finishIn, act, consume, run, start}
 use Rattle.grammar.proofs.Complete.{run-append}
 use Rattle.grammar.proofs.Places.{statementAt, Reached, in-program, in-declaration, in-function}
 use Rattle.grammar.proofs.Partial.{
@@ -15,11 +15,39 @@ use Rattle.grammar.proofs.Partial.{
   operand-at,
   Partial,
   at-statement,
+  at-clause-statement,
   at-inner-statement,
   behind-name,
   behind-return,
+  behind-throw,
+  behind-jump,
+  behind-head,
+  behind-for,
+  at-start,
+  at-for-test,
+  at-for-step,
+  behind-switch,
+  behind-subject,
+  at-clause,
+  behind-default,
+  behind-try,
+  behind-tried,
+  behind-catch,
+  at-catch-name,
+  behind-catch-name,
+  behind-catch-head,
+  behind-caught,
+  behind-finally,
+  behind-try-all,
+  at-variable,
+  behind-variable,
+  behind-body,
+  at-test,
+  at-semicolon,
   behind-if,
   behind-then,
+  behind-else,
+  behind-do,
   at-operand,
   at-member,
   behind-operand,
@@ -49,6 +77,14 @@ run-partial all control f around e =
 unary-at-end : (ending : Ending) → look endOfText (afterUnary ending) ≡ fail
 unary-at-end (byStatement setting) = refl
 unary-at-end (byReturn setting) = refl
+unary-at-end (byVariable (inStatement setting)) = refl
+unary-at-end (byVariable (inHead true)) = refl
+unary-at-end (byVariable (inHead false)) = refl
+unary-at-end byStart = refl
+unary-at-end byTest = refl
+unary-at-end byStep = refl
+unary-at-end byObject = refl
+unary-at-end (byCase seen) = refl
 unary-at-end byParen = refl
 unary-at-end byBracket = refl
 unary-at-end byColon = refl
@@ -56,11 +92,25 @@ unary-at-end (byItem callArguments) = refl
 unary-at-end (byItem arrayElements) = refl
 unary-at-end (byItem objectProperties) = refl
 
-operand-at-end : (ending : Ending) (target newline : Bool) → look endOfText (afterOperand ending target newline) ≡ fail
-operand-at-end ending true true = unary-at-end ending
-operand-at-end ending true false = unary-at-end ending
-operand-at-end ending false true = unary-at-end ending
-operand-at-end ending false false = unary-at-end ending
+-- the entries before those of what follows a Unary do not take it
+operand-at-end : (ending : Ending) (target : Target) (newline : Bool) → look endOfText (afterOperand ending target newline) ≡ fail
+operand-at-end ending noTarget true = unary-at-end ending
+operand-at-end ending noTarget false = unary-at-end ending
+operand-at-end ending someTarget true = unary-at-end ending
+operand-at-end ending someTarget false = unary-at-end ending
+operand-at-end ending loneTarget newline = past (takesIn ending loneTarget) newline
+  where
+    past : (for newline : Bool) → look endOfText (inEntry for (assignmentRow ending loneTarget (postfixRow ending newline (afterUnary ending)))) ≡ fail
+    past true true = unary-at-end ending
+    past true false = unary-at-end ending
+    past false true = unary-at-end ending
+    past false false = unary-at-end ending
+
+-- nor does a row take the end that takes it neither with a line end before it nor without one
+row-at-end : (entries : Bool → List Entry) → look endOfText (entries true) ≡ fail → look endOfText (entries false) ≡ fail → (newline : Bool)
+    → look endOfText (entries newline) ≡ fail
+row-at-end entries with without true = with
+row-at-end entries with without false = without
 
 -- behind the end of the text the machine lives only if the text was a program
 pub record Ended (all : List Token) (control : Control) (f : Frame) (around : List Open) : Type 0 where
@@ -95,17 +145,46 @@ module _ (all : List Token) (spot : Spot) (after : Control) (g : Frame) (outside
       → Ended all after g outside
   end-taken later (at-statement {scope = body} place) e = finish-taken place e
   end-taken later (at-statement {scope = block} place) e = never e
+  end-taken later (at-clause-statement place) e = never e
   end-taken later (at-inner-statement place) e = never e
   end-taken {f = f} {around = around} later (behind-name {setting = setting} place) e =
-      untaken f around (operand-at-end (byStatement setting) true (spot .newline)) e
-  end-taken {f = f} {around = around} later (behind-return {setting = setting} place) e = by-newline (spot .newline) e
-    where
-      by-newline : (newline : Bool) → act (look endOfText (row (returnFirst setting) newline)) endOfText spot f around ≡ live after g outside
-          → Ended all after g outside
-      by-newline true e = never e
-      by-newline false e = never e
+      untaken f around (operand-at-end (byStatement setting) someTarget (spot .newline)) e
+  end-taken {f = f} {around = around} later (behind-return {setting = setting} place) e =
+      untaken f around (row-at-end (row (returnFirst setting)) refl refl (spot .newline)) e
+  end-taken {f = f} {around = around} later (behind-throw {setting = setting} place) e =
+      untaken f around (row-at-end (row (throwFirst setting)) refl refl (spot .newline)) e
+  end-taken {f = f} {around = around} later (behind-jump {setting = setting} jump place) e =
+      untaken f around (row-at-end (row (jumpFirst setting)) refl refl (spot .newline)) e
+  end-taken later (behind-head head place) e = never e
+  end-taken later (behind-for place) e = never e
+  end-taken later (at-start place) e = never e
+  end-taken later (at-for-test place start) e = never e
+  end-taken later (at-for-step place start condition) e = never e
+  end-taken later (behind-switch place) e = never e
+  end-taken later (behind-subject place subject) e = never e
+  end-taken later (at-clause {seen = true} place) e = never e
+  end-taken later (at-clause {seen = false} place) e = never e
+  end-taken later (behind-default place) e = never e
+  end-taken later (behind-try place) e = never e
+  end-taken later (behind-tried place inner) e = never e
+  end-taken later (behind-catch place inner) e = never e
+  end-taken later (at-catch-name place inner) e = never e
+  end-taken later (behind-catch-name place inner) e = never e
+  end-taken later (behind-catch-head place) e = never e
+  end-taken later (behind-caught outer inner handler) e = later _ _ (with-statement outer (statement-try tt inner handler)) e
+  end-taken later (behind-finally place) e = never e
+  end-taken later (behind-try-all outer whole) e = later _ _ (with-statement outer whole) e
+  end-taken later (at-variable place) e = never e
+  end-taken later (behind-variable {place = inStatement setting} place) e = never e
+  end-taken later (behind-variable {place = inHead true} place) e = never e
+  end-taken later (behind-variable {place = inHead false} place) e = never e
+  end-taken later (behind-body place inner) e = never e
+  end-taken later (at-test place inner) e = never e
+  end-taken later (at-semicolon place unended) e = never e
   end-taken later (behind-if place) e = never e
-  end-taken later (behind-then outer condition inner) e = later _ _ (with-statement outer (statement-if condition inner)) e
+  end-taken later (behind-then outer condition inner) e = later _ _ (with-statement outer (statement-if tt condition inner)) e
+  end-taken later (behind-else outer whole) e = later _ _ (with-statement outer whole) e
+  end-taken later (behind-do outer inner) e = later _ _ (behind-body outer inner) e
   end-taken later (at-operand outer waits fits) e = never e
   end-taken later (at-member outer waits) e = never e
   end-taken {f = f} {around = around} later (behind-operand {ending = ending} {target = target} outer waits chain) e =

@@ -45,11 +45,40 @@ use Rattle.grammar.specs.Grammar.{
   target-chain,
   target-new,
   function-all,
+  block-all,
   statement-block,
   statement-expression,
+  statement-var,
+  no-variables,
+  add-variable,
+  variable-bare,
+  variable-initialised,
+  statement-empty,
   statement-if,
+  statement-else,
+  statement-do,
+  statement-head,
+  statement-for,
+  statement-for-var,
+  left-out,
+  not-left-out,
+  statement-for-in,
+  statement-for-var-in,
+  statement-bare-jump,
+  statement-jump,
   statement-bare-return,
   statement-full-return,
+  statement-switch,
+  no-clauses,
+  add-case,
+  add-default,
+  statement-throw,
+  statement-try,
+  statement-try-finally,
+  statement-try-all,
+  catch-all,
+  finally-all,
+  statement-debugger,
   statement-label,
   no-statements,
   add-statement,
@@ -106,11 +135,47 @@ derived-end (assign-conditional condition first second) = then (past (derived-en
 derived-end (expression-assign value) = derived-end value
 derived-end (expression-comma left right) = then (past (derived-end left)) (derived-end right)
 derived-end (function-all parameters statements) = behind (then (past (past (parameters-end parameters))) (past (derived-end statements)))
-derived-end (statement-block statements) = behind (past (derived-end statements))
+derived-end (block-all statements) = behind (past (derived-end statements))
+derived-end (statement-block inner) = derived-end inner
 derived-end (statement-expression allowed value) = past (derived-end value)
-derived-end (statement-if condition inner) = behind (behind (then (past (derived-end condition)) (derived-end inner)))
+derived-end (statement-var variables last) = behind (then (derived-end variables) (past (derived-end last)))
+derived-end no-variables = itself
+derived-end (add-variable variables last) = then (derived-end variables) (past (derived-end last))
+derived-end variable-bare = behind itself
+derived-end (variable-initialised value) = behind (behind (derived-end value))
+derived-end statement-empty = behind itself
+derived-end (statement-if none condition inner) = behind (behind (then (past (derived-end condition)) (derived-end inner)))
+derived-end (statement-else condition first second) =
+    behind (behind (then (past (derived-end condition)) (then (past (derived-end first)) (derived-end second))))
+derived-end (statement-do inner condition) = behind (then (past (past (derived-end inner))) (past (past (derived-end condition))))
+derived-end (statement-head word head inner) = behind (behind (then (past (derived-end head)) (derived-end inner)))
+derived-end (statement-for start condition step inner) =
+    behind (behind (then (past (derived-end start)) (then (past (derived-end condition)) (then (past (derived-end step)) (derived-end inner)))))
+derived-end (statement-for-var variables last condition step inner) =
+    behind (behind (behind
+    (then (derived-end variables)
+    (then (past (derived-end last)) (then (past (derived-end condition)) (then (past (derived-end step)) (derived-end inner)))))))
+derived-end left-out = itself
+derived-end (not-left-out value) = derived-end value
+derived-end (statement-for-in target object inner) =
+    behind (behind (then (past (derived-end target)) (then (past (derived-end object)) (derived-end inner))))
+derived-end (statement-for-var-in variable object inner) =
+    behind (behind (behind (then (past (derived-end variable)) (then (past (derived-end object)) (derived-end inner)))))
+derived-end (statement-bare-jump word) = behind (behind itself)
+derived-end (statement-jump word same) = behind (behind (behind itself))
 derived-end statement-bare-return = behind (behind itself)
 derived-end (statement-full-return same value) = behind (past (derived-end value))
+derived-end (statement-switch subject clauses) = behind (behind (then (past (past (derived-end subject))) (past (derived-end clauses))))
+derived-end no-clauses = itself
+derived-end (add-case cases test statements) = then (past (derived-end cases)) (then (past (derived-end test)) (derived-end statements))
+derived-end (add-default cases statements) = then (past (past (derived-end cases))) (derived-end statements)
+derived-end (statement-throw same value) = behind (past (derived-end value))
+derived-end (statement-try none inner handler) = behind (then (derived-end inner) (derived-end handler))
+derived-end (statement-try-finally inner last) = behind (then (derived-end inner) (derived-end last))
+derived-end (statement-try-all inner handler last) = behind (then (derived-end inner) (then (derived-end handler) (derived-end last)))
+derived-end (catch-all inner) = behind (behind (behind (behind (derived-end inner))))
+derived-end (finally-all inner) = behind (derived-end inner)
+derived-end statement-debugger = behind (behind itself)
 derived-end (statement-label inner) = behind (behind (derived-end inner))
 derived-end no-statements = itself
 derived-end (add-statement statements last) = then (derived-end statements) (derived-end last)

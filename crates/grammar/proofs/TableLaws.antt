@@ -6,7 +6,7 @@ use Prim.Native.Nat.{ℕ, _≤_, _<_}
 use lib.Dec.{T, eqb, leb, ltb, eqb→eq, eqb-refl, leb→le, ltb→lt}
 use Rattle.text.proofs.Range.{and-left, and-right}
 use Rattle.machine.specs.Tokens.{name}
-use Rattle.machine.specs.Operators.{precedence, assignmentPrecedence, leastBinary, assignmentOperators, binaryOperators, prefixOperators, prefixKind, isAmong}
+use Rattle.machine.specs.Operators.{precedence, assignmentPrecedence, leastBinary, assignmentOperators, binaryOperators, binaryOperatorsBy, prefixOperators, prefixKind, isAmong}
 use Rattle.machine.specs.Machinery.Machine.{prefixPrecedence, tightness, Action, fail, Entry, on, otherwise, look, forEach, values, unlessLine, threshold}
 use Rattle.grammar.specs.Grammar.{Leaf, leaf-name, leaf-number, leaf-string, leaf-pattern, leaf-this, leaf-null, leaf-true, leaf-false}
 
@@ -68,6 +68,11 @@ at-class test (x ∷ rest) class h each =
 -- what a number is for each class of a list, it is for one of them
 pub number-at : (f g : ℕ → ℕ) (classes : List ℕ) → T (eachClass (λ x. eqb (f x) (g x)) classes) → (class : ℕ) → T (isAmong classes class) → f class ≡ g class
 number-at f g classes each class h = eqb→eq (f class) (g class) (at-class (λ x. eqb (f x) (g x)) classes class h each)
+
+-- those that are left where `in` is none are binary operators too
+pub binary-by : (within : Bool) (class : ℕ) → T (isAmong (binaryOperatorsBy within) class) → T (isAmong binaryOperators class)
+binary-by true class h = h
+binary-by false class h = at-class (isAmong binaryOperators) (binaryOperatorsBy false) class h tt
 
 -- binary operators have precedences from 3 up, bind by them, and close those that bind at least as tight
 pub binary-precedence : (class : ℕ) → T (isAmong binaryOperators class) → leastBinary ≤ precedence class

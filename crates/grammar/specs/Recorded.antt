@@ -1,20 +1,23 @@
 -- Document 02, U4: "each added operator and value word makes one syntax record".
-use Prim.Native.Nat.{ℕ, _≤_, _<_}
-use mathlib.Core.Bool.{Bool, cond}
+use Prim.Native.Nat.{ℕ, _+_, _≤_, _<_}
+use mathlib.Core.Path.{_≡_}
+use mathlib.Core.Bool.{Bool, false, cond}
 use mathlib.Core.List.{List, [], _∷_, _++_, List·Memᴰ}
 use lib.Dec.{T, eqb}
-use Rattle.machine.specs.Tokens.{thisWord, nullWord, trueWord, falseWord, newWord, plus, minus, increment, decrement, question}
-use Rattle.machine.specs.Operators.{assignmentOperators, binaryOperators, prefixOperators, postfixOperators, isAmong}
-use Rattle.machine.specs.Syntax.{Syntax, nil, node, snoc, constructSyntax, incrementedSyntax, decrementedSyntax, positiveSyntax, negativeSyntax, marksOf}
+use Rattle.machine.specs.Tokens.{assign, inWord, thisWord, nullWord, trueWord, falseWord, newWord, plus, minus, increment, decrement, question}
+use Rattle.machine.specs.Operators.{assignmentOperators, binaryOperatorsBy, prefixOperators, postfixOperators, without, isAmong}
+use Rattle.machine.specs.Syntax.{Syntax, nil, node, snoc, constructSyntax, variableSyntax, forInSyntax, incrementedSyntax, decrementedSyntax, positiveSyntax, negativeSyntax, marksOf}
 
 -- "`this`, `null`, `true`, `false`"
 abbrev pub valueWords : List ℕ
 valueWords = thisWord ∷ nullWord ∷ trueWord ∷ falseWord ∷ []
 
--- the tokens that mark a part wherever they stand: value words and operators, those of document 01 too, but `,`, which is an operator only "where
--- ES5.1 has Expression". `?` marks the conditional, and the `:` that answers it nothing
+-- The tokens that mark a part wherever they stand: value words and operators, those of document 01 too, but `,`, which is an operator only "where
+-- ES5.1 has Expression", and `=` and `in`, which behind the name of a variable and in the head of a `for` are no operators (`Assigns` and `Relates`
+-- below). `?` marks the conditional, and the `:` that answers it nothing
 abbrev pub recordedClasses : List ℕ
-recordedClasses = valueWords ++ (newWord ∷ question ∷ (prefixOperators ++ (postfixOperators ++ (binaryOperators ++ assignmentOperators))))
+recordedClasses =
+    valueWords ++ (newWord ∷ question ∷ (prefixOperators ++ (postfixOperators ++ (binaryOperatorsBy false ++ without assign assignmentOperators))))
 
 abbrev pub isRecorded : ℕ → Bool
 isRecorded class = isAmong recordedClasses class
@@ -44,3 +47,15 @@ pub data Makes (class mark : ℕ) (parts : List Part) : Type 0 where
       → ((m : ℕ) → List·Memᴰ m inside → mark ≤ m) → Makes class mark parts
   makes-behind : {operand : ℕ} {inside : List ℕ} → List·Memᴰ (part (behindKind class) mark inside) parts → List·Memᴰ operand inside → operand < mark
       → Makes class mark parts
+
+-- a `=` makes a record as other operators do; or it initialises a variable, whose name, the record before it, marks that
+pub data Assigns (mark : ℕ) (parts : List Part) : Type 0 where
+  assigns : Makes assign mark parts → Assigns mark parts
+  initialises : {called : ℕ} {inside : List ℕ} → List·Memᴰ (part variableSyntax called inside) parts → called + 1 ≡ mark → Assigns mark parts
+
+-- `in` does so too; or it stands in a `for` with `in`, whose word is before it and some part of which is behind it: its own `in` does, and any other
+-- there is not told from that
+pub data Relates (mark : ℕ) (parts : List Part) : Type 0 where
+  relates : Makes inWord mark parts → Relates mark parts
+  iterates : {word later : ℕ} {inside : List ℕ} → List·Memᴰ (part forInSyntax word inside) parts → word < mark → List·Memᴰ later inside → mark < later
+      → Relates mark parts

@@ -1,3 +1,4 @@
 pub mod GroupLaws
 pub mod CloserLaws
 pub mod AskLaws
+pub mod ObjectLaws

@@ -1,6 +1,6 @@
 -- The run of a level, step by step, by the actions of the machine's table and not by the forms of the grammar.
 use mathlib.Core.Path.{_≡_, refl, sym, _∙_, ap}
-use mathlib.Core.Bool.{Bool, true, false, not, _&&_}
+use mathlib.Core.Bool.{Bool, true, false, cond, not, _&&_}
 use mathlib.Core.List.{List, [], _∷_, _++_}
 use Prim.Native.Nat.{ℕ, _+_, _*_, _≤_, _<_}
 use native.Mathlib.Omega.{arith}
@@ -8,25 +8,24 @@ use borrow.Author.Tests.{lt-ltb, ne-eqb}
 use lib.Dec.{T, ltb}
 use lib.ListN.{length}
 use Rattle.machine.specs.Tokens.{Token, token, Spot}
-use Rattle.machine.specs.Syntax.{nil}
+use Rattle.machine.specs.Syntax.{Syntax, nil}
 use Rattle.machine.specs.Operators.{leastBinary}
-use Rattle.machine.specs.Machinery.Machine.{endOfText, Frame, frame, empty, heldWord, Effect, affect, reduced, answered, Closing, toStatement, close, expressionValue, valueOf, Ending, byColon, Control, ifFirst, operandDue, Action, fail, goto, push, enter, ask, turn, look, row, Open, grouped, nested, asking, dead, live, turnTo, act, run}
+use Rattle.machine.specs.Machinery.Machine.{endOfText, Frame, empty, Effect, affect, reduced, answered, Closing, close, inFor, someTarget, expressionValue, valueOf, Ending, byColon, Control, operandDue, Action, fail, goto, push, enter, ask, turn, look, row, Open, grouped, nested, asking, State, dead, live, popTo, headIn, turnTo, act, run}
 use Rattle.machine.proofs.Ran.{stays-dead}
 use Rattle.controls.specs.Machinery.Numbers.{controlOf}
 use Rattle.machine.specs.Machinery.Classes.{isOpener, isEnd, isSingle}
-use Rattle.controls.specs.Machinery.Steps.{Settled}
 use Rattle.controls.specs.declared.Control as code
 use Rattle.controls.specs.Machinery.Written.{putSyntax}
 use Rattle.waiting.specs.Machinery.Waiting.{width, bare}
 use Rattle.waiting.specs.declared.Level.{Level}
 use Rattle.frames.specs.Machinery.Stands.{Shaped, written, HeldAt, owed, Stands, no-operators, no-beginnings, below-none}
-use Rattle.frames.specs.Machinery.Effects.{StandsSomewhere, Readies, Readied, TurnedTo, ofParameter}
+use Rattle.frames.specs.Machinery.Effects.{StandsSomewhere, Moved, Readies, TurnedTo, ofParameter}
 use Rattle.frames.specs.declared.Standing.{Standing}
 use Rattle.segments.specs.Machinery.Segments.{Segment, inside, countOf, classAt, sizeAt, placeAt, lineAt, tokensAt, spotAt, closerSpot, Fine}
 use Rattle.segments.proofs.SegmentLaws.{at-openers, element-then, group-then, end-then}
 use Rattle.groups.specs.Machinery.Closers.{closerToken, pops-there, dies-there, AtCloser, ComesTo}
 use Rattle.groups.specs.declared.Parsed.{Parsed}
-use Rattle.levels.specs.Machinery.Runs.{Through, Ran, ran-through, ran-dead, MayRun, Begins, begins-statements, begins-expression, begins-index, begins-items, begins-parameter}
+use Rattle.levels.specs.Machinery.Runs.{Through, Ran, ran-through, ran-dead, MayRun, Begins, begins-statements, begins-expression, begins-index, begins-items, begins-parameter, begins-head, begins-clauses, begins-caught}
 
 -- where the run of a level is, before a record: what stands around it is behind the nests that are open on it
 pub record Underway (p : Segment) (from : Control) (count top : ℕ) (table before : List ℕ) (c : Control) (l : Level) (at : ℕ) (cells stack : List ℕ) : Type 0 where
@@ -58,6 +57,9 @@ fresh begins-expression = record { shaped = (refl, (refl, refl, refl)); written-
 fresh begins-index = record { shaped = (refl, (refl, refl, refl)); written-none = refl; held-none = λ word. tt; owes-none = refl }
 fresh begins-items = record { shaped = (refl, refl, refl, refl); written-none = refl; held-none = λ word. tt; owes-none = refl }
 fresh begins-parameter = record { shaped = (refl, refl, refl, refl, refl); written-none = refl; held-none = λ word. tt; owes-none = refl }
+fresh begins-head = record { shaped = (refl, refl, refl, refl); written-none = refl; held-none = λ word. tt; owes-none = refl }
+fresh begins-clauses = record { shaped = (refl, refl, refl, refl); written-none = refl; held-none = λ word. tt; owes-none = refl }
+fresh begins-caught = record { shaped = (refl, refl, refl, refl, refl); written-none = refl; held-none = λ word. tt; owes-none = refl }
 
 pub starts-underway : {p : Segment} {c : Control} {closer count top : ℕ} {table stack : List ℕ} {l : Level} → MayRun p closer count top stack → Begins c
     → l .count ≡ count → l .top ≡ top → l .floor ≡ top → l .start ≡ count → l .held ≡ 0 → Underway p c count top table stack c l 0 table stack
@@ -117,6 +119,13 @@ opener-known : (class : ℕ) → T (isOpener class) → class + 1 ≡ endOfText 
 opener-known class t =
     at-openers (λ (k : ℕ). k + 1 ≡ endOfText → ⊥) (λ e. omega arith) (λ e. omega arith) (λ e. omega arith) class t
 
+-- a group closes, as the head of a `for` with `in` or not
+popped : (within : Bool) (place : ℕ) (value : Syntax) (behind : Control) (closing : Closing) (mark : ℕ) (f : Frame) (around : List Open)
+    → popTo place value (cond within (headIn (grouped behind closing mark f ∷ around)) (grouped behind closing mark f ∷ around))
+    ≡ live behind (close (cond within (inFor closing) closing) mark value f) around
+popped true place value behind closing mark f around = refl
+popped false place value behind closing mark f around = refl
+
 -- at a record of a class
 module _ {p : Segment} (fine : Fine p) {from : Control} {count top : ℕ} {table before : List ℕ} {c : Control} {l : Level} {at : ℕ} {cells stack : List ℕ}
     (h : Underway p from count top table before c l at cells stack) (class : ℕ) (is : classAt (p .text) (p .cells) at ≡ class) (here : at < countOf (p .cells)) where
@@ -132,14 +141,11 @@ module _ {p : Segment} (fine : Fine p) {from : Control} {count top : ℕ} {table
       go false e = (_, element-then fine at class is u (rw (lt-ltb 0 class known, e) tt))
 
   -- the machine stands elsewhere before the token, and takes it the same way
-  module _ {control : code.Control} {s : Standing} {cells′ : List ℕ} (at-control : controlOf control ≡ c) (readies : Readies control class l stack cells s cells′) where
-    readied : Readied control class (h .g) (h .nests) table before count top at s stack cells′
-    readied = readies (h .g) (h .nests) table before count top at (rw at-control (h .stands))
+  module _ {control : code.Control} {s : Standing} {stack′ cells′ : List ℕ} (at-control : controlOf control ≡ c) (readies : Readies control class l stack cells s stack′ cells′) where
+    readied : Moved (controlOf control) class (h .g) (h .nests) table before count top at s stack′ cells′
+    readied = readies .moves (h .g) (h .nests) table before count top at (rw at-control (h .stands))
 
-    pub ready-settled : Settled (s .control) class
-    ready-settled = readied .settled
-
-    pub ready-underway : Underway p from count top table before (controlOf (s .control)) (s .level) at cells′ stack
+    pub ready-underway : Underway p from count top table before (controlOf (s .control)) (s .level) at cells′ stack′
     ready-underway =
         let r = readied in
         record {
@@ -155,7 +161,7 @@ module _ {p : Segment} (fine : Fine p) {from : Control} {count top : ℕ} {table
           stands = r .stands;
           kind = r .kind ∙ ap ofParameter at-control ∙ h .kind;
           low = h .low;
-          deep = h .deep;
+          deep = omega (arith, h .deep, h .stands .kept .same-length, r .stands .kept .same-length);
           within = h .within;
         }
 
@@ -182,13 +188,13 @@ module _ {p : Segment} (fine : Fine p) {from : Control} {count top : ℕ} {table
       within = omega arith;
     }
 
-    pub goes-in : {behind : Control} → look class (row c (lineAt (p .cells) at)) ≡ enter ifFirst behind toStatement
-        → Stands ifFirst (frame nil [] [] (heldWord (p .base + at))) (nested behind toStatement (p .base + at) (h .g) ∷ h .nests) table before count top (at + 1) l′ stack′ cells′
-        → ofParameter ifFirst ≡ ofParameter c → length stack′ ≡ length stack
-        → Underway p from count top table before ifFirst l′ (at + 1) cells′ stack′
-    goes-in {behind = behind} entry s kind long = record {
-      g = frame nil [] [] (heldWord (p .base + at));
-      nests = nested behind toStatement (p .base + at) (h .g) ∷ h .nests;
+    pub goes-in : {inside behind : Control} {effect outer : Effect} {closing : Closing} → look class (row c (lineAt (p .cells) at)) ≡ enter inside effect outer behind closing
+        → Stands inside (affect effect (p .base + at) empty) (nested behind closing (p .base + at) (affect outer (p .base + at) (h .g)) ∷ h .nests) table before count top (at + 1) l′ stack′ cells′
+        → ofParameter inside ≡ ofParameter c → length stack′ ≡ length stack
+        → Underway p from count top table before inside l′ (at + 1) cells′ stack′
+    goes-in {behind = behind} {effect = effect} {outer = outer} {closing = closing} entry s kind long = record {
+      g = affect effect (p .base + at) empty;
+      nests = nested behind closing (p .base + at) (affect outer (p .base + at) (h .g)) ∷ h .nests;
       runs = λ around u.
           h .runs around u
           ∙ ap (λ (ts : List Token). run (live c (h .g) (h .nests ++ around)) ts) (singly single u)
@@ -201,9 +207,9 @@ module _ {p : Segment} (fine : Fine p) {from : Control} {count top : ℕ} {table
     }
 
     pub goes-asking : {ending : Ending} → look class (row c (lineAt (p .cells) at)) ≡ ask ending
-        → Stands (operandDue byColon true) empty (asking ending (p .base + at) (reduced leastBinary (h .g)) ∷ h .nests) table before count top (at + 1) l′ stack′ cells′
+        → Stands (operandDue byColon someTarget) empty (asking ending (p .base + at) (reduced leastBinary (h .g)) ∷ h .nests) table before count top (at + 1) l′ stack′ cells′
         → false ≡ ofParameter c → length stack′ ≡ length stack
-        → Underway p from count top table before (operandDue byColon true) l′ (at + 1) cells′ stack′
+        → Underway p from count top table before (operandDue byColon someTarget) l′ (at + 1) cells′ stack′
     goes-asking {ending = ending} entry s kind long = record {
       g = empty;
       nests = asking ending (p .base + at) (reduced leastBinary (h .g)) ∷ h .nests;
@@ -221,7 +227,7 @@ module _ {p : Segment} (fine : Fine p) {from : Control} {count top : ℕ} {table
   module _ (single : T (isSingle class)) {cells′ stack′ : List ℕ} where
     pub goes-turning : {r : Standing} → look class (row c (lineAt (p .cells) at)) ≡ turn → (s : TurnedTo (h .g) (h .nests) table before count top (at + 1) r stack′ cells′)
         → false ≡ ofParameter c → length stack′ ≡ length stack
-        → Underway p from count top table before (operandDue (s .ending) true) (r .level) (at + 1) cells′ stack′
+        → Underway p from count top table before (operandDue (s .ending) someTarget) (r .level) (at + 1) cells′ stack′
     goes-turning entry s kind long = record {
       g = answered (s .mark) (valueOf expressionValue (h .g)) (s .f);
       nests = s .rest;
@@ -254,18 +260,19 @@ module _ {p : Segment} (fine : Fine p) {from : Control} {count top : ℕ} {table
         ∙ ap (λ (ts : List Token). run (live c (h .g) (h .nests ++ around)) ts) (group-tokens u)
         ∙ step-run c (h .g) (h .nests ++ around) class (spotAt p at) (tokensAt (inside p at) 0 ++ (token (class + 1) (closerSpot p at) ∷ rest u)) entry
 
-    pub goes-behind : {l′ : Level} {n : ℕ} {cells₁ stack₁ cells′ stack′ : List ℕ}
-        → (inner : Through (class + 1) (inside p at) within (l .count) (l .top) cells stack n cells₁ stack₁)
-        → Stands to (close closing (p .base + at) (inner .value) (h .g)) (h .nests) table before count top (at + sizeAt (p .cells) at) l′ stack′ cells′
+    pub goes-behind : {l′ : Level} {n : ℕ} {head : Bool} {cells₁ stack₁ cells′ stack′ : List ℕ}
+        → (inner : Through (class + 1) (inside p at) within (l .count) (l .top) cells stack n head cells₁ stack₁)
+        → Stands to (close (cond head (inFor closing) closing) (p .base + at) (inner .value) (h .g)) (h .nests) table before count top (at + sizeAt (p .cells) at) l′ stack′ cells′
         → ofParameter to ≡ ofParameter c → length stack′ ≡ length stack
         → Underway p from count top table before to l′ (at + sizeAt (p .cells) at) cells′ stack′
-    goes-behind inner s kind long = record {
-      g = close closing (p .base + at) (inner .value) (h .g);
+    goes-behind {head = head} inner s kind long = record {
+      g = close (cond head (inFor closing) closing) (p .base + at) (inner .value) (h .g);
       nests = h .nests;
       runs = λ around u.
           opened around u
           ∙ inner .runs (grouped to closing (p .base + at) (h .g) ∷ (h .nests ++ around)) (p .base + at + sizeAt (p .cells) at) (rest u)
-          ∙ rw (ne-eqb (class + 1) endOfText (opener-known class opens));
+          ∙ rw (ne-eqb (class + 1) endOfText (opener-known class opens))
+          (ap (λ (state : State). run state (rest u)) (popped head (inside p at .close) (inner .value) to closing (p .base + at) (h .g) (h .nests ++ around)));
       stands = s;
       kind = kind ∙ h .kind;
       low = h .low;
@@ -300,16 +307,17 @@ module _ {p : Segment} {from : Control} {count top : ℕ} {table before : List �
       h .runs around (closerToken closer (p .close) mark ∷ u)
       ∙ ap (λ (ts : List Token). run (live (controlOf control) (h .g) (h .nests ++ around)) ts) (end-then p at past (closerToken closer (p .close) mark ∷ u))
 
-  pub ran-to-closer : {r : Parsed} {cells′ : List ℕ} → ComesTo control closer (p .close) l stack cells r cells′ → Ran closer p from count top table before r cells′ stack
-  ran-to-closer {r} {cells′} comes = go (comes (h .g) (h .nests) table before count top at (h .stands))
+  pub ran-to-closer : {r : Parsed} {stack′ cells′ : List ℕ} → ComesTo control closer (p .close) l stack cells r stack′ cells′ → Ran closer p from count top table before r cells′ stack′
+  ran-to-closer {r} {stack′} {cells′} comes = go (comes (h .g) (h .nests) table before count top at (h .stands))
     where
-      go : {r : Parsed} → AtCloser closer (p .close) (controlOf control) (h .g) (h .nests) table count at r cells′ → Ran closer p from count top table before r cells′ stack
+      go : {r : Parsed} → AtCloser closer (p .close) (controlOf control) (h .g) (h .nests) table before count top at r stack′ cells′
+          → Ran closer p from count top table before r cells′ stack′
       go (pops-there e) = ran-through (record {
         value = e .value;
         runs = λ around mark u. to-closer around mark u ∙ e .runs around mark u;
         count-is = e .count-is;
         cells-are = e .cells-are;
-        kept = h .stands .kept;
+        kept = e .kept;
         passes = omega (arith, e .passes, h .within);
         plain = λ t. e .plain (h .kind ∙ t);
       })

@@ -4,27 +4,28 @@ use mathlib.Core.Bool.{Bool, true, false, cond, not}
 use mathlib.Core.List.{List}
 use Prim.Native.Nat.{ℕ, zero, suc, _+_, _-_, _*_, _≤_, _<_}
 use native.Mathlib.Omega.{arith}
-use borrow.Author.Tests.{eqb-true, eqb-false}
+use borrow.Author.Tests.{ne-eqb, eqb-true, eqb-false}
 use lib.Dec.{T, eqb}
 use lib.ListN.{length}
 use Rattle.tables.specs.Records.{mostTrees}
 use Rattle.machine.specs.Tokens.{openBracket}
+use Rattle.machine.specs.Syntax.{nil}
 use Rattle.machine.specs.Scopes.{body}
-use Rattle.machine.specs.Machinery.Machine.{among, behindStatement, toStatement, Ending, byColon, Control, statementDue, ifFirst, Action, fail, goto, push, enter, ask, turn, look, row}
-use Rattle.controls.specs.Machinery.Numbers.{settingBy, controlBy, controlOf, effectBy, closingBy, insideBy}
+use Rattle.machine.specs.Machinery.Machine.{doNest, Setting, among, inClause, inNest, Closing, toParens, toCall, toObject, toArray, toIndex, toBlock, toCondition, toHead, toFor, toForIn, toTest, toParameter, toDeclaration, toFunction, toStatement, toBody, toTry, inFor, Ending, byColon, Control, statementDue, tryFirst, ifFirst, Action, fail, goto, push, enter, ask, turn, look, row}
+use Rattle.controls.specs.Machinery.Numbers.{settingBy, mustBy, controlBy, controlOf, effectBy, closingBy, insideBy, enteredBy, wordedBy, outsideBy, behindBy, leftBy}
 use Rattle.machine.specs.Machinery.Classes.{isOpener, isEnd, isSingle}
-use Rattle.controls.specs.Machinery.Steps.{Ended, Leads, Spans, Settled, Means, means-end, means-fail, means-goto, means-push, means-enter, means-ask, means-turn, goes-on}
+use Rattle.controls.specs.Machinery.Steps.{Ended, Leads, Spans, past-parens, past-object, past-array, past-index, past-call, past-condition, past-head, past-for, past-for-in, past-subject, past-clauses, past-tried, past-caught, past-handled, past-finally, past-test, past-parameter, past-unnamed, past-block, past-declaration, past-function, Enters, enters-if, enters-do, enters-try, enters-case, enters-last-case, enters-default, Settled, Means, means-end, means-fail, means-goto, means-push, means-enter, means-ask, means-turn}
 use Rattle.controls.specs.declared.Control as code
 use Rattle.controls.specs.declared.Step.{Step}
 use Rattle.controls.specs.declared.Step.the-variants.{Fail, Goto, Push, Enter, Ask, Turn}
 use Rattle.waiting.specs.Machinery.Waiting.{width}
 use Rattle.waiting.specs.declared.Level.{Level}
-use Rattle.frames.specs.Machinery.Effects.{StandsSomewhere, Readies, MayAffect, Affects, MayEnter, Enters, MayAsk, Asks, MayTurn, Turns, Valued, MayClose, ClosesGroup, ofParameter}
+use Rattle.frames.specs.Machinery.Effects.{StandsSomewhere, Readies, MayAffect, Affects, MayEnter, EntersNest, MayAsk, Asks, MayTurn, Turns, Valued, MayClose, ClosesGroup, ofParameter}
 use Rattle.frames.specs.declared.Standing.{Standing}
 use Rattle.frames.proofs.ParameterLaws.{ended-kind, leads-kind, spans-kind, parameter-inside}
 use Rattle.segments.specs.Machinery.Segments.{Segment, segment, inside, countOf, classAt, sizeAt, placeAt, closerAt, lineAt, contentOf, Fine}
 use Rattle.segments.proofs.SegmentLaws.{at-openers, inside-fine, inside-count, never-ends}
-use Rattle.levels.specs.Machinery.Runs.{Begins, begins-statements, begins-expression, begins-index, begins-items, begins-parameter, Through, Ran, ran-through, ran-dead, MayRun, MayOpen}
+use Rattle.levels.specs.Machinery.Runs.{Begins, begins-statements, begins-expression, begins-index, begins-items, begins-parameter, begins-head, begins-clauses, begins-caught, Through, Ran, ran-through, ran-dead, MayRun, MayOpen}
 use Rattle.groups.specs.declared.Parsed.{Parsed}
 use Rattle.groups.specs.declared.Parsed.the-variants.{Done, Bad}
 use Rattle.levels.proofs.RunLaws as runs
@@ -57,17 +58,79 @@ push-entry : {c : Control} {class closing : ℕ} {to : code.Control} {action : A
     → PushEntry c class (controlOf to) closing action
 push-entry (means-push t s) = record { entry = refl; opens = t; spans = s }
 
-record EnterEntry (c : Control) (class : ℕ) (to : Control) (number : ℕ) (action : Action) : Type 0 where
-  must : Bool
-  entry : action ≡ enter ifFirst (behindStatement (settingBy number)) toStatement
+record EnterEntry (c : Control) (class nest number : ℕ) (action : Action) : Type 0 where
+  entry : action ≡ enter (enteredBy nest) (wordedBy nest) (outsideBy nest) (behindBy nest (settingBy number)) (leftBy nest)
   single : T (isSingle class)
-  small : number ≤ 2
-  there : c ≡ statementDue must (settingBy number)
-  inside : to ≡ ifFirst
+  one : nest ≤ 4
+  small : number ≤ 5
+  opens : Enters nest (settingBy number) c
 
-enter-entry : {c : Control} {class number : ℕ} {to : code.Control} {action : Action} → Means c class (Enter to number) action
-    → EnterEntry c class (controlOf to) number action
-enter-entry (means-enter t n e i) = record { must = _; entry = refl; single = t; small = n; there = e; inside = i }
+enter-entry : {c : Control} {class nest number : ℕ} {action : Action} → Means c class (Enter nest number) action → EnterEntry c class nest number action
+enter-entry (means-enter t o n e) = record { entry = refl; single = t; one = o; small = n; opens = e }
+
+-- no nest is in a parameter's parentheses
+entered-kind : (nest : ℕ) → ofParameter (enteredBy nest) ≡ false
+unfolding enteredBy
+entered-kind nest = go (eqb nest 0) (eqb nest 1) (eqb nest 2)
+  where
+    go : (a b d : Bool) → ofParameter (cond a ifFirst (cond b (statementDue true (inNest doNest)) (cond d tryFirst (statementDue false inClause)))) ≡ false
+    go true b d = refl
+    go false true d = refl
+    go false false true = refl
+    go false false false = refl
+
+opens-kind : {nest : ℕ} {setting : Setting} {c : Control} → Enters nest setting c → ofParameter c ≡ false
+opens-kind enters-if = refl
+opens-kind enters-do = refl
+opens-kind enters-try = refl
+opens-kind (enters-case ended) = ended-kind ended
+opens-kind (enters-last-case ended) = ended-kind ended
+opens-kind enters-default = refl
+
+-- a group may be the head of a `for` with `in`
+spans-in : (head : Bool) {closing : Closing} {from to : Control} → Spans closing from to → Spans (cond head (inFor closing) closing) from to
+spans-in false spans = spans
+spans-in true (past-parens due) = past-parens due
+spans-in true (past-object due) = past-object due
+spans-in true (past-array due) = past-array due
+spans-in true past-index = past-index
+spans-in true past-call = past-call
+spans-in true past-condition = past-condition
+spans-in true past-head = past-head
+spans-in true past-for = past-for-in
+spans-in true past-for-in = past-for-in
+spans-in true past-subject = past-subject
+spans-in true past-clauses = past-clauses
+spans-in true past-tried = past-tried
+spans-in true past-caught = past-caught
+spans-in true past-handled = past-handled
+spans-in true past-finally = past-finally
+spans-in true past-test = past-test
+spans-in true past-parameter = past-parameter
+spans-in true past-unnamed = past-unnamed
+spans-in true past-block = past-block
+spans-in true past-declaration = past-declaration
+spans-in true past-function = past-function
+
+parameter-in : (head : Bool) (closing : Closing) → cond head (inFor closing) closing ≡ toParameter → closing ≡ toParameter
+parameter-in false closing e = e
+parameter-in true toParens e = e
+parameter-in true toCall e = e
+parameter-in true toObject e = e
+parameter-in true toArray e = e
+parameter-in true toIndex e = e
+parameter-in true toBlock e = e
+parameter-in true toCondition e = e
+parameter-in true toHead e = e
+parameter-in true toFor e = cc
+parameter-in true toForIn e = e
+parameter-in true toTest e = e
+parameter-in true toParameter e = e
+parameter-in true toDeclaration e = e
+parameter-in true toFunction e = e
+parameter-in true toStatement e = e
+parameter-in true toBody e = e
+parameter-in true toTry e = e
 
 record AskEntry (c : Control) (class : ℕ) (action : Action) : Type 0 where
   ending : Ending
@@ -90,25 +153,25 @@ turn-entry (means-turn t e) = record { entry = refl; single = t; ended = e }
 opener-is : (class : ℕ) → T (isOpener class) → (class ≤ openBracket) × T (isEnd (class + 1))
 opener-is = at-openers (λ (k : ℕ). (k ≤ openBracket) × T (isEnd (k + 1))) (omega arith, tt) (omega arith, tt) (omega arith, tt)
 
-ran : {q : Segment} {c : Control} {class count top n : ℕ} {a b cells stack : List ℕ} → Ran class q c count top a b (Done n) cells stack
-    → Through class q c count top a b n cells stack
+ran : {q : Segment} {c : Control} {class count top n : ℕ} {head : Bool} {a b cells stack : List ℕ} → Ran class q c count top a b (Done n head) cells stack
+    → Through class q c count top a b n head cells stack
 ran (ran-through t) = t
 
 -- a turn of the loop up to its step: the level is under way before a record, it is readied for the record's token, and the step is that of
 -- the table
-pub record Arrival (p : Segment) (from : Control) (count top : ℕ) (table before : List ℕ) (control : code.Control) (first : Level) (at : ℕ) (old stack : List ℕ)
-    (class : ℕ) (newline : Bool) (s : Standing) (cells : List ℕ) (step : Step) : Type 0 where
+pub record Arrival (p : Segment) (from : Control) (count top : ℕ) (table before : List ℕ) (control : code.Control) (first : Level) (at : ℕ) (old oldStack : List ℕ)
+    (class : ℕ) (newline : Bool) (s : Standing) (stack cells : List ℕ) (step : Step) : Type 0 where
   pub fine : Fine p
-  pub underway : Underway p from count top table before (controlOf control) first at old stack
+  pub underway : Underway p from count top table before (controlOf control) first at old oldStack
   pub here : at < countOf (p .cells)
   pub is : class ≡ classAt (p .text) (p .cells) at
   pub lined : newline ≡ lineAt (p .cells) at
-  pub readies : Readies control class first stack old s cells
+  pub readies : Readies control class first oldStack old s stack cells
   pub steps : Settled (s .control) class → Means (controlOf (s .control)) class step (look class (row (controlOf (s .control)) newline))
 
-module _ {p : Segment} {from : Control} {count top : ℕ} {table before : List ℕ} {control : code.Control} {first : Level} {at : ℕ} {old stack : List ℕ}
-    {class : ℕ} {newline : Bool} {s : Standing} {cells : List ℕ} {step : Step}
-    (turn : Arrival p from count top table before control first at old stack class newline s cells step) where
+module _ {p : Segment} {from : Control} {count top : ℕ} {table before : List ℕ} {control : code.Control} {first : Level} {at : ℕ} {old oldStack : List ℕ}
+    {class : ℕ} {newline : Bool} {s : Standing} {stack cells : List ℕ} {step : Step}
+    (turn : Arrival p from count top table before control first at old oldStack class newline s stack cells step) where
   abbrev fine : Fine p
   fine = turn .fine
 
@@ -128,7 +191,7 @@ module _ {p : Segment} {from : Control} {count top : ℕ} {table before : List �
   h = runs.ready-underway fine (turn .underway) class (sym is) here refl (turn .readies)
 
   means : Means c class step (look class (row c newline))
-  means = turn .steps (runs.ready-settled fine (turn .underway) class (sym is) here refl (turn .readies))
+  means = turn .steps (turn .readies .settled)
 
   entry-at : {action : Action} → look class (row c newline) ≡ action → look class (row c (lineAt (p .cells) at)) ≡ action
   entry-at e = rw (turn .lined) at e
@@ -157,7 +220,7 @@ module _ {p : Segment} {from : Control} {count top : ℕ} {table before : List �
     goes : GotoEntry c class (controlOf to) effect (look class (row c newline))
     goes = goto-entry (means-as e)
 
-    pub may-affect : MayAffect effect class (p .base + at) l stack cells
+    pub may-affect : MayAffect (effectBy effect class) (p .base + at) l stack cells
     may-affect = record {
       from = c;
       to = controlOf to;
@@ -168,27 +231,35 @@ module _ {p : Segment} {from : Control} {count top : ℕ} {table before : List �
       marked = omega (arith, fine .few);
     }
 
-    pub affected : {l′ : Level} {cells′ stack′ : List ℕ} → Affects effect class (p .base + at) l stack cells l′ stack′ cells′ → length stack′ ≡ length stack
+    pub affected : {l′ : Level} {cells′ stack′ : List ℕ} → Affects (effectBy effect class) (p .base + at) l stack cells l′ stack′ cells′ → length stack′ ≡ length stack
         → Underway p from count top table before (controlOf to) l′ (at + 1) cells′ stack′
     affected affects long =
         runs.goes-on fine h class (sym is) here (goes .single) (entry-at (goes .entry))
         (affects c (controlOf to) (h .g) (h .nests) table before count top at (h .stands) (goes .leads) below-most) (leads-kind (goes .leads)) long
 
   -- it enters a nest
-  module _ {to : code.Control} {number : ℕ} (e : step ≡ Enter to number) where
-    enters : EnterEntry c class (controlOf to) number (look class (row c newline))
+  module _ {nest number : ℕ} (e : step ≡ Enter nest number) where
+    enters : EnterEntry c class nest number (look class (row c newline))
     enters = enter-entry (means-as e)
 
-    pub may-enter : MayEnter number l stack cells
-    may-enter = record { must = enters .must; somewhere = rw (enters .there) at somewhere; room = room; small = omega (arith, enters .small) }
+    pub may-enter : MayEnter nest number (p .base + at) l stack cells
+    may-enter = record {
+      from = c;
+      opens = enters .opens;
+      somewhere = somewhere;
+      room = room;
+      nested = enters .one;
+      set = enters .small;
+      marked = omega (arith, fine .few);
+    }
 
-    pub entered : {l′ : Level} {stack′ : List ℕ} → Enters number (p .base + at) l stack cells l′ stack′ → length stack′ ≡ length stack
-        → Underway p from count top table before (controlOf to) l′ (at + 1) cells stack′
-    entered {l′ = l′} {stack′ = stack′} opens long =
-        rw (enters .inside)
+    pub entered : {to : Control} {l′ : Level} {stack′ cells′ : List ℕ} → to ≡ enteredBy nest → EntersNest nest number (p .base + at) l stack cells l′ stack′ cells′
+        → length stack′ ≡ length stack → Underway p from count top table before to l′ (at + 1) cells′ stack′
+    entered inside opens long =
+        rw inside
         (runs.goes-in fine h class (sym is) here (enters .single) (entry-at (enters .entry))
-        (opens (enters .must) (h .g) (h .nests) table before count top at
-        (rw (enters .there) at (h .stands)) below-most (omega (arith, fine .few))) (sym (ap ofParameter (enters .there))) long)
+        (opens c (h .g) (h .nests) table before count top at (h .stands) (enters .opens) below-most)
+        (entered-kind nest ∙ sym (opens-kind (enters .opens))) long)
 
   -- it asks
   module _ (e : step ≡ Ask) where
@@ -248,9 +319,16 @@ module _ {p : Segment} {from : Control} {count top : ℕ} {table before : List �
     inner-dies {cells₁ = cells₁} {stack₁ = stack₁} inner q =
         inner-dead (subst (λ (x : Parsed). Ran (class + 1) (inside p at) (insideBy closing) (l .count) (l .top) cells stack x cells₁ stack₁) q inner)
 
-    module _ {r : Parsed} {n : ℕ} {cells₁ stack₁ : List ℕ} (inside-ran : Ran (class + 1) (inside p at) (insideBy closing) (l .count) (l .top) cells stack r cells₁ stack₁) (q : r ≡ Done n) where
-      inner : Ran (class + 1) (inside p at) (insideBy closing) (l .count) (l .top) cells stack (Done n) cells₁ stack₁
+    module _ {r : Parsed} {n : ℕ} {head : Bool} {cells₁ stack₁ : List ℕ} (inside-ran : Ran (class + 1) (inside p at) (insideBy closing) (l .count) (l .top) cells stack r cells₁ stack₁) (q : r ≡ Done n head)
+        (by : ℕ) (closes-by : closingBy by ≡ cond head (inFor (closingBy closing)) (closingBy closing)) where
+      inner : Ran (class + 1) (inside p at) (insideBy closing) (l .count) (l .top) cells stack (Done n head) cells₁ stack₁
       inner = subst (λ (x : Parsed). Ran (class + 1) (inside p at) (insideBy closing) (l .count) (l .top) cells stack x cells₁ stack₁) q inside-ran
+
+      spans-by : Spans (closingBy by) c (controlOf to)
+      spans-by = rw closes-by (spans-in head (pushes .spans))
+
+      plain-by : closingBy by ≡ toParameter → ran inner .value ≡ nil
+      plain-by e = ran inner .plain (parameter-inside closing (parameter-in head (closingBy closing) (sym closes-by ∙ e)))
 
       valued : Valued l n (ran inner .value) stack stack₁ cells cells₁
       valued = let t = ran inner in record { count-is = t .count-is; cells-are = t .cells-are; kept = t .kept }
@@ -269,11 +347,11 @@ module _ {p : Segment} {from : Control} {count top : ℕ} {table before : List �
       long₁ : length stack₁ ≡ length stack
       long₁ = ran inner .kept .same-length
 
-      pub may-close : MayClose closing (p .base + at) n l stack₁ cells₁
+      pub may-close : MayClose by (p .base + at) n l stack₁ cells₁
       may-close = record {
         from = c;
         to = controlOf to;
-        spans = pushes .spans;
+        spans = spans-by;
         stackBefore = stack;
         cellsBefore = cells;
         somewhere = somewhere;
@@ -284,12 +362,13 @@ module _ {p : Segment} {from : Control} {count top : ℕ} {table before : List �
         marked = omega (arith, fine .few);
       }
 
-      pub closed : {l′ : Level} {cells′ stack′ : List ℕ} → ClosesGroup closing (p .base + at) n l stack₁ cells₁ l′ stack′ cells′ → length stack′ ≡ length stack₁
+      pub closed : {l′ : Level} {cells′ stack′ : List ℕ} → ClosesGroup by (p .base + at) n l stack₁ cells₁ l′ stack′ cells′ → length stack′ ≡ length stack₁
           → Underway p from count top table before (controlOf to) l′ (at + sizeAt (p .cells) at) cells′ stack′
       closed closes long =
           runs.goes-behind fine h class (sym is) here (pushes .opens) (entry-at (pushes .entry)) (ran inner)
-          (closes c (controlOf to) (h .g) (h .nests) table before count top at (at + sizeAt (p .cells) at) (ran inner .value) stack cells
-          (h .stands) (pushes .spans) valued (λ q. ran inner .plain (parameter-inside closing q)) fewer few) (spans-kind (pushes .spans)) (long ∙ long₁)
+          (rw closes-by
+          at (closes c (controlOf to) (h .g) (h .nests) table before count top at (at + sizeAt (p .cells) at) (ran inner .value) stack cells (h .stands) spans-by valued plain-by fewer few))
+          (spans-kind (pushes .spans)) (long ∙ long₁)
 
 -- the inside of a group, as the code has it
 any-close : {text cells : List ℕ} {base close : ℕ} → Fine (segment text cells base close) → Fine (segment text cells base 0)
@@ -342,15 +421,18 @@ begins-inside closing e =
     (either (eqb closing 7) begins-statements
     (either (eqb closing 8) begins-items
     (either (eqb closing 9) begins-index
-    begins-expression))))))))
+    (either (eqb closing 12) begins-head
+    (either (eqb closing 13) begins-clauses
+    (either (eqb closing 14) begins-caught
+    begins-expression)))))))))))
 
-pub statements-start : {c : Control} (scope : ℕ) → c ≡ controlBy 0 0 scope false → c ≡ statementDue false (settingBy scope)
-unfolding controlBy
-statements-start scope e = e
+pub statements-start : {c : Control} (scope : ℕ) → scope ≤ 1 → c ≡ controlBy 0 0 scope false → c ≡ statementDue false (settingBy scope)
+unfolding controlBy mustBy
+statements-start scope small e = e ∙ rw (ne-eqb scope 2 (λ q. omega arith))
 
 pub begins-scope : {c : Control} (scope : ℕ) → scope ≤ 1 → c ≡ controlBy 0 0 scope false → Begins c
 unfolding settingBy
-begins-scope scope small e = as-begins (statements-start scope e) (go scope small)
+begins-scope scope small e = as-begins (statements-start scope small e) (go scope small)
   where
     go : (n : ℕ) → n ≤ 1 → Begins (statementDue false (settingBy n))
     go zero h = begins-statements

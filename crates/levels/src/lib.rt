@@ -44,9 +44,9 @@ fn level(
                 control = next;
                 at = at + 1;
             }
-            Step::Enter(next, setting) => {
-                l = groups::entered(s.level, setting, base + at, waiting, syntax);
-                control = next;
+            Step::Enter(nest, setting) => {
+                l = groups::entered(s.level, nest, setting, base + at, waiting, syntax);
+                control = controls::entered(nest);
                 at = at + 1;
             }
             Step::Ask => {
@@ -78,8 +78,9 @@ fn level(
                     Parsed::Bad(place) => {
                         return Parsed::Bad(place);
                     }
-                    Parsed::Done(n) => {
-                        l = groups::close(closing, base + at, n, s.level, waiting, syntax);
+                    Parsed::Done(n, within) => {
+                        let done = groups::closing_by(closing, within);
+                        l = groups::close(done, base + at, n, s.level, waiting, syntax);
                         control = behind;
                         at = at + segments::size_at(trees, at);
                     }

@@ -45,6 +45,23 @@ use Rattle.machine.specs.Tokens.{
   less,
   negation,
   question,
+  varWord,
+  elseWord,
+  doWord,
+  whileWord,
+  continueWord,
+  breakWord,
+  withWord,
+  throwWord,
+  debuggerWord,
+  inWord,
+  forWord,
+  switchWord,
+  caseWord,
+  defaultWord,
+  tryWord,
+  catchWord,
+  finallyWord,
 }
 use Rattle.machine.specs.Syntax.{Syntax, nil, syntaxRecords, programTree}
 use Rattle.machine.specs.Machinery.Classes.{isEnd}
@@ -53,7 +70,8 @@ use Rattle.machine.proofs.Ran.{isLive}
 
 -- The texts are spelled with a byte for a token: `P` is a regular expression, `S` a string, and `F`, `I` and `R` are the words
 -- `function`, `if` and `return`; `W` is a reserved word that is taken as a name; `T`, `N`, `V` and `O` are `this`, `new`, `void` and `instanceof`; `#` is
--- `++`, `~` is `+=`, `|` is `||` and `&` is `&&`. Every other letter is a name.
+-- `++`, `~` is `+=`, `|` is `||` and `&` is `&&`; `A`, `E`, `D`, `H`, `U`, `C`, `B`, `X` and `G` are `var`, `else`, `do`, `while`, `with`, `continue`,
+-- `break`, `throw` and `debugger`, and `J`, `K`, `L`, `M`, `Q`, `Y`, `Z` and `$` are `for`, `in`, `switch`, `case`, `default`, `try`, `catch` and `finally`. Every other letter is a name.
 data Spelling : Type 0 where
   spells : ℕ → ℕ → Spelling
 
@@ -92,6 +110,23 @@ spellings =
     ∷ spells (byte "<") less
     ∷ spells (byte "!") negation
     ∷ spells (byte "?") question
+    ∷ spells (byte "A") varWord
+    ∷ spells (byte "E") elseWord
+    ∷ spells (byte "D") doWord
+    ∷ spells (byte "H") whileWord
+    ∷ spells (byte "U") withWord
+    ∷ spells (byte "C") continueWord
+    ∷ spells (byte "B") breakWord
+    ∷ spells (byte "X") throwWord
+    ∷ spells (byte "G") debuggerWord
+    ∷ spells (byte "J") forWord
+    ∷ spells (byte "K") inWord
+    ∷ spells (byte "L") switchWord
+    ∷ spells (byte "M") caseWord
+    ∷ spells (byte "Q") defaultWord
+    ∷ spells (byte "Y") tryWord
+    ∷ spells (byte "Z") catchWord
+    ∷ spells (byte "$") finallyWord
     ∷ []
 
 abbrev spelledIn : List Spelling → ℕ → ℕ
@@ -187,7 +222,6 @@ table =
     ∷ refused 2 "a:"
     ∷ program "{a:b;}"
     ∷ refused 4 "{a:b}"
-    ∷ refused 0 ";"
     ∷ refused 0 "}"
     ∷ refused 1 "{"
     -- declarations stand in bodies alone
@@ -290,6 +324,90 @@ table =
     ∷ refused 1 "N-a;"
     ∷ refused 1 "N#a;"
     ∷ program "-N a(b)-c;"
+    -- document 02, U6: the empty statement, `while` and `with`, and `else`, which joins the nearest `if` that can take it
+    ∷ program ";;"
+    ∷ program "H(a)H(b);"
+    ∷ program "U(a) P;"
+    ∷ refused 1 "H"
+    ∷ refused 4 "H(a)"
+    ∷ refused 4 "H(a)/b;"
+    ∷ program "I(a);E;"
+    ∷ program "I(a)I(b);E;E;"
+    ∷ refused 13 "I(a)I(b);E;E;E;"
+    ∷ program "I(a)H(b)I(c);E;"
+    ∷ program "I(a)x:{}E I(b);E P;"
+    ∷ refused 0 "E;"
+    ∷ refused 5 "H(a);E;"
+    -- `do`
+    ∷ program "D;H(a);"
+    ∷ program "D I(a);E;H(b);"
+    ∷ program "D D;H(a);H(b);"
+    ∷ program "I(a)D;H(b);E;"
+    ∷ refused 6 "D;H(a)P;"
+    ∷ refused 2 "D;a;"
+    ∷ refused 6 "D H(a);"
+    ∷ program "D H(a);H(b);"
+    -- `throw`, `continue`, `break`, `debugger`
+    ∷ program "X a,{}/b;"
+    ∷ refused 1 "X;"
+    ∷ refused 1 "X\na;"
+    ∷ program "B;C;B a;C\n;"
+    ∷ refused 1 "B\na;"
+    ∷ refused 2 "C a b;"
+    ∷ program "G;"
+    ∷ refused 1 "G a;"
+    -- `var`
+    ∷ program "A a,b=c,d=e=f;"
+    ∷ program "I(a)A b={}/c;E;"
+    ∷ refused 1 "A;"
+    ∷ refused 2 "A a b;"
+    ∷ refused 3 "A a,;"
+    ∷ refused 2 "A a.b;"
+    ∷ refused 2 "A a~b;"
+    ∷ program "A a=b,c;"
+    -- `for`, with two `;` and with `in`, which is no operator at the top of its head
+    ∷ program "J(;;);"
+    ∷ program "J(a;b;c)J(;;);"
+    ∷ program "J(A a=b,c;;)d;"
+    ∷ program "J(a=b,c;d K e;f K g);"
+    ∷ program "J(a K b);"
+    ∷ program "J(N a.b[c] K d,e)I(f);E;"
+    ∷ program "J(A a K b);"
+    ∷ program "J(A a=b K c);"
+    ∷ program "J(a?b K c:d;;);"
+    ∷ refused 7 "J(a?b:c K d;;);"
+    ∷ program "J((a K b);;);"
+    ∷ program "J(a[b K c];;);"
+    ∷ program "J(F(){a K b;};;);"
+    ∷ refused 5 "J(a=b K c);"
+    ∷ refused 4 "J(a#K b);"
+    ∷ refused 6 "J(A a,b K c);"
+    ∷ refused 3 "J(a)b;"
+    ∷ refused 5 "J(a;b)c;"
+    ∷ refused 4 "J(a,K b);"
+    ∷ refused 4 "J(-a K b);"
+    ∷ program "x:J(a K b)J({}/c;;)P;"
+    -- `switch`, with one `default` at most
+    ∷ program "L(a){}"
+    ∷ program "L(a){M b:}"
+    ∷ program "L(a){M b?c:d:M{}:e;{}Q:f:B;M P:}"
+    ∷ refused 7 "L(a){Q:Q:}"
+    ∷ refused 5 "L(a){b;}"
+    ∷ refused 8 "L(a){M b:F f(){}}"
+    ∷ program "L(a){Q:L(b){Q:}}"
+    ∷ program "L(a){M b,c:H(d);}P;"
+    ∷ refused 6 "L(a){}E"
+    -- `try`
+    ∷ program "Y{}Z(a){}"
+    ∷ program "Y{}${}"
+    ∷ program "Y{}Z(a){}${}P;"
+    ∷ program "I(a)Y{}Z(b){}E;"
+    ∷ refused 3 "Y{}"
+    ∷ refused 6 "Y{}Z(a,b){}"
+    ∷ refused 5 "Y{}Z(){}"
+    ∷ refused 7 "Y{}Z(a);"
+    ∷ refused 6 "Y{}${}${}"
+    ∷ refused 6 "Y{}${}Z(a){}"
     -- records: kind, mark and size of each part
     ∷ parsed "" (20 ∷ 0 ∷ 1 ∷ [])
     ∷ parsed "a={b:P}/c;" (1 ∷ 0 ∷ 1 ∷ 4 ∷ 5 ∷ 1 ∷ 5 ∷ 2 ∷ 2 ∷ 1 ∷ 7 ∷ 1 ∷ 10 ∷ 6 ∷ 4 ∷ 12 ∷ 1 ∷ 6 ∷ 13 ∷ 8 ∷ 7 ∷ 20 ∷ 9 ∷ 8 ∷ [])
@@ -305,6 +423,14 @@ table =
     ∷ parsed "N N a(b);" (1 ∷ 2 ∷ 1 ∷ 1 ∷ 4 ∷ 1 ∷ 27 ∷ 1 ∷ 3 ∷ 28 ∷ 0 ∷ 4 ∷ 13 ∷ 5 ∷ 5 ∷ 20 ∷ 6 ∷ 6 ∷ [])
     ∷ parsed "N a(b)(c)#;" (1 ∷ 1 ∷ 1 ∷ 1 ∷ 3 ∷ 1 ∷ 27 ∷ 0 ∷ 3 ∷ 1 ∷ 5 ∷ 1 ∷ 9 ∷ 4 ∷ 5 ∷ 29 ∷ 6 ∷ 6 ∷ 13 ∷ 7 ∷ 7 ∷ 20 ∷ 8 ∷ 8 ∷ [])
     ∷ parsed "f(a,{b:c,W:1});" (1 ∷ 0 ∷ 1 ∷ 1 ∷ 2 ∷ 1 ∷ 1 ∷ 7 ∷ 1 ∷ 2 ∷ 11 ∷ 1 ∷ 5 ∷ 4 ∷ 3 ∷ 9 ∷ 1 ∷ 6 ∷ 13 ∷ 12 ∷ 7 ∷ 20 ∷ 13 ∷ 8 ∷ [])
+    ∷ parsed "I(a)I(b);E;" (1 ∷ 2 ∷ 1 ∷ 1 ∷ 5 ∷ 1 ∷ 76 ∷ 6 ∷ 1 ∷ 18 ∷ 3 ∷ 3 ∷ 76 ∷ 8 ∷ 1 ∷ 77 ∷ 7 ∷ 5 ∷ 18 ∷ 0 ∷ 7 ∷ 20 ∷ 9 ∷ 8 ∷ [])
+    ∷ parsed "x:D H(a)b;H(c);" (1 ∷ 5 ∷ 1 ∷ 1 ∷ 6 ∷ 1 ∷ 13 ∷ 7 ∷ 2 ∷ 79 ∷ 3 ∷ 4 ∷ 1 ∷ 10 ∷ 1 ∷ 78 ∷ 2 ∷ 6 ∷ 17 ∷ 0 ∷ 7 ∷ 20 ∷ 12 ∷ 8 ∷ [])
+    ∷ parsed "A a,b=1;U(c)B x;C;G;" (75 ∷ 1 ∷ 1 ∷ 2 ∷ 5 ∷ 1 ∷ 75 ∷ 3 ∷ 2 ∷ 74 ∷ 0 ∷ 4 ∷ 1 ∷ 9 ∷ 1 ∷ 85 ∷ 10 ∷ 1 ∷ 86 ∷ 7 ∷ 3 ∷ 82 ∷ 13 ∷ 1 ∷ 94 ∷ 15 ∷ 1 ∷ 20 ∷ 17 ∷ 10 ∷ [])
+    ∷ parsed "X-a;" (1 ∷ 2 ∷ 1 ∷ 37 ∷ 1 ∷ 2 ∷ 90 ∷ 0 ∷ 3 ∷ 20 ∷ 4 ∷ 4 ∷ [])
+    ∷ parsed "J(A a=b;;c)d;" (1 ∷ 5 ∷ 1 ∷ 75 ∷ 3 ∷ 2 ∷ 74 ∷ 2 ∷ 3 ∷ 1 ∷ 8 ∷ 1 ∷ 1 ∷ 9 ∷ 1 ∷ 13 ∷ 10 ∷ 2 ∷ 80 ∷ 0 ∷ 7 ∷ 20 ∷ 11 ∷ 8 ∷ [])
+    ∷ parsed "J(N a K b);" (1 ∷ 3 ∷ 1 ∷ 28 ∷ 2 ∷ 2 ∷ 1 ∷ 5 ∷ 1 ∷ 76 ∷ 6 ∷ 1 ∷ 81 ∷ 0 ∷ 5 ∷ 20 ∷ 7 ∷ 6 ∷ [])
+    ∷ parsed "L(a){M b:c;Q:;}" (1 ∷ 2 ∷ 1 ∷ 1 ∷ 5 ∷ 1 ∷ 1 ∷ 7 ∷ 1 ∷ 13 ∷ 8 ∷ 2 ∷ 88 ∷ 4 ∷ 4 ∷ 76 ∷ 11 ∷ 1 ∷ 89 ∷ 9 ∷ 2 ∷ 87 ∷ 0 ∷ 8 ∷ 20 ∷ 12 ∷ 9 ∷ [])
+    ∷ parsed "Y{;}Z(a){}${}" (76 ∷ 2 ∷ 1 ∷ 16 ∷ 1 ∷ 2 ∷ 16 ∷ 6 ∷ 1 ∷ 92 ∷ 3 ∷ 2 ∷ 16 ∷ 8 ∷ 1 ∷ 93 ∷ 7 ∷ 2 ∷ 91 ∷ 0 ∷ 7 ∷ 20 ∷ 9 ∷ 8 ∷ [])
     ∷ []
 
 -- those that are not as the table says

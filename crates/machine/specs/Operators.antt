@@ -1,10 +1,10 @@
--- ES5.1 chapter 11, as document 01 has it and document 02, U4, adds to it: operators and their precedences, by the table of words and signs.
+-- ES5.1 chapter 11, as document 01 has it and document 02, U4 and U6, adds to it: operators and their precedences, by the table of words and signs.
 use Prim.Native.Nat.{ℕ, zero, suc}
 use mathlib.Core.Bool.{Bool, true, false, cond}
 use mathlib.Core.List.{List, [], _∷_, _++_}
 use lib.Dec.{eqb, leb}
 use Rattle.vocabulary.specs.Vocabulary.{Row, words, signs, tokenClass, precedenceOf}
-use Rattle.machine.specs.Tokens.{plus, minus, increment, decrement, complement, negation, deleteWord, voidWord, typeofWord}
+use Rattle.machine.specs.Tokens.{plus, minus, increment, decrement, complement, negation, deleteWord, voidWord, typeofWord, inWord}
 use Rattle.machine.specs.Syntax.{positiveSyntax, negativeSyntax, incrementedSyntax, decrementedSyntax}
 
 -- an operator between two operands: its class, which is the kind of its part, and its precedence
@@ -51,6 +51,16 @@ assignmentOperators = classesWhere (eqb assignmentPrecedence) operators
 
 abbrev pub binaryOperators : List ℕ
 binaryOperators = classesWhere (leb leastBinary) operators
+
+-- a list but for one class
+abbrev pub without : ℕ → List ℕ → List ℕ
+without x [] = []
+without x (class ∷ rest) = cond (eqb class x) (without x rest) (class ∷ without x rest)
+
+-- 12.6, NoIn: before the first `;` or the `in` of the head of a `for`, `in` is no operator
+abbrev pub binaryOperatorsBy : Bool → List ℕ
+binaryOperatorsBy true = binaryOperators
+binaryOperatorsBy false = without inWord binaryOperators
 
 -- 11.4: the operators before one operand, and the kinds of their parts
 abbrev pub prefixOperators : List ℕ

@@ -3,8 +3,8 @@
 use Prim.Native.Nat.{ℕ, _+_}
 use mathlib.Core.List.{List, [], _∷_, _++_, List·Memᴰ}
 
--- "Kinds with marks". 1 name, 2 number, 3 string, 4 regular expression, 10 divide, 11 plus, 12 assign and, of document 02, U4, most of those of the value
--- words and of operators are the classes of the tokens that mark them (TokenClasses.antt of `vocabulary`), and the others are named below; their marks stand at their steps (Grammar.antt), that of 20 at `programTree`
+-- "Kinds with marks". 1 name, 2 number, 3 string, 4 regular expression, 10 divide, 11 plus, 12 assign and, of document 02, U4 and U6, most of those of value
+-- words, operators and words of statements are the classes of the tokens that mark them (TokenClasses.antt of `vocabulary`), and the others are named below; their marks stand at their steps (Grammar.antt), that of 20 at `programTree`
 abbrev pub objectSyntax : ℕ
 objectSyntax = 5
 
@@ -67,6 +67,23 @@ positiveSyntax = 36
 
 abbrev pub negativeSyntax : ℕ
 negativeSyntax = 37
+
+-- Document 02, U6, likewise: a variable and an empty statement, `for` with `in`, and `continue` and `break` without a label; the others of 74 to 94 are the
+-- classes of the words that mark them
+abbrev pub variableSyntax : ℕ
+variableSyntax = 75
+
+abbrev pub emptySyntax : ℕ
+emptySyntax = 76
+
+abbrev pub forInSyntax : ℕ
+forInSyntax = 81
+
+abbrev pub bareContinueSyntax : ℕ
+bareContinueSyntax = 82
+
+abbrev pub bareBreakSyntax : ℕ
+bareBreakSyntax = 84
 
 -- "The syntax tree": nothing; a part with its kind, its mark and what is in it, in at most two pieces; or one after the other
 pub data Syntax : Type 0 where

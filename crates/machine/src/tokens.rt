@@ -105,6 +105,38 @@ pub const OR_ASSIGN: u32 = 72;
 
 pub const COMMA: u32 = 73;
 
+pub const VAR: u32 = 74;
+
+pub const ELSE: u32 = 77;
+
+pub const DO: u32 = 78;
+
+pub const WHILE: u32 = 79;
+
+pub const FOR: u32 = 80;
+
+pub const CONTINUE: u32 = 83;
+
+pub const BREAK: u32 = 85;
+
+pub const WITH: u32 = 86;
+
+pub const SWITCH: u32 = 87;
+
+pub const CASE: u32 = 88;
+
+pub const DEFAULT: u32 = 89;
+
+pub const THROW: u32 = 90;
+
+pub const TRY: u32 = 91;
+
+pub const CATCH: u32 = 92;
+
+pub const FINALLY: u32 = 93;
+
+pub const DEBUGGER: u32 = 94;
+
 pub const END_OF_TEXT: u32 = 128;
 
 pub const COLON: u32 = 129;

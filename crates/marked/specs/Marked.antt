@@ -1,4 +1,4 @@
--- Document 01, Readings: those marked (M), as one table, with the two of document 02, U1, six with lists (U2) and twelve with operators and numbers (U4). Each has its text, and what reading, parsing and
+-- Document 01, Readings: those marked (M), as one table, with the two of document 02, U1, six with lists (U2), twelve with operators and numbers (U4) and fourteen with statements (U6). Each has its text, and what reading, parsing and
 -- respacing give.
 use Prim.Native.Nat.{ℕ}
 use Prim.Native.String.{String}
@@ -173,4 +173,46 @@ readings =
     marked "1e+3in" (gets 6 0)
     (gets 6 0)
     (gets 6 0) ∷
+    marked "while" (hasTrees (tree 2 0 5 1 0 ∷ []))
+    (gets 13 5)
+    (writes "while\n") ∷
+    marked "while(a)/b/;" (hasTrees (tree 2 0 5 1 0 ∷ tree 7 5 8 2 0 ∷ tree 1 6 7 1 0 ∷ tree 5 8 11 1 0 ∷ tree 6 11 12 1 0 ∷ []))
+    (hasParts (part 1 2 1 ∷ part 4 3 1 ∷ part 13 4 2 ∷ part 79 0 4 ∷ part 20 5 5 ∷ []))
+    (writes "while ( a ) /b/ ;\n") ∷
+    marked "do;while(a)/b/;" (hasTrees (tree 2 0 2 1 0 ∷ tree 6 2 3 1 0 ∷ tree 2 3 8 1 0 ∷ tree 7 8 11 2 0 ∷ tree 1 9 10 1 0 ∷ tree 5 11 14 1 0 ∷ tree 6 14 15 1 0 ∷ []))
+    (gets 13 11)
+    (writes "do ; while ( a ) /b/ ;\n") ∷
+    marked "if(a)if(b);else;" (hasTrees (tree 2 0 2 1 0 ∷ tree 7 2 5 2 0 ∷ tree 1 3 4 1 0 ∷ tree 2 5 7 1 0 ∷ tree 7 7 10 2 0 ∷ tree 1 8 9 1 0 ∷ tree 6 10 11 1 0 ∷ tree 2 11 15 1 0 ∷ tree 6 15 16 1 0 ∷ []))
+    (hasParts (part 1 2 1 ∷ part 1 5 1 ∷ part 76 6 1 ∷ part 18 3 3 ∷ part 76 8 1 ∷ part 77 7 5 ∷ part 18 0 7 ∷ part 20 9 8 ∷ []))
+    (writes "if ( a ) if ( b ) ; else ;\n") ∷
+    marked "throw{}/a/b;" (hasTrees (tree 2 0 5 1 0 ∷ tree 8 5 7 1 0 ∷ tree 6 7 8 1 0 ∷ tree 1 8 9 1 0 ∷ tree 6 9 10 1 0 ∷ tree 1 10 11 1 0 ∷ tree 6 11 12 1 0 ∷ []))
+    (hasParts (part 5 1 1 ∷ part 1 3 1 ∷ part 10 2 3 ∷ part 1 5 1 ∷ part 10 4 5 ∷ part 90 0 6 ∷ part 20 7 7 ∷ []))
+    (writes "throw { } / a / b ;\n") ∷
+    marked "throw\n{}/a/;" (hasTrees (tree 2 0 5 1 0 ∷ tree 9 6 8 1 1 ∷ tree 5 8 11 1 0 ∷ tree 6 11 12 1 0 ∷ []))
+    (gets 13 6)
+    (writes "throw\n{ } /a/ ;\n") ∷
+    marked "case\n{}/a/b" (hasTrees (tree 2 0 4 1 0 ∷ tree 8 5 7 1 1 ∷ tree 6 7 8 1 0 ∷ tree 1 8 9 1 0 ∷ tree 6 9 10 1 0 ∷ tree 1 10 11 1 0 ∷ []))
+    (gets 13 0)
+    (writes "case\n{ } / a / b\n") ∷
+    marked "(a;{}/b/c);" (hasTrees (tree 7 0 10 8 0 ∷ tree 1 1 2 1 0 ∷ tree 6 2 3 1 0 ∷ tree 8 3 5 1 0 ∷ tree 6 5 6 1 0 ∷ tree 1 6 7 1 0 ∷ tree 6 7 8 1 0 ∷ tree 1 8 9 1 0 ∷ tree 6 10 11 1 0 ∷ []))
+    (gets 13 2)
+    (writes "( a ; { } / b / c ) ;\n") ∷
+    marked "var a,b={}/c;" (hasTrees (tree 2 0 3 1 0 ∷ tree 1 4 5 1 0 ∷ tree 6 5 6 1 0 ∷ tree 1 6 7 1 0 ∷ tree 6 7 8 1 0 ∷ tree 8 8 10 1 0 ∷ tree 6 10 11 1 0 ∷ tree 1 11 12 1 0 ∷ tree 6 12 13 1 0 ∷ []))
+    (hasParts (part 75 1 1 ∷ part 5 5 1 ∷ part 1 7 1 ∷ part 10 6 3 ∷ part 75 3 4 ∷ part 74 0 6 ∷ part 20 9 7 ∷ []))
+    (writes "var a , b = { } / c ;\n") ∷
+    marked "break\na;" (hasTrees (tree 2 0 5 1 0 ∷ tree 1 6 7 1 1 ∷ tree 6 7 8 1 0 ∷ []))
+    (gets 13 6)
+    (writes "break\na ;\n") ∷
+    marked "for(;{}/a;)/b/;" (hasTrees (tree 2 0 3 1 0 ∷ tree 7 3 11 6 0 ∷ tree 6 4 5 1 0 ∷ tree 8 5 7 1 0 ∷ tree 6 7 8 1 0 ∷ tree 1 8 9 1 0 ∷ tree 6 9 10 1 0 ∷ tree 5 11 14 1 0 ∷ tree 6 14 15 1 0 ∷ []))
+    (hasParts (part 5 3 1 ∷ part 1 5 1 ∷ part 10 4 3 ∷ part 4 7 1 ∷ part 13 8 2 ∷ part 80 0 6 ∷ part 20 9 7 ∷ []))
+    (writes "for ( ; { } / a ; ) /b/ ;\n") ∷
+    marked "for(a?b:c in d;;);" (hasTrees (tree 2 0 3 1 0 ∷ tree 7 3 17 10 0 ∷ tree 1 4 5 1 0 ∷ tree 6 5 6 1 0 ∷ tree 1 6 7 1 0 ∷ tree 13 7 8 1 0 ∷ tree 1 8 9 1 0 ∷ tree 2 10 12 1 0 ∷ tree 1 13 14 1 0 ∷ tree 6 14 15 1 0 ∷ tree 6 15 16 1 0 ∷ tree 6 17 18 1 0 ∷ []))
+    (gets 13 10)
+    (writes "for ( a ? b : c in d ; ; ) ;\n") ∷
+    marked "switch(a){case\n{}/b:{}/c/;}" (hasTrees (tree 2 0 6 1 0 ∷ tree 7 6 9 2 0 ∷ tree 1 7 8 1 0 ∷ tree 9 9 27 9 0 ∷ tree 2 10 14 1 0 ∷ tree 8 15 17 1 1 ∷ tree 6 17 18 1 0 ∷ tree 1 18 19 1 0 ∷ tree 6 19 20 1 0 ∷ tree 9 20 22 1 0 ∷ tree 5 22 25 1 0 ∷ tree 6 25 26 1 0 ∷ []))
+    (hasParts (part 1 2 1 ∷ part 5 5 1 ∷ part 1 7 1 ∷ part 10 6 3 ∷ part 16 9 1 ∷ part 4 10 1 ∷ part 13 11 2 ∷ part 88 4 7 ∷ part 87 0 9 ∷ part 20 12 10 ∷ []))
+    (writes "switch ( a ) { case\n{ } / b : { } /c/ ; }\n") ∷
+    marked "try{}catch(a){}/b/;" (hasTrees (tree 2 0 3 1 0 ∷ tree 9 3 5 1 0 ∷ tree 2 5 10 1 0 ∷ tree 7 10 13 2 0 ∷ tree 1 11 12 1 0 ∷ tree 9 13 15 1 0 ∷ tree 5 15 18 1 0 ∷ tree 6 18 19 1 0 ∷ []))
+    (hasParts (part 16 1 1 ∷ part 16 5 1 ∷ part 92 2 2 ∷ part 91 0 4 ∷ part 4 6 1 ∷ part 13 7 2 ∷ part 20 8 7 ∷ []))
+    (writes "try { } catch ( a ) { } /b/ ;\n") ∷
     []

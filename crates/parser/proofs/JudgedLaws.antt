@@ -1,5 +1,6 @@
 -- The whole table: what `program` answers by its statements.
 use mathlib.Core.Path.{_≡_, ap, subst, _∙_}
+use mathlib.Core.Bool.{Bool}
 use mathlib.Core.List.{List, []}
 use Prim.Native.Nat.{ℕ, _+_, _-_, _≤_, _<_}
 use native.Mathlib.Omega.{arith}
@@ -24,7 +25,7 @@ module _ {p : Segment} {table stack middle stack′ : List ℕ} where
   unfolding settingBy
   bad (ran-dead dies) = dies [] 0 []
 
-  done : {n : ℕ} → RanStatements 0 endOfText p 0 0 table stack (Done n) middle stack′ → (parts : Syntax) × Built p parts × (n ≡ size parts) × (middle ≡ putSyntax table 0 parts)
+  done : {n : ℕ} {within : Bool} → RanStatements 0 endOfText p 0 0 table stack (Done n within) middle stack′ → (parts : Syntax) × Built p parts × (n ≡ size parts) × (middle ≡ putSyntax table 0 parts)
   unfolding settingBy
   done (ran-through t) =
       (t .value, record { ends = t .runs [] 0 []; few = omega (arith, t .count-is, t .passes) }, omega (arith, t .count-is), t .cells-are)
@@ -36,7 +37,7 @@ module _ {p : Segment} {table stack middle stack′ : List ℕ} {r : Parsed} (ra
   pub judge-bad : {place : ℕ} {after : List ℕ} → r ≡ Bad place → Judged p table (Answer.Refused noProgram place) after
   judge-bad e = judged-bad (bad (ran-as e))
 
-  module _ {n : ℕ} (e : r ≡ Done n) where
+  module _ {n : ℕ} {within : Bool} (e : r ≡ Done n within) where
     parts : Syntax
     parts = done (ran-as e) .0
 

@@ -36,7 +36,7 @@ fn program(text: &[u8], trees: &[u32], waiting: &mut [u16], syntax: &mut [u32]) 
     );
     match body {
         Parsed::Bad(place) => Answer::Refused(NO_PROGRAM, place),
-        Parsed::Done(n) => {
+        Parsed::Done(n, _) => {
             let all = records::put(syntax, n, records::PROGRAM, number, 0);
             if tables::syntax_room(syntax.len()) < all {
                 return Answer::Refused(SYNTAX_FULL, text.len());

@@ -1,46 +1,77 @@
 // The token machine's table as code: what a token of a class does where the machine stands. Rows are named after those of
 // machine/specs/Machinery/Machine.antt, so that the two can be laid side by side.
 ghost use mathlib.Core.Path.{_≡_};
-ghost use mathlib.Core.Bool.{Bool};
-ghost use Prim.Native.Nat.{_≤_};
-ghost use Rattle.machine.specs.Tokens.{semicolon, comma, colon, functionWord};
-ghost use Rattle.machine.specs.Machinery.Machine.{behindStatement, statementDue, returnFirst, operandDone, look, noStatement, endingRow, afterUnary, assignmentRow, postfixRow, afterOperand, row};
-ghost use Rattle.controls.specs.Machinery.Numbers.{settingBy, endingBy, controlOf};
-ghost use Rattle.controls.specs.Machinery.Steps.{Ended, Goes, Means, Settled};
-use controls::BLOCK;
+ghost use mathlib.Core.Bool.{Bool, true, false, not, cond, _&&_};
+ghost use mathlib.Core.List.{[], _∷_};
+ghost use lib.Dec.{T, eqb, ltb, leb};
+ghost use Prim.Native.Nat.{ℕ, _≤_, _<_};
+ghost use Rattle.machine.specs.Tokens.{inWord, semicolon, comma, colon, varWord, debuggerWord, functionWord};
+ghost use Rattle.machine.specs.Operators.{assignmentOperators, postfixOperators, isAmong};
+ghost use Rattle.machine.specs.Machinery.Machine.{noTarget, someTarget, behindVariables, laterVariables, behindStatement, statementDue, jumpFirst, variableDue, variableNamed, operandDue, operandDone, postfixDone, byObject, endValue, on, goto, wordRow, look, noStatement, endingRow, afterUnary, afterOperand, row};
+ghost use Rattle.controls.specs.Machinery.Numbers.{settingBy, variablesBy, endingBy, targetBy, mustBy, controlBy, controlOf};
+ghost use Rattle.controls.specs.Machinery.Steps.{Ended, Leads, Goes, Means, Settled};
 use controls::BODY;
 use controls::BY_ARGUMENT;
+use controls::BY_CASE;
 use controls::BY_COLON;
+use controls::BY_FIRST_VARIABLE;
+use controls::BY_LAST_CASE;
+use controls::BY_LATER_VARIABLE;
+use controls::BY_LONE_START;
+use controls::BY_OBJECT;
 use controls::BY_RETURN;
+use controls::BY_START;
 use controls::BY_STATEMENT;
+use controls::BY_STEP;
+use controls::BY_TEST;
+use controls::BY_VARIABLE;
+use controls::CLAUSE;
+use controls::CLAUSE_STATEMENT;
 use controls::Control;
 use controls::DECLARED_FIRST;
+use controls::DO_NEST;
 use controls::DOT_LAST;
-use controls::END_BARE_RETURN;
+use controls::END_BARE;
+use controls::END_EMPTY;
 use controls::END_EXPRESSION;
 use controls::END_VALUE;
+use controls::END_VARIABLE;
+use controls::FOR_FIRST;
+use controls::HEAD_FIRST;
 use controls::HOLD_NAME;
 use controls::HOLD_WORD;
-use controls::IF_FIRST;
-use controls::IF_NEST;
 use controls::ITEM_DUE;
+use controls::JUMP_FIRST;
 use controls::KEEP;
 use controls::NAME_FIRST;
+use controls::OF_CLAUSE;
+use controls::OF_DO;
+use controls::OF_IF;
+use controls::OF_LAST_CLAUSE;
+use controls::OF_TRY;
 use controls::OPERAND_DONE;
 use controls::OPERAND_DUE;
 use controls::POSTFIX_DONE;
 use controls::RETURN_FIRST;
-use controls::START_RETURN;
+use controls::SEMICOLON_DUE;
+use controls::START_DUE;
+use controls::START_STATEMENT;
 use controls::STATEMENT_DUE;
+use controls::STEP_DUE;
+use controls::SWITCH_FIRST;
 use controls::Step;
 use controls::TAKE_OPERATOR;
 use controls::TAKE_POSTFIX;
+use controls::TEST_DUE;
+use controls::THROW_FIRST;
 use controls::TO_BLOCK;
 use controls::TO_CALL;
 use controls::TO_INDEX;
+use controls::VARIABLE_DUE;
+use controls::VARIABLE_NAMED;
 use controls::behind_statement;
 use controls::bindings;
-use controls::stand;
+use controls::past_start;
 use forms::form_row;
 use forms::goto;
 use forms::operand_row;
@@ -56,12 +87,59 @@ fn end_statement(setting: u32, effect: u32) -> Step
 
 // The number of a setting that a nest keeps: one past the last stands for the last.
 fn setting_number(setting: u32) -> u32
-    ensures { λ r. ⌜ (r ≤ 2) × (settingBy r ≡ settingBy setting) ⌝ }
+    ensures { λ r. ⌜ (r ≤ 5) × (settingBy r ≡ settingBy setting) ⌝ }
 {
-    if setting <= BLOCK {
+    if setting < DO_NEST {
         return setting;
     }
-    IF_NEST
+    DO_NEST
+}
+
+// Behind an operator between two operands one is due that may not be assigned to.
+fn behind_operator(ending: u32, setting: u32) -> Step
+    ensures { λ r. ⌜ Goes r (operandDue (endingBy ending setting) noTarget) 3 ⌝ }
+{
+    goto(OPERAND_DUE, ending, setting, false, TAKE_OPERATOR)
+}
+
+// Behind an assignment or a `,` one is due that may, but it is not all of the start of a `for`'s head.
+fn behind_assignment(ending: u32, setting: u32) -> Step
+    ensures { λ r. ⌜ Goes r (operandDue (endingBy ending setting) someTarget) 3 ⌝ }
+{
+    goto(
+        OPERAND_DUE,
+        past_start(ending),
+        setting,
+        true,
+        TAKE_OPERATOR,
+    )
+}
+
+// `;` behind the last of variables.
+fn variables_end(ending: u32, setting: u32) -> Step
+    ensures { λ r. ⌜ (2 ≤ ending → ending ≤ 4 → Goes r (behindVariables (variablesBy ending setting)) 9) ⌝ }
+{
+    if ending == BY_VARIABLE {
+        return end_statement(setting, END_VALUE);
+    }
+    goto(TEST_DUE, BY_TEST, BODY, true, END_VALUE)
+}
+
+// Behind the `,` of a variable a later one is due.
+fn next_variable(ending: u32, setting: u32) -> Step
+    ensures { λ r. ⌜ Goes r (variableDue (laterVariables (variablesBy ending setting))) 14 ⌝ }
+{
+    if ending == BY_FIRST_VARIABLE {
+        return goto(VARIABLE_DUE, BY_LATER_VARIABLE, setting, true, END_VARIABLE);
+    }
+    goto(VARIABLE_DUE, ending, setting, true, END_VARIABLE)
+}
+
+// The `in` of a `for`.
+fn in_row() -> Step
+    ensures { λ r. ⌜ Goes r (operandDue byObject someTarget) 9 ⌝ }
+{
+    goto(OPERAND_DUE, BY_OBJECT, BODY, true, END_VALUE)
 }
 
 // `;` behind an expression.
@@ -74,11 +152,20 @@ fn semicolon_row(ending: u32, setting: u32) -> Step
     if ending == BY_RETURN {
         return end_statement(setting, END_VALUE);
     }
+    if ending <= BY_LATER_VARIABLE {
+        return variables_end(ending, setting);
+    }
+    if ending <= BY_START {
+        return goto(TEST_DUE, BY_TEST, BODY, true, END_VALUE);
+    }
+    if ending == BY_TEST {
+        return goto(STEP_DUE, BY_STEP, BODY, true, END_VALUE);
+    }
     Step::Fail
 }
 
-// `,` behind an expression: an item of a list ends, and behind an argument another must come; elsewhere it is an operator, but not in
-// the middle of a conditional.
+// `,` behind an expression: an item of a list or a variable ends, and behind an argument another must come; elsewhere it is an operator,
+// but not in the middle of a conditional.
 fn comma_row(ending: u32, setting: u32) -> Step
     ensures { λ r. ⌜ ((from : Rattle.machine.specs.Machinery.Machine.Control) → Ended from (endingBy ending setting) → Means from comma r (look comma (endingRow (endingBy ending setting)))) ⌝ }
 {
@@ -91,70 +178,131 @@ fn comma_row(ending: u32, setting: u32) -> Step
     if ending == BY_COLON {
         return Step::Fail;
     }
-    goto(OPERAND_DUE, ending, setting, true, TAKE_OPERATOR)
+    if ending <= BY_RETURN {
+        return behind_assignment(ending, setting);
+    }
+    if ending <= BY_LATER_VARIABLE {
+        return next_variable(ending, setting);
+    }
+    behind_assignment(ending, setting)
 }
 
-// `:` behind an expression: it answers a `?`.
+// `:` behind an expression: it answers a `?`, or the statements of a `case` follow.
 fn colon_row(ending: u32, setting: u32) -> Step
     ensures { λ r. ⌜ ((from : Rattle.machine.specs.Machinery.Machine.Control) → Ended from (endingBy ending setting) → Means from colon r (look colon (endingRow (endingBy ending setting)))) ⌝ }
 {
     if ending == BY_COLON {
         return Step::Turn;
     }
+    if ending == BY_CASE {
+        return Step::Enter(OF_CLAUSE, BODY);
+    }
+    if ending == BY_LAST_CASE {
+        return Step::Enter(OF_LAST_CLAUSE, BODY);
+    }
     Step::Fail
 }
 
-// Behind a whole Unary.
-fn unary_row(class: u32, ending: u32, setting: u32) -> Step
-    ensures { λ r. ⌜ ((from : Rattle.machine.specs.Machinery.Machine.Control) → Ended from (endingBy ending setting) → Means from class r (look class (afterUnary (endingBy ending setting)))) ⌝ }
+// `in` behind an expression: an operator, but not before the first `;` of a `for`'s head, where it may stand behind one variable.
+fn in_operator_row(ending: u32, setting: u32) -> Step
+    ensures { λ r. ⌜ ((from : Rattle.machine.specs.Machinery.Machine.Control) → Ended from (endingBy ending setting) → Means from inWord r (look inWord (afterUnary (endingBy ending setting)))) ⌝ }
 {
-    if class == tokens::SEMICOLON {
-        return semicolon_row(ending, setting);
+    if BY_START < ending {
+        return behind_operator(ending, setting);
     }
-    if class == tokens::COMMA {
-        return comma_row(ending, setting);
+    if ending <= BY_VARIABLE {
+        return behind_operator(ending, setting);
+    }
+    if ending == BY_FIRST_VARIABLE {
+        return in_row();
+    }
+    Step::Fail
+}
+
+// Behind a whole Unary, an operator or `?`.
+fn binary_row(class: u32, ending: u32, setting: u32) -> Step
+    ensures { λ r. ⌜ (class < comma → (from : Rattle.machine.specs.Machinery.Machine.Control) → Ended from (endingBy ending setting) → Means from class r (look class (afterUnary (endingBy ending setting)))) ⌝ }
+{
+    if class == tokens::IN {
+        return in_operator_row(ending, setting);
     }
     if bindings::is_binary(class) {
-        return goto(OPERAND_DUE, ending, setting, false, TAKE_OPERATOR);
+        return behind_operator(ending, setting);
     }
     if class == tokens::QUESTION {
         return Step::Ask;
     }
-    if class == tokens::COLON {
-        return colon_row(ending, setting);
-    }
     Step::Fail
 }
 
-// `++` and `--` want no line end before them.
-fn postfix_row(class: u32, ending: u32, setting: u32, newline: bool) -> Step
-    ensures { λ r. ⌜ ((target : Bool) → Means (operandDone (endingBy ending setting) target) class r (look class (postfixRow (endingBy ending setting) newline (afterUnary (endingBy ending setting))))) ⌝ }
+// A chain that may be assigned to takes an assignment.
+fn takes_assignment(class: u32, target: bool, chain: bool) -> bool
+    ensures { λ r. ⌜ r ≡ (chain && (target && isAmong assignmentOperators class)) ⌝ }
 {
-    if newline {
-        return unary_row(class, ending, setting);
+    if !chain {
+        return false;
     }
-    if bindings::is_postfix(class) {
+    if !target {
+        return false;
+    }
+    bindings::is_assignment(class)
+}
+
+// One that is all there is so far may stand before the `in` of a `for`.
+fn takes_in(class: u32, ending: u32, target: bool, chain: bool) -> bool
+    ensures { λ r. ⌜ r ≡ (chain && (target && (eqb class inWord && eqb ending 5))) ⌝ }
+{
+    if !chain {
+        return false;
+    }
+    if !target {
+        return false;
+    }
+    if class != tokens::IN {
+        return false;
+    }
+    ending == BY_LONE_START
+}
+
+// `++` and `--` want no line end before them.
+fn takes_postfix(class: u32, newline: bool, chain: bool) -> bool
+    ensures { λ r. ⌜ r ≡ (chain && (not newline && isAmong postfixOperators class)) ⌝ }
+{
+    if !chain {
+        return false;
+    }
+    if newline {
+        return false;
+    }
+    bindings::is_postfix(class)
+}
+
+// Operators behind an operand.
+fn operation_row(
+    class: u32,
+    ending: u32,
+    setting: u32,
+    target: bool,
+    newline: bool,
+    chain: bool,
+) -> Step
+    ensures { λ r. ⌜ (class < comma → Means (cond chain (operandDone (endingBy ending setting) (targetBy ending target)) (postfixDone (endingBy ending setting))) class r (look class (row (cond chain (operandDone (endingBy ending setting) (targetBy ending target)) (postfixDone (endingBy ending setting))) newline))) ⌝ }
+{
+    if takes_assignment(class, target, chain) {
+        return behind_assignment(ending, setting);
+    }
+    if takes_in(class, ending, target, chain) {
+        return in_row();
+    }
+    if takes_postfix(class, newline, chain) {
         return goto(POSTFIX_DONE, ending, setting, true, TAKE_POSTFIX);
     }
-    unary_row(class, ending, setting)
+    binary_row(class, ending, setting)
 }
 
-// What a chain that may be assigned to takes besides.
-fn assignment_row(class: u32, ending: u32, setting: u32, target: bool, newline: bool) -> Step
-    ensures { λ r. ⌜ Means (operandDone (endingBy ending setting) target) class r (look class (assignmentRow (endingBy ending setting) target (postfixRow (endingBy ending setting) newline (afterUnary (endingBy ending setting))))) ⌝ }
-{
-    if !target {
-        return postfix_row(class, ending, setting, newline);
-    }
-    if bindings::is_assignment(class) {
-        return goto(OPERAND_DUE, ending, setting, true, TAKE_OPERATOR);
-    }
-    postfix_row(class, ending, setting, newline)
-}
-
-// Behind an operand.
-fn operator_row(class: u32, ending: u32, setting: u32, target: bool, newline: bool) -> Step
-    ensures { λ r. ⌜ Means (operandDone (endingBy ending setting) target) class r (look class (afterOperand (endingBy ending setting) target newline)) ⌝ }
+// What makes a chain longer.
+fn link_row(class: u32, ending: u32, setting: u32, target: bool) -> Step
+    ensures { λ r. ⌜ (comma < class → (class ≡ semicolon → ⊥) → (class ≡ colon → ⊥) → (newline : Bool) → Means (operandDone (endingBy ending setting) (targetBy ending target)) class r (look class (afterOperand (endingBy ending setting) (targetBy ending target) newline))) ⌝ }
 {
     if class == tokens::DOT {
         return goto(DOT_LAST, ending, setting, target, KEEP);
@@ -162,19 +310,53 @@ fn operator_row(class: u32, ending: u32, setting: u32, target: bool, newline: bo
     if class == tokens::OPEN_PAREN {
         return push(OPERAND_DONE, ending, setting, target, TO_CALL);
     }
-    // No assignment, `++` or `--` has a class from that of `,` on.
-    if class < tokens::COMMA {
-        return assignment_row(class, ending, setting, target, newline);
-    }
     if class == tokens::OPEN_BRACKET {
         return push(OPERAND_DONE, ending, setting, target, TO_INDEX);
     }
-    unary_row(class, ending, setting)
+    Step::Fail
+}
+
+// `,` and the signs behind an operand.
+fn sign_row(class: u32, ending: u32, setting: u32, target: bool, chain: bool) -> Step
+    ensures { λ r. ⌜ (comma ≤ class → (newline : Bool) → Means (cond chain (operandDone (endingBy ending setting) (targetBy ending target)) (postfixDone (endingBy ending setting))) class r (look class (row (cond chain (operandDone (endingBy ending setting) (targetBy ending target)) (postfixDone (endingBy ending setting))) newline))) ⌝ }
+{
+    if class == tokens::SEMICOLON {
+        return semicolon_row(ending, setting);
+    }
+    if class == tokens::COMMA {
+        return comma_row(ending, setting);
+    }
+    if class == tokens::COLON {
+        return colon_row(ending, setting);
+    }
+    if !chain {
+        return Step::Fail;
+    }
+    link_row(class, ending, setting, target)
+}
+
+// Behind an operand: a chain, or behind `++` or `--` a Unary that is none. Both are one row, so that each row beneath has one call: the
+// compiler sets in what has one, and a step that is handed over through memory is slow.
+fn operator_row(
+    class: u32,
+    ending: u32,
+    setting: u32,
+    target: bool,
+    newline: bool,
+    chain: bool,
+) -> Step
+    ensures { λ r. ⌜ Means (cond chain (operandDone (endingBy ending setting) (targetBy ending target)) (postfixDone (endingBy ending setting))) class r (look class (row (cond chain (operandDone (endingBy ending setting) (targetBy ending target)) (postfixDone (endingBy ending setting))) newline)) ⌝ }
+{
+    // No operator has a class from that of `,` on, but `,` itself.
+    if class < tokens::COMMA {
+        return operation_row(class, ending, setting, target, newline, chain);
+    }
+    sign_row(class, ending, setting, target, chain)
 }
 
 // `function` where a statement is due: a declaration, in a body where none must come.
 fn declaration_row(setting: u32, must: bool) -> Step
-    ensures { λ r. ⌜ Means (statementDue must (settingBy setting)) functionWord r (look functionWord (noStatement must (settingBy setting))) ⌝ }
+    ensures { λ r. ⌜ ((must′ : Bool) → look functionWord (noStatement must′ (settingBy setting)) ≡ look functionWord (noStatement (mustBy must setting) (settingBy setting)) → Means (statementDue must′ (settingBy setting)) functionWord r (look functionWord (noStatement must′ (settingBy setting)))) ⌝ }
 {
     if must {
         return Step::Fail;
@@ -185,19 +367,31 @@ fn declaration_row(setting: u32, must: bool) -> Step
     Step::Fail
 }
 
-// Where a statement is due.
+// The words of statements follow the operators, but for `if`, `return` and `function`, which stand among the signs.
+fn is_statement_word(class: u32) -> bool
+    ensures { λ r. ⌜ r ≡ (ltb comma class && leb class debuggerWord) ⌝ }
+{
+    if class <= tokens::COMMA {
+        return false;
+    }
+    class <= tokens::DEBUGGER
+}
+
+// Where a statement is due, or another may come and no token ends the statements there.
 fn statement_row(class: u32, setting: u32, must: bool) -> Step
-    ensures { λ r. ⌜ ((newline : Bool) → Means (statementDue must (settingBy setting)) class r (look class (row (statementDue must (settingBy setting)) newline))) ⌝ }
+    ensures { λ r. ⌜ ((must′ newline : Bool) → look class (noStatement must′ (settingBy setting)) ≡ look class (noStatement (mustBy must setting) (settingBy setting)) → Means (statementDue must′ (settingBy setting)) class r (look class (row (statementDue must′ (settingBy setting)) newline))) ⌝ }
 {
     if class == tokens::NAME {
         return goto(NAME_FIRST, BY_STATEMENT, setting, true, HOLD_NAME);
     }
+    if is_statement_word(class) {
+        return word_row(class, setting);
+    }
     if class == tokens::IF {
-        let around = setting_number(setting);
-        return Step::Enter(stand(IF_FIRST, BY_STATEMENT, IF_NEST, true), around);
+        return Step::Enter(OF_IF, setting_number(setting));
     }
     if class == tokens::RETURN {
-        return goto(RETURN_FIRST, BY_RETURN, setting, true, START_RETURN);
+        return goto(RETURN_FIRST, BY_RETURN, setting, true, START_STATEMENT);
     }
     if class == tokens::OPEN_BRACE {
         return Step::Push(behind_statement(setting), TO_BLOCK);
@@ -205,20 +399,163 @@ fn statement_row(class: u32, setting: u32, must: bool) -> Step
     if class == tokens::FUNCTION {
         return declaration_row(setting, must);
     }
+    if class == tokens::SEMICOLON {
+        return end_statement(setting, END_EMPTY);
+    }
     operand_row(class, BY_STATEMENT, setting, true)
 }
 
-// Behind `return`.
-fn return_row(class: u32, setting: u32, newline: bool) -> Step
-    ensures { λ r. ⌜ Means (returnFirst (settingBy setting)) class r (look class (row (returnFirst (settingBy setting)) newline)) ⌝ }
+// The statements that start with a word, but for `if` and `return`.
+fn word_row(class: u32, setting: u32) -> Step
+    ensures { λ r. ⌜ ((must : Bool) → (class ≡ semicolon → ⊥) → Means (statementDue must (settingBy setting)) class r (look class (wordRow (settingBy setting) []))) ⌝ }
+{
+    match class {
+        tokens::VAR => goto(VARIABLE_DUE, BY_VARIABLE, setting, true, START_STATEMENT),
+        tokens::DO => Step::Enter(OF_DO, setting_number(setting)),
+        tokens::TRY => Step::Enter(OF_TRY, setting_number(setting)),
+        tokens::FOR => goto(FOR_FIRST, BY_STATEMENT, setting, true, START_STATEMENT),
+        tokens::SWITCH => goto(SWITCH_FIRST, BY_STATEMENT, setting, true, START_STATEMENT),
+        tokens::WHILE | tokens::WITH => {
+            goto(HEAD_FIRST, BY_STATEMENT, setting, true, START_STATEMENT)
+        }
+        tokens::CONTINUE | tokens::BREAK => {
+            goto(JUMP_FIRST, BY_STATEMENT, setting, true, START_STATEMENT)
+        }
+        tokens::THROW => goto(THROW_FIRST, BY_RETURN, setting, true, START_STATEMENT),
+        tokens::DEBUGGER => goto(SEMICOLON_DUE, BY_STATEMENT, setting, true, START_STATEMENT),
+        _ => Step::Fail,
+    }
+}
+
+// `;` where an expression is due: behind `return` and in the head of a `for` it may be left out.
+fn left_out_row(place: u32, setting: u32) -> Step
+    ensures { λ r. ⌜ ((ending : ℕ) (flag newline : Bool) → T (isAmong (1 ∷ 5 ∷ 9 ∷ 10 ∷ 11 ∷ []) place) → Means (controlBy place ending setting flag) semicolon r (look semicolon (row (controlBy place ending setting flag) newline))) ⌝ }
+{
+    match place {
+        RETURN_FIRST => end_statement(setting, END_BARE),
+        START_DUE => goto(TEST_DUE, BY_TEST, BODY, true, END_VALUE),
+        TEST_DUE => goto(STEP_DUE, BY_STEP, BODY, true, END_VALUE),
+        _ => Step::Fail,
+    }
+}
+
+// `var` there: the head of a `for` may start with it.
+fn head_variable_row(place: u32) -> Step
+    ensures { λ r. ⌜ ((ending setting : ℕ) (flag newline : Bool) → T (isAmong (1 ∷ 5 ∷ 9 ∷ 10 ∷ 11 ∷ []) place) → Means (controlBy place ending setting flag) varWord r (look varWord (row (controlBy place ending setting flag) newline))) ⌝ }
+{
+    if place == START_DUE {
+        return goto(VARIABLE_DUE, BY_FIRST_VARIABLE, BODY, true, START_STATEMENT);
+    }
+    Step::Fail
+}
+
+// What ends the expression that is due.
+fn due_ending(place: u32) -> u32
+    ensures { λ r. ⌜ r ≡ cond (eqb place 9) 5 (cond (eqb place 10) 7 (cond (eqb place 11) 10 1)) ⌝ }
+{
+    match place {
+        START_DUE => BY_LONE_START,
+        TEST_DUE => BY_TEST,
+        STEP_DUE => BY_STEP,
+        _ => BY_RETURN,
+    }
+}
+
+// `return` and `throw` want no line end behind them.
+fn bars_line(place: u32, newline: bool) -> bool
+    ensures { λ r. ⌜ r ≡ (ltb place 9 && newline) ⌝ }
+{
+    if START_DUE <= place {
+        return false;
+    }
+    newline
+}
+
+// Behind `return` or `throw`, and in the head of a `for`: one row, with one call of `operand_row`.
+fn due_row(place: u32, class: u32, setting: u32, newline: bool) -> Step
+    ensures { λ r. ⌜ ((ending : ℕ) (flag : Bool) → T (isAmong (1 ∷ 5 ∷ 9 ∷ 10 ∷ 11 ∷ []) place) → Means (controlBy place ending setting flag) class r (look class (row (controlBy place ending setting flag) newline))) ⌝ }
 {
     if class == tokens::SEMICOLON {
-        return end_statement(setting, END_BARE_RETURN);
+        return left_out_row(place, setting);
+    }
+    if class == tokens::VAR {
+        return head_variable_row(place);
+    }
+    if bars_line(place, newline) {
+        return Step::Fail;
+    }
+    operand_row(class, due_ending(place), setting, true)
+}
+
+// Behind `continue` or `break`.
+fn jump_row(class: u32, setting: u32, newline: bool) -> Step
+    ensures { λ r. ⌜ Means (jumpFirst (settingBy setting)) class r (look class (row (jumpFirst (settingBy setting)) newline)) ⌝ }
+{
+    if class == tokens::SEMICOLON {
+        return end_statement(setting, END_BARE);
     }
     if newline {
         return Step::Fail;
     }
-    operand_row(class, BY_RETURN, setting, true)
+    if class == tokens::NAME {
+        return goto(SEMICOLON_DUE, BY_STATEMENT, setting, true, KEEP);
+    }
+    Step::Fail
+}
+
+// Behind the name of a variable.
+fn variable_row(class: u32, ending: u32, setting: u32) -> Step
+    ensures { λ r. ⌜ Means (variableNamed (variablesBy ending setting)) class r (look class (row (variableNamed (variablesBy ending setting)) false)) ⌝ }
+{
+    if class == tokens::ASSIGN {
+        return goto(OPERAND_DUE, variable_ending(ending), setting, true, KEEP);
+    }
+    if class == tokens::COMMA {
+        return next_variable(ending, setting);
+    }
+    if class == tokens::SEMICOLON {
+        return variables_end(variable_ending(ending), setting);
+    }
+    if class != tokens::IN {
+        return Step::Fail;
+    }
+    if ending == BY_FIRST_VARIABLE {
+        return in_row();
+    }
+    Step::Fail
+}
+
+// What ends a variable, by where it stands: any number but those of a head is that of a statement.
+fn variable_ending(ending: u32) -> u32
+    ensures { λ r. ⌜ (2 ≤ r) × (r ≤ 4) × ((setting : ℕ) → variablesBy r setting ≡ variablesBy ending setting) ⌝ }
+{
+    if ending < BY_FIRST_VARIABLE {
+        return BY_VARIABLE;
+    }
+    if BY_LATER_VARIABLE < ending {
+        return BY_VARIABLE;
+    }
+    ending
+}
+
+// Only `;` may come, with which a statement ends.
+fn semicolon_due(class: u32, setting: u32) -> Step
+    ensures { λ r. ⌜ ((from : Rattle.machine.specs.Machinery.Machine.Control) → Leads endValue from (behindStatement (settingBy setting)) → Means from class r (look class (on semicolon (goto (behindStatement (settingBy setting)) endValue) ∷ []))) ⌝ }
+{
+    if class == tokens::SEMICOLON {
+        return end_statement(setting, END_VALUE);
+    }
+    Step::Fail
+}
+
+// The setting of a statement that is due.
+fn statement_setting(place: u32, setting: u32) -> u32
+    ensures { λ r. ⌜ r ≡ cond (eqb place 45) 2 setting ⌝ }
+{
+    if place == CLAUSE_STATEMENT {
+        return CLAUSE;
+    }
+    setting
 }
 
 // The machine's table, for a token that a record makes.
@@ -227,11 +564,26 @@ pub fn row(at: Control, class: u32, newline: bool) -> Step
 {
     let place = at.place;
     match place {
-        STATEMENT_DUE => statement_row(class, at.setting, at.flag),
-        OPERAND_DONE => operator_row(class, at.ending, at.setting, at.flag, newline),
+        STATEMENT_DUE | CLAUSE_STATEMENT => {
+            statement_row(class, statement_setting(place, at.setting), at.flag)
+        }
+        OPERAND_DONE | POSTFIX_DONE => {
+            operator_row(
+                class,
+                at.ending,
+                at.setting,
+                at.flag,
+                newline,
+                place == OPERAND_DONE,
+            )
+        }
         OPERAND_DUE => operand_row(class, at.ending, at.setting, at.flag),
-        RETURN_FIRST => return_row(class, at.setting, newline),
-        POSTFIX_DONE => unary_row(class, at.ending, at.setting),
+        JUMP_FIRST => jump_row(class, at.setting, newline),
+        VARIABLE_NAMED => variable_row(class, at.ending, at.setting),
+        SEMICOLON_DUE => semicolon_due(class, at.setting),
+        RETURN_FIRST | THROW_FIRST | START_DUE | TEST_DUE | STEP_DUE => {
+            due_row(place, class, at.setting, newline)
+        }
         _ => form_row(place, at.ending, at.setting, at.flag, class),
     }
 }

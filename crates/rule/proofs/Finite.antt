@@ -4,19 +4,19 @@ use mathlib.Core.List.{List, [], _∷_}
 use lib.Dec.{T}
 use Rattle.text.proofs.Range.{and-left, and-right}
 use Rattle.text.proofs.Members.{Has, here, there, allIn, at}
-use Rattle.rule.specs.Rule.{Class, name, literal, operator, question, answer, colon, dot, comma, semicolon, other, returnWord, functionWord, ifWord, parens, brackets, object, block}
+use Rattle.rule.specs.Rule.{Class, name, literal, operator, question, answer, colon, dot, comma, semicolon, other, returnWord, functionWord, headWord, parens, brackets, object, block}
 use Rattle.rule.specs.Machinery.Summary.{
   Summary,
   nothing,
   operand,
   afterOperator,
-  afterColon,
+  afterSeparator,
   afterDot,
   afterComma,
   afterOther,
   afterReturn,
-  afterIf,
-  afterIfParens,
+  afterHeadWord,
+  afterHead,
   afterBlock,
   afterFunction,
   afterFunctionName,
@@ -37,7 +37,7 @@ pub at-bool : (P : Bool → Bool) → T (bothBools P) → (b : Bool) → T (P b)
 at-bool P t b = at P (a-bool b) t
 
 abbrev classes : List Class
-classes = name ∷ literal ∷ operator ∷ question ∷ answer ∷ colon ∷ dot ∷ comma ∷ semicolon ∷ other ∷ returnWord ∷ functionWord ∷ ifWord ∷ parens ∷ brackets ∷ object ∷ block ∷ []
+classes = name ∷ literal ∷ operator ∷ question ∷ answer ∷ colon ∷ dot ∷ comma ∷ semicolon ∷ other ∷ returnWord ∷ functionWord ∷ headWord ∷ parens ∷ brackets ∷ object ∷ block ∷ []
 
 a-class : (c : Class) → Has c classes
 a-class name = here
@@ -52,7 +52,7 @@ a-class semicolon = there (there (there (there (there (there (there (there here)
 a-class other = there (there (there (there (there (there (there (there (there here))))))))
 a-class returnWord = there (there (there (there (there (there (there (there (there (there here)))))))))
 a-class functionWord = there (there (there (there (there (there (there (there (there (there (there here))))))))))
-a-class ifWord = there (there (there (there (there (there (there (there (there (there (there (there here)))))))))))
+a-class headWord = there (there (there (there (there (there (there (there (there (there (there (there here)))))))))))
 a-class parens = there (there (there (there (there (there (there (there (there (there (there (there (there here))))))))))))
 a-class brackets = there (there (there (there (there (there (there (there (there (there (there (there (there (there here)))))))))))))
 a-class object = there (there (there (there (there (there (there (there (there (there (there (there (there (there (there here))))))))))))))
@@ -66,7 +66,7 @@ at-class P t c = at P (a-class c) t
 
 -- the last three hold a Boolean
 abbrev plain : List Summary
-plain = nothing ∷ operand ∷ afterOperator ∷ afterColon ∷ afterDot ∷ afterComma ∷ afterOther ∷ afterReturn ∷ afterIf ∷ afterIfParens ∷ afterBlock ∷ []
+plain = nothing ∷ operand ∷ afterOperator ∷ afterSeparator ∷ afterDot ∷ afterComma ∷ afterOther ∷ afterReturn ∷ afterHeadWord ∷ afterHead ∷ afterBlock ∷ []
 
 abbrev ofFunctions : List (Bool → Summary)
 ofFunctions = afterFunction ∷ afterFunctionName ∷ afterFunctionParens ∷ []
@@ -92,13 +92,13 @@ module _ (P : Summary → Bool) (t : T (allSummaries P)) where
   at-summary nothing = at-plain here
   at-summary operand = at-plain (there here)
   at-summary afterOperator = at-plain (there (there here))
-  at-summary afterColon = at-plain (there (there (there here)))
+  at-summary afterSeparator = at-plain (there (there (there here)))
   at-summary afterDot = at-plain (there (there (there (there here))))
   at-summary afterComma = at-plain (there (there (there (there (there here)))))
   at-summary afterOther = at-plain (there (there (there (there (there (there here))))))
   at-summary afterReturn = at-plain (there (there (there (there (there (there (there here)))))))
-  at-summary afterIf = at-plain (there (there (there (there (there (there (there (there here))))))))
-  at-summary afterIfParens = at-plain (there (there (there (there (there (there (there (there (there here)))))))))
+  at-summary afterHeadWord = at-plain (there (there (there (there (there (there (there (there here))))))))
+  at-summary afterHead = at-plain (there (there (there (there (there (there (there (there (there here)))))))))
   at-summary afterBlock = at-plain (there (there (there (there (there (there (there (there (there (there here))))))))))
   at-summary (afterFunction inObject) = at-function here inObject
   at-summary (afterFunctionName inObject) = at-function (there here) inObject

@@ -10,9 +10,9 @@ use Rattle.elements.specs.Elements.{signKind}
 use Rattle.elements.specs.declared.Element.{Element}
 use Rattle.elements.proofs.Choices.{cond-both}
 use Rattle.rule.specs.Trees.{Trees, none, leaf, group, count, parenKind, objectKind, bracketKind}
-use Rattle.rule.specs.Rule.{Class, name, literal, operator, question, answer, colon, dot, comma, semicolon, other, returnWord, functionWord, ifWord, parens, brackets, object, block, is, elementClass, groupClass, backwards, leaving, unanswered, settledKind}
+use Rattle.rule.specs.Rule.{Class, name, literal, operator, question, answer, colon, dot, comma, semicolon, other, returnWord, functionWord, headWord, parens, brackets, object, block, is, elementClass, groupClass, backwards, leaving, unanswered, settledKind}
 use Rattle.rule.specs.Levels.{Levels, wholeText, inside, isExpression, kindOf, treesOf, slashOpens, wordIsName, statedBy, braceOpens, settledIn, countSoFar, onTop}
-use Rattle.rule.specs.Machinery.Summary.{Summary, nothing, afterDot, afterFunctionParens, braceBy, slashBy, nameBy, addName, addParens, addBlock, add, summary, operand, afterOperator, afterColon, afterComma, afterOther, afterReturn, afterIf, afterFunction, code, summaries, kinds, oneQuestion, levelFor, levelCode}
+use Rattle.rule.specs.Machinery.Summary.{Summary, nothing, afterDot, afterFunctionParens, braceBy, slashBy, nameBy, addName, addParens, addBlock, add, summary, operand, afterOperator, afterSeparator, afterComma, afterOther, afterReturn, afterHeadWord, afterFunction, code, summaries, kinds, oneQuestion, levelFor, levelCode}
 use Rattle.rule.specs.Machinery.LevelCodes.{kindIn, questionsIn, with, levelIn, slashByLevel, nameByLevel, statedByLevel, braceByCode, braceByLevel, settledByLevel, nameCode, levelAfterName, parensCode, levelAfterParens, blockCode, levelAfterBlock, levelAfter}
 use Rattle.rule.proofs.Finite.{bothBools, at-bool, allSummaries, at-summary}
 use Rattle.rule.proofs.SummaryLaws.{brace-right, slash-right, name-right}
@@ -125,7 +125,7 @@ module _ (k : ℕ) (s : Summary) (n : ℕ) where
     question-level : with (levelFor k s n) (code false afterOperator) + oneQuestion ≡ levelFor k afterOperator (n + 1)
     question-level = rw upper-part (omega arith)
 
-    semicolon-level : with (levelFor k s n % oneQuestion) (code false afterOther) ≡ levelFor k afterOther 0
+    semicolon-level : with (levelFor k s n % oneQuestion) (code false afterSeparator) ≡ levelFor k afterSeparator 0
     semicolon-level = omega (arith, code-small (eqb k objectKind) s)
 
     -- an answer takes one, if there is one
@@ -146,14 +146,14 @@ module _ (k : ℕ) (s : Summary) (n : ℕ) where
     level-after operator newline = plain-level (code false afterOperator)
     level-after question newline = question-level
     level-after answer newline = answer-level
-    level-after colon newline = plain-level (code false afterColon)
+    level-after colon newline = plain-level (code false afterSeparator)
     level-after dot newline = plain-level (code false afterDot)
     level-after comma newline = rw kind-part (plain-level (code (eqb k objectKind) afterComma))
     level-after semicolon newline = semicolon-level
     level-after other newline = plain-level (code false afterOther)
     level-after returnWord newline = plain-level (code false afterReturn)
     level-after functionWord newline = rw (brace-level newline) (plain-level (code false (afterFunction (braceBy (isExpression k) s newline))))
-    level-after ifWord newline = plain-level (code false afterIf)
+    level-after headWord newline = plain-level (code false afterHeadWord)
     level-after parens newline = parens-level
     level-after brackets newline = plain-level (code false operand)
     level-after object newline = plain-level (code false operand)

@@ -4,7 +4,7 @@ use mathlib.Core.Bool.{Bool, true, false, not, cond, _||_}
 use mathlib.Core.List.{List, [], _∷_}
 use lib.Dec.{T}
 use Rattle.text.proofs.Range.{alike, alike→eq}
-use Rattle.rule.specs.Rule.{Class, name, literal, operator, question, answer, colon, dot, comma, semicolon, other, returnWord, functionWord, ifWord, parens, brackets, object, block, Before, tree, is, endsWith, objectAfter, opensObject, plainly, opensPattern, namesWord}
+use Rattle.rule.specs.Rule.{Class, name, literal, operator, question, answer, colon, dot, comma, semicolon, other, returnWord, functionWord, headWord, parens, brackets, object, block, Before, tree, is, endsWith, objectAfter, opensObject, plainly, opensPattern, namesWord}
 use Rattle.vocabulary.proofs.ClassLaws.{is-class}
 use Rattle.rule.specs.Machinery.Summary.{Summary, braceBy, slashBy, nameBy, addName, addParens, addBlock, add, summary}
 use Rattle.rule.proofs.Finite.{bothBools, at-bool, allClasses, at-class, allSummaries, at-summary}
@@ -31,10 +31,10 @@ brace-right e (tree c l ∷ ts) true = always (λ e s c l. braceBy e (add e s c 
 brace-right e (tree c l ∷ ts) false = always (λ e s c l. braceBy e (add e s c l) false) (λ e s c l. objectAfter e c false) tt e (summary e ts) c l
 
 -- what a slash does behind `( )`
-after-parens : (e : Bool) (ts : List Before) → slashBy (addParens (summary e ts)) ≡ endsWith ifWord ts
+after-parens : (e : Bool) (ts : List Before) → slashBy (addParens (summary e ts)) ≡ endsWith headWord ts
 unfolding summary
 after-parens e [] = refl
-after-parens e (tree c l ∷ ts) = always (λ e s c l. slashBy (addParens (add e s c l))) (λ e s c l. is ifWord c) tt e (summary e ts) c l
+after-parens e (tree c l ∷ ts) = always (λ e s c l. slashBy (addParens (add e s c l))) (λ e s c l. is headWord c) tt e (summary e ts) c l
 
 -- where the last tree is no block, nothing is excepted
 not-excepted : (e l : Bool) (c : Class) → is block c ≡ false → (ts : List Before) → plainly (tree c l ∷ ts) ≡ opensPattern e (tree c l ∷ ts)
@@ -102,7 +102,7 @@ slash-right e (tree semicolon l ∷ ts) = not-excepted e l semicolon refl ts
 slash-right e (tree other l ∷ ts) = not-excepted e l other refl ts
 slash-right e (tree returnWord l ∷ ts) = not-excepted e l returnWord refl ts
 slash-right e (tree functionWord l ∷ ts) = not-excepted e l functionWord refl ts
-slash-right e (tree ifWord l ∷ ts) = not-excepted e l ifWord refl ts
+slash-right e (tree headWord l ∷ ts) = not-excepted e l headWord refl ts
 slash-right e (tree parens l ∷ ts) = after-parens e ts ∙ not-excepted e l parens refl ts
 slash-right e (tree brackets l ∷ ts) = not-excepted e l brackets refl ts
 slash-right e (tree object l ∷ ts) = not-excepted e l object refl ts

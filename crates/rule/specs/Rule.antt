@@ -1,4 +1,4 @@
--- Document 01, Prefix rule, and document 02, U1, U2 and U4: over the trees before on the same level. "Last" is the tree before, on the same level.
+-- Document 01, Prefix rule, and document 02, U1, U2, U4 and U6: over the trees before on the same level. "Last" is the tree before, on the same level.
 use Prim.Native.Nat.{ℕ, _+_, _-_}
 use mathlib.Core.Bool.{Bool, true, false, not, cond, _&&_, _||_}
 use mathlib.Core.List.{List, [], _∷_}
@@ -8,7 +8,7 @@ use Rattle.signs.specs.Signs.{longestSign}
 use Rattle.text.specs.Quoted.{bytes}
 use Rattle.elements.specs.declared.Element.{Element}
 use Rattle.vocabulary.specs.Vocabulary.{words, signs, ruleClass, rowAt}
-pub use Rattle.vocabulary.specs.RuleClasses.{Class, name, literal, operator, question, answer, colon, dot, comma, semicolon, other, returnWord, functionWord, ifWord, parens, brackets, object, block, rank}
+pub use Rattle.vocabulary.specs.RuleClasses.{Class, name, literal, operator, question, answer, colon, dot, comma, semicolon, other, returnWord, functionWord, headWord, parens, brackets, object, block, rank}
 use Rattle.rule.specs.Trees.{Trees, none, leaf, group, parenKind, objectKind, bracketKind, beforeKind, afterKind, answerKind}
 
 -- the class of the reserved word, and of the sign, of a number
@@ -46,7 +46,8 @@ backwards (group before kind first end newline within) = tree (groupClass kind) 
 
 -- "`{` opens an object when: .. last is `/`, `+` or `=`; last is `:` on an expression level; last is `return` and no line
 -- end lies between. Otherwise it opens a block." Document 02, U2: "A `{` after `,` opens an object". U4: "`{` opens an object after kinds 11 and 13,
--- after any other added operator, and never after kind 12." `newline` says whether a line end lies between last and the brace.
+-- after any other added operator, and never after kind 12." U6: "`{` after `;` on an expression level opens an object. After `case` it does so too, and
+-- after `throw` as after `return`." `newline` says whether a line end lies between last and the brace.
 abbrev pub objectAfter : Bool → Class → Bool → Bool
 objectAfter expression name newline = false
 objectAfter expression literal newline = false
@@ -56,11 +57,11 @@ objectAfter expression answer newline = true
 objectAfter expression colon newline = expression
 objectAfter expression dot newline = false
 objectAfter expression comma newline = true
-objectAfter expression semicolon newline = false
+objectAfter expression semicolon newline = expression
 objectAfter expression other newline = false
 objectAfter expression returnWord newline = not newline
 objectAfter expression functionWord newline = false
-objectAfter expression ifWord newline = false
+objectAfter expression headWord newline = false
 objectAfter expression parens newline = false
 objectAfter expression brackets newline = false
 objectAfter expression object newline = false
@@ -82,7 +83,8 @@ endsWith class (tree last l ∷ before) = is class last
 
 -- "`/` opens a regular expression when: .. last is a sign or a reserved word; last is `( )` preceded by `if`; last is a
 -- block. It divides after a name, number, string, regular expression, object or other `( )`." Document 02, U2: "a `/` after a bracket group
--- divides"; `,` is a sign. U4: "The four value words are followed by a divide."; "a slash divides after 12, not after 11 or 13"
+-- divides"; `,` is a sign. U4: "The four value words are followed by a divide."; "a slash divides after 12, not after 11 or 13". U6: "A slash after `( )`
+-- preceded by `while`, `for` or `with` opens a pattern."
 abbrev pub patternAfter : Class → List Before → Bool
 patternAfter name before = false
 patternAfter literal before = false
@@ -96,8 +98,8 @@ patternAfter semicolon before = true
 patternAfter other before = true
 patternAfter returnWord before = true
 patternAfter functionWord before = true
-patternAfter ifWord before = true
-patternAfter parens before = endsWith ifWord before
+patternAfter headWord before = true
+patternAfter parens before = endsWith headWord before
 patternAfter brackets before = false
 patternAfter object before = false
 patternAfter block before = true

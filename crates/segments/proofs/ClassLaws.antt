@@ -32,7 +32,7 @@ use Rattle.segments.proofs.SegmentLaws.{isElement}
 
 -- a length and two bytes tell the class of the word, or of the sign, of that number
 abbrev wordTold : ℕ → ℕ → ℕ → ℕ → Bool
-wordTold len b last which = eqb (wordBy len last) (recordClass (wordClass which)) && isElement (wordBy len last)
+wordTold len b last which = eqb (wordBy len b last) (recordClass (wordClass which)) && isElement (wordBy len b last)
 
 abbrev signTold : ℕ → ℕ → ℕ → ℕ → Bool
 signTold len b last which = eqb (signBy len b last) (recordClass (signClass which)) && isElement (signBy len b last)
@@ -77,7 +77,7 @@ module _ (text : List ℕ) (place : ℕ) (given : Stated) (e : Element) (found :
   word-told : e .kind ≡ wordKind → ToldAs text e wordKind
   unfolding classOf classBy
   word-told q =
-      let by = wordBy (e .end - e .first) (getD text (e .end - 1) 0) in
+      let by = wordBy (e .end - e .first) (getD text (e .first) 0) (getD text (e .end - 1) 0) in
       let class = recordClass (wordClass (e .which)) in
       record { told = rw q (by-spelling by class (word-tells q)); element = rw q (by-element by class (word-tells q)); no-closer = rw q }
 

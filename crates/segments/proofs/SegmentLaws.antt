@@ -13,9 +13,9 @@ use Rattle.text.specs.Quoted.{byte}
 use Rattle.elements.specs.Elements.{nameKind, wordKind, numberKind, stringKind, patternKind}
 use Rattle.rule.specs.Trees.{parenKind, objectKind, blockKind, bracketKind, answerKind}
 use Rattle.tables.specs.Records.{treeWidth}
-use Rattle.machine.specs.Tokens.{Token, token, name, number, string, pattern, unsignedShift, unsignedShiftAssign, colon, openParen, openBrace, openBracket, functionWord, newWord, falseWord, instanceofWord}
+use Rattle.machine.specs.Tokens.{Token, token, name, number, string, pattern, unsignedShift, unsignedShiftAssign, colon, openParen, openBrace, openBracket, thisWord, trueWord, instanceofWord, defaultWord, finallyWord}
 use Rattle.machine.specs.Machinery.Classes.{isOpener, isEnd}
-use Rattle.segments.specs.Machinery.Segments.{countOf, cellOr, kindAt, placeAt, endAt, sizeAt, Entry, entry, lookUp, lowSingles, highSingles, assigned, doubled, compared, shortWords, middleWords, longWords, signBy, wordBy, kindBy, isSpelled, classBy, classAt, contentOf, Segment, inside, spotAt, closerSpot, tokensBy, tokensAt, FineAt, Fine}
+use Rattle.segments.specs.Machinery.Segments.{countOf, cellOr, kindAt, placeAt, endAt, sizeAt, Entry, entry, lookUp, lowSingles, highSingles, assigned, doubled, compared, twoLetters, threeLetters, fourLetters, fiveLetters, sixLetters, eightLetters, signBy, wordBy, kindBy, isSpelled, classBy, classAt, contentOf, Segment, inside, spotAt, closerSpot, tokensBy, tokensAt, FineAt, Fine}
 
 -- a number of a record inside a group is that of a record of the part
 module _ (text cells : List ℕ) (i : ℕ) (h : i < countOf cells) (f : FineAt text cells i) where
@@ -184,17 +184,18 @@ sign-unended len b last =
     (unended (eqb len 3) _ unsignedShiftAssign (unended (eqb last (byte "=")) _ unsignedShift (look-unended compared b tt) tt)
     tt))
 
-word-unended : (len last : ℕ) → T (not (isEnd (wordBy len last)))
+word-unended : (len b last : ℕ) → T (not (isEnd (wordBy len b last)))
 unfolding wordBy
-word-unended len last =
-    unended (eqb len 8) functionWord _ tt
-    (unended (eqb len 6) _ _ (look-unended longWords last tt)
-    (unended (eqb len 4) _ _ (look-unended middleWords last tt)
-    (unended (eqb len 2) _ _ (look-unended shortWords last tt)
-    (unended (eqb len 3) newWord _ tt
-    (unended (eqb len 5) falseWord _ tt
-    (unended (eqb len 10) instanceofWord 0 tt
-    tt))))))
+word-unended len b last =
+    unended (eqb len 8) _ _ (look-unended eightLetters b tt)
+    (unended (eqb len 6) _ _ (look-unended sixLetters b tt)
+    (unended (eqb len 4) _ _ (unended (eqb b (byte "t")) _ _ (unended (eqb last (byte "s")) thisWord trueWord tt tt) (look-unended fourLetters b tt))
+    (unended (eqb len 2) _ _ (look-unended twoLetters last tt)
+    (unended (eqb len 3) _ _ (look-unended threeLetters b tt)
+    (unended (eqb len 5) _ _ (look-unended fiveLetters b tt)
+    (unended (eqb len 10) instanceofWord _ tt
+    (unended (eqb len 7) _ 0 (unended (eqb b (byte "d")) defaultWord finallyWord tt tt)
+    tt)))))))
 
 kind-unended : (kind : ℕ) → T (not (isEnd (kindBy kind)))
 unfolding kindBy
@@ -213,7 +214,7 @@ kind-unended kind =
 class-unended : (kind len b last : ℕ) → T (not (isEnd (classBy kind len b last)))
 unfolding classBy
 class-unended kind len b last =
-    unended (isSpelled kind) _ _ (sign-unended len b last) (unended (eqb kind wordKind) _ _ (word-unended len last) (kind-unended kind))
+    unended (isSpelled kind) _ _ (sign-unended len b last) (unended (eqb kind wordKind) _ _ (word-unended len b last) (kind-unended kind))
 
 pub never-ends : (text cells : List ℕ) (i : ℕ) → T (not (isEnd (classAt text cells i)))
 unfolding classAt

@@ -1,6 +1,10 @@
 // The class of a record: its kind tells it, and of a word or sign its length and its first and last bytes.
 ghost use mathlib.Core.Path.{_≡_};
-ghost use Rattle.segments.specs.Machinery.Segments.{lowSingles, highSingles, assigned, doubled, compared, shortWords, middleWords, longWords, lookUp, singleBy, pairBy, tripleBy, signBy, wordBy, kindBy, isSpelled};
+ghost use mathlib.Core.Bool.{cond};
+ghost use lib.Dec.{eqb};
+ghost use Rattle.text.specs.Quoted.{byte};
+ghost use Rattle.machine.specs.Tokens.{defaultWord, finallyWord};
+ghost use Rattle.segments.specs.Machinery.Segments.{lowSingles, highSingles, assigned, doubled, compared, twoLetters, threeLetters, fiveLetters, sixLetters, eightLetters, lookUp, fourBy, singleBy, pairBy, tripleBy, signBy, wordBy, kindBy, isSpelled};
 use machine::tokens;
 
 // A sign of one byte up to `?`, where they stand so close that the compiler makes a table of them.
@@ -130,52 +134,109 @@ pub fn longer_class(len: usize, b: u8, last: u8) -> u32
     tokens::UNSIGNED_SHIFT_ASSIGN
 }
 
-// A word of two letters, of four, and of six, by its last.
-fn short_class(last: u8) -> u32
-    ensures { λ r. ⌜ r ≡ lookUp shortWords last ⌝ }
+// Words of two letters by the last, and of three, five, six and eight by the first.
+fn two_class(last: u8) -> u32
+    ensures { λ r. ⌜ r ≡ lookUp twoLetters last ⌝ }
 {
     match last {
+        b'o' => tokens::DO,
         b'f' => tokens::IF,
         b'n' => tokens::IN,
         _ => 0,
     }
 }
 
-fn middle_class(last: u8) -> u32
-    ensures { λ r. ⌜ r ≡ lookUp middleWords last ⌝ }
+fn three_class(b: u8) -> u32
+    ensures { λ r. ⌜ r ≡ lookUp threeLetters b ⌝ }
 {
-    match last {
-        b's' => tokens::THIS,
-        b'l' => tokens::NULL,
-        b'e' => tokens::TRUE,
-        b'd' => tokens::VOID,
+    match b {
+        b'n' => tokens::NEW,
+        b'v' => tokens::VAR,
+        b'f' => tokens::FOR,
+        b't' => tokens::TRY,
         _ => 0,
     }
 }
 
-fn long_class(last: u8) -> u32
-    ensures { λ r. ⌜ r ≡ lookUp longWords last ⌝ }
+fn five_class(b: u8) -> u32
+    ensures { λ r. ⌜ r ≡ lookUp fiveLetters b ⌝ }
 {
-    match last {
-        b'n' => tokens::RETURN,
-        b'f' => tokens::TYPEOF,
-        b'e' => tokens::DELETE,
+    match b {
+        b'b' => tokens::BREAK,
+        b'c' => tokens::CATCH,
+        b'f' => tokens::FALSE,
+        b't' => tokens::THROW,
+        b'w' => tokens::WHILE,
         _ => 0,
     }
 }
 
-// The class of a reserved word that is taken, by its length and its last byte.
-pub fn word_class(len: usize, last: u8) -> u32
-    ensures { λ r. ⌜ r ≡ wordBy len last ⌝ }
+fn six_class(b: u8) -> u32
+    ensures { λ r. ⌜ r ≡ lookUp sixLetters b ⌝ }
+{
+    match b {
+        b'r' => tokens::RETURN,
+        b't' => tokens::TYPEOF,
+        b'd' => tokens::DELETE,
+        b's' => tokens::SWITCH,
+        _ => 0,
+    }
+}
+
+fn eight_class(b: u8) -> u32
+    ensures { λ r. ⌜ r ≡ lookUp eightLetters b ⌝ }
+{
+    match b {
+        b'f' => tokens::FUNCTION,
+        b'c' => tokens::CONTINUE,
+        b'd' => tokens::DEBUGGER,
+        _ => 0,
+    }
+}
+
+// Words of four letters: `this` and `true` start alike.
+fn four_class(b: u8, last: u8) -> u32
+    ensures { λ r. ⌜ r ≡ fourBy b last ⌝ }
+{
+    match b {
+        b't' => {
+            if last == b's' {
+                return tokens::THIS;
+            }
+            tokens::TRUE
+        }
+        b'c' => tokens::CASE,
+        b'e' => tokens::ELSE,
+        b'n' => tokens::NULL,
+        b'v' => tokens::VOID,
+        b'w' => tokens::WITH,
+        _ => 0,
+    }
+}
+
+// Words of seven letters.
+fn seven_class(b: u8) -> u32
+    ensures { λ r. ⌜ r ≡ cond (eqb b (byte "d")) defaultWord finallyWord ⌝ }
+{
+    if b == b'd' {
+        return tokens::DEFAULT;
+    }
+    tokens::FINALLY
+}
+
+// The class of a reserved word that is taken, by its length and its first and last bytes.
+pub fn word_class(len: usize, b: u8, last: u8) -> u32
+    ensures { λ r. ⌜ r ≡ wordBy len b last ⌝ }
 {
     match len {
-        8 => tokens::FUNCTION,
-        6 => long_class(last),
-        4 => middle_class(last),
-        2 => short_class(last),
-        3 => tokens::NEW,
-        5 => tokens::FALSE,
+        8 => eight_class(b),
+        6 => six_class(b),
+        4 => four_class(b, last),
+        2 => two_class(last),
+        3 => three_class(b),
+        5 => five_class(b),
         10 => tokens::INSTANCEOF,
+        7 => seven_class(b),
         _ => 0,
     }
 }

@@ -97,15 +97,16 @@ fn sign_at(text: &[u8], trees: &[u32], at: usize) -> u32
 // The class of a record that is a reserved word.
 fn word_at(text: &[u8], trees: &[u32], at: usize) -> u32
     ensures { λ r. ⌜ r
-        ≡ wordBy (endAt (now (trees .entry)) at - placeAt (now (trees .entry)) 0 at) (getD (now (text .entry)) (endAt (now (trees .entry)) at - 1) 0) ⌝ }
+        ≡ wordBy (endAt (now (trees .entry)) at - placeAt (now (trees .entry)) 0 at) (getD (now (text .entry)) (placeAt (now (trees .entry)) 0 at) 0) (getD (now (text .entry)) (endAt (now (trees .entry)) at - 1) 0) ⌝ }
 {
     let first = cell(trees, at, 1) as usize;
     let end = cell(trees, at, 2) as usize;
+    let b = byte_at(text, first);
     let last = byte_before(text, end);
     if end < first {
-        return classes::word_class(0, last);
+        return classes::word_class(0, b, last);
     }
-    classes::word_class(end - first, last)
+    classes::word_class(end - first, b, last)
 }
 
 // The class of a record; 0 past the last.

@@ -3,8 +3,10 @@
 ghost use mathlib.Core.Path.{_≡_};
 ghost use Prim.Native.Nat.{_≤_, _<_, _^_};
 ghost use mathlib.Core.Bool.{Bool};
+ghost use lib.Dec.{eqb};
+ghost use Rattle.words.specs.Machinery.Run.{bitAt};
 ghost use Rattle.rule.specs.Levels.{isExpression};
-ghost use Rattle.rule.specs.Rule.{literal, operator, answer, comma, is, wordClass, signClass, elementClass, groupClass};
+ghost use Rattle.rule.specs.Rule.{answer, comma, wordClass, signClass, elementClass, groupClass};
 ghost use Rattle.rule.specs.Machinery.LevelCodes.{kindIn, levelIn, slashByLevel, nameByLevel, statedByLevel, braceByLevel, settledByLevel, levelAfterName, levelAfterParens, levelAfterBlock, levelAfter};
 use elements::Element;
 use elements::Stated;
@@ -59,15 +61,15 @@ pub const NOTHING: u32 = 7;
 
 const AFTER_OPERATOR: u32 = 8;
 
-const AFTER_COLON: u32 = 9;
+const AFTER_SEPARATOR: u32 = 9;
 
 const AFTER_OTHER: u32 = 10;
 
 const AFTER_RETURN: u32 = 11;
 
-const AFTER_IF: u32 = 12;
+const AFTER_HEAD_WORD: u32 = 12;
 
-const AFTER_IF_PARENS: u32 = 13;
+const AFTER_HEAD: u32 = 13;
 
 const AFTER_BLOCK: u32 = 14;
 
@@ -75,6 +77,21 @@ const AFTER_DOT: u32 = 15;
 
 // Where a property of an object is due: nothing or a comma is last.
 const PROPERTY_DUE: u32 = 16;
+
+// Words that the rule tells apart, a bit for each at its number: those that have a head, those that are as `return`, values and operators.
+const HEADS: u64 = 1 << words::FOR | 1 << words::WHILE | 1 << words::WITH | 1 << words::IF;
+
+const RETURNS: u64 = 1 << words::RETURN | 1 << words::THROW;
+
+const VALUES: u64 = 1 << words::THIS | 1 << words::NULL | 1 << words::TRUE | 1 << words::FALSE;
+
+const OPERATORS: u64 = 1 << words::INSTANCEOF
+    | 1 << words::TYPEOF
+    | 1 << words::CASE
+    | 1 << words::NEW
+    | 1 << words::VOID
+    | 1 << words::DELETE
+    | 1 << words::IN;
 
 // The kind of a level's group.
 pub fn kind_in(level: u32) -> u32
@@ -149,7 +166,7 @@ pub fn brace_opens(level: u32, newline: bool) -> bool
     if summary == NOTHING {
         return is_expression(level);
     }
-    if summary == AFTER_COLON {
+    if summary == AFTER_SEPARATOR {
         return is_expression(level);
     }
     false
@@ -194,42 +211,12 @@ pub fn settled(level: u32, which: u32, newline: bool) -> u32
     elements::SIGN
 }
 
-// Whether the word of a number is a value.
-fn is_value(which: u32) -> bool
-    ensures { λ r. ⌜ r ≡ is literal (wordClass which) ⌝ }
+// Whether a set of words has that of a number.
+fn has(set: u64, which: u32) -> bool
+    requires { ⌜ which ≤ 36 ⌝ }
+    ensures { λ r. ⌜ r ≡ eqb (bitAt set which) 1 ⌝ }
 {
-    if which == words::THIS {
-        return true;
-    }
-    if which == words::NULL {
-        return true;
-    }
-    if which == words::TRUE {
-        return true;
-    }
-    which == words::FALSE
-}
-
-// Whether the word of a number is an operator.
-fn is_operator(which: u32) -> bool
-    ensures { λ r. ⌜ r ≡ is operator (wordClass which) ⌝ }
-{
-    if which == words::INSTANCEOF {
-        return true;
-    }
-    if which == words::TYPEOF {
-        return true;
-    }
-    if which == words::NEW {
-        return true;
-    }
-    if which == words::VOID {
-        return true;
-    }
-    if which == words::DELETE {
-        return true;
-    }
-    which == words::IN
+    set >> which & 1 == 1
 }
 
 // The level after a reserved word.
@@ -237,22 +224,25 @@ fn after_word(level: u32, which: u32, newline: bool) -> u32
     ensures { λ r. ⌜ r ≡ levelAfter level (wordClass which) newline ⌝ }
 {
     let base = SUMMARIES * (level / SUMMARIES);
-    if which == words::RETURN {
-        return base + AFTER_RETURN;
-    }
     if which == words::FUNCTION {
         if brace_opens(level, newline) {
             return base + OPERAND_FUNCTION;
         }
         return base + STATEMENT_FUNCTION;
     }
-    if which == words::IF {
-        return base + AFTER_IF;
+    if words::FALSE < which {
+        return base + AFTER_OTHER;
     }
-    if is_value(which) {
+    if has(HEADS, which) {
+        return base + AFTER_HEAD_WORD;
+    }
+    if has(RETURNS, which) {
+        return base + AFTER_RETURN;
+    }
+    if has(VALUES, which) {
         return base + OPERAND;
     }
-    if is_operator(which) {
+    if has(OPERATORS, which) {
         return base + AFTER_OPERATOR;
     }
     base + AFTER_OTHER
@@ -289,7 +279,7 @@ fn after_operator(level: u32, which: u32) -> u32
         return base + AFTER_OPERATOR + ONE_QUESTION;
     }
     if which == signs::COLON {
-        return base + AFTER_COLON;
+        return base + AFTER_SEPARATOR;
     }
     if LAST_SIGN < which {
         return base + AFTER_OTHER;
@@ -309,7 +299,7 @@ fn after_sign(level: u32, which: u32) -> u32
         return SUMMARIES * (level / SUMMARIES) + AFTER_DOT;
     }
     if which == signs::SEMICOLON {
-        return SUMMARIES * (level % ONE_QUESTION / SUMMARIES) + AFTER_OTHER;
+        return SUMMARIES * (level % ONE_QUESTION / SUMMARIES) + AFTER_SEPARATOR;
     }
     if which == signs::COMMA {
         return after_comma(level);
@@ -349,8 +339,8 @@ fn after_parens(level: u32) -> u32
 {
     let base = SUMMARIES * (level / SUMMARIES);
     let summary = level % SUMMARIES;
-    if summary == AFTER_IF {
-        return base + AFTER_IF_PARENS;
+    if summary == AFTER_HEAD_WORD {
+        return base + AFTER_HEAD;
     }
     if summary == STATEMENT_FUNCTION_NAME {
         return base + STATEMENT_FUNCTION_PARENS;

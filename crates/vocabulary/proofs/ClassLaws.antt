@@ -5,13 +5,13 @@ use mathlib.Core.List.{[], _∷_}
 use Prim.Native.Nat.{ℕ}
 use lib.Dec.{T, eqb, eqb→eq}
 use lib.ListN.{getD}
-use Rattle.vocabulary.specs.RuleClasses.{Class, name, literal, operator, question, answer, colon, dot, comma, semicolon, other, returnWord, functionWord, ifWord, parens, brackets, object, block, rank}
+use Rattle.vocabulary.specs.RuleClasses.{Class, name, literal, operator, question, answer, colon, dot, comma, semicolon, other, returnWord, functionWord, headWord, parens, brackets, object, block, rank}
 
 abbrev pub isClass : Class → Class → Bool
 isClass class x = eqb (rank x) (rank class)
 
 classAt : ℕ → Class
-classAt n = getD (name ∷ literal ∷ operator ∷ question ∷ answer ∷ colon ∷ dot ∷ comma ∷ semicolon ∷ other ∷ returnWord ∷ functionWord ∷ ifWord ∷ parens ∷ brackets ∷ object ∷ block ∷ []) n other
+classAt n = getD (name ∷ literal ∷ operator ∷ question ∷ answer ∷ colon ∷ dot ∷ comma ∷ semicolon ∷ other ∷ returnWord ∷ functionWord ∷ headWord ∷ parens ∷ brackets ∷ object ∷ block ∷ []) n other
 
 at-rank : (x : Class) → classAt (rank x) ≡ x
 unfolding classAt
@@ -27,7 +27,7 @@ at-rank semicolon = refl
 at-rank other = refl
 at-rank returnWord = refl
 at-rank functionWord = refl
-at-rank ifWord = refl
+at-rank headWord = refl
 at-rank parens = refl
 at-rank brackets = refl
 at-rank object = refl

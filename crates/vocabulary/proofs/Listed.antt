@@ -22,9 +22,10 @@ takenIn test [] = []
 takenIn test (barred t ∷ rows) = takenIn test rows
 takenIn test (taken t rule token precedence ∷ rows) = cond (test rule precedence) (t ∷ takenIn test rows) (takenIn test rows)
 
--- "Taken here: `return`, `function`, `if`."; document 02, U4: "the word operators .. `this`, `null`, `true`, `false`"
+-- "Taken here: `return`, `function`, `if`."; document 02, U4: "the word operators .. `this`, `null`, `true`, `false`"; U6: "7 remains for the seven
+-- future words"
 pub words-taken : takenIn (λ rule precedence. true) words
-    ≡ "instanceof" ∷ "typeof" ∷ "new" ∷ "return" ∷ "void" ∷ "function" ∷ "this" ∷ "if" ∷ "delete" ∷ "in" ∷ "null" ∷ "true" ∷ "false" ∷ []
+    ≡ "break" ∷ "do" ∷ "instanceof" ∷ "typeof" ∷ "case" ∷ "else" ∷ "new" ∷ "var" ∷ "catch" ∷ "finally" ∷ "return" ∷ "void" ∷ "continue" ∷ "for" ∷ "switch" ∷ "while" ∷ "debugger" ∷ "function" ∷ "this" ∷ "with" ∷ "default" ∷ "if" ∷ "throw" ∷ "delete" ∷ "in" ∷ "try" ∷ "null" ∷ "true" ∷ "false" ∷ []
 words-taken = refl
 
 -- each with the number of its class for the grammar: that of the part which it marks, or one from 128 up
@@ -36,7 +37,7 @@ tokensIn [] = []
 tokensIn (barred t ∷ rows) = tokensIn rows
 tokensIn (taken t rule token precedence ∷ rows) = told t token ∷ tokensIn rows
 
-pub words-token : tokensIn words ≡ told "instanceof" 50 ∷ told "typeof" 33 ∷ told "new" 28 ∷ told "return" 136 ∷ told "void" 32 ∷ told "function" 137 ∷ told "this" 23 ∷ told "if" 138 ∷ told "delete" 31 ∷ told "in" 51 ∷ told "null" 24 ∷ told "true" 25 ∷ told "false" 26 ∷ []
+pub words-token : tokensIn words ≡ told "break" 85 ∷ told "do" 78 ∷ told "instanceof" 50 ∷ told "typeof" 33 ∷ told "case" 88 ∷ told "else" 77 ∷ told "new" 28 ∷ told "var" 74 ∷ told "catch" 92 ∷ told "finally" 93 ∷ told "return" 136 ∷ told "void" 32 ∷ told "continue" 83 ∷ told "for" 80 ∷ told "switch" 87 ∷ told "while" 79 ∷ told "debugger" 94 ∷ told "function" 137 ∷ told "this" 23 ∷ told "with" 86 ∷ told "default" 89 ∷ told "if" 138 ∷ told "throw" 90 ∷ told "delete" 31 ∷ told "in" 51 ∷ told "try" 91 ∷ told "null" 24 ∷ told "true" 25 ∷ told "false" 26 ∷ []
 words-token = refl
 
 -- document 02, U4: "Add all 48 signs"
@@ -47,9 +48,9 @@ signs-token = refl
 abbrev classed : Class → List String
 classed class = takenIn (λ rule precedence. eqb (rank rule) (rank class)) (words ++ signs)
 
--- "last is `/`, `+` or `=`"; document 02, U4: "after any other added operator"
+-- "last is `/`, `+` or `=`"; document 02, U4: "after any other added operator"; U6: "After `case` it does so too"
 pub operator-rows : classed Class.operator
-    ≡ "instanceof" ∷ "typeof" ∷ "new" ∷ "void" ∷ "delete" ∷ "in" ∷ "<" ∷ ">" ∷ "<=" ∷ ">=" ∷ "==" ∷ "!=" ∷ "===" ∷ "!==" ∷ "+" ∷ "-" ∷ "*" ∷ "%" ∷ "++" ∷ "--" ∷ "<<" ∷ ">>" ∷ ">>>" ∷ "&" ∷ "|" ∷ "^" ∷ "!" ∷ "~" ∷ "&&" ∷ "||" ∷ "=" ∷ "+=" ∷ "-=" ∷ "*=" ∷ "%=" ∷ "<<=" ∷ ">>=" ∷ ">>>=" ∷ "&=" ∷ "|=" ∷ "^=" ∷ "/" ∷ "/=" ∷ []
+    ≡ "instanceof" ∷ "typeof" ∷ "case" ∷ "new" ∷ "void" ∷ "delete" ∷ "in" ∷ "<" ∷ ">" ∷ "<=" ∷ ">=" ∷ "==" ∷ "!=" ∷ "===" ∷ "!==" ∷ "+" ∷ "-" ∷ "*" ∷ "%" ∷ "++" ∷ "--" ∷ "<<" ∷ ">>" ∷ ">>>" ∷ "&" ∷ "|" ∷ "^" ∷ "!" ∷ "~" ∷ "&&" ∷ "||" ∷ "=" ∷ "+=" ∷ "-=" ∷ "*=" ∷ "%=" ∷ "<<=" ∷ ">>=" ∷ ">>>=" ∷ "&=" ∷ "|=" ∷ "^=" ∷ "/" ∷ "/=" ∷ []
 operator-rows = refl
 
 -- document 02, U4: "The four value words are followed by a divide"
@@ -78,18 +79,19 @@ comma-rows = refl
 pub semicolon-rows : classed Class.semicolon ≡ ";" ∷ []
 semicolon-rows = refl
 
--- "last is `return` ..; last is `( )` preceded by `if`", and the `function` of the exception
-pub return-rows : classed Class.returnWord ≡ "return" ∷ []
+-- "last is `return` ..; last is `( )` preceded by `if`", and the `function` of the exception; document 02, U6: "after `throw` as after `return`", "`( )`
+-- preceded by `while`, `for` or `with`"
+pub return-rows : classed Class.returnWord ≡ "return" ∷ "throw" ∷ []
 return-rows = refl
 
-pub if-rows : classed Class.ifWord ≡ "if" ∷ []
-if-rows = refl
+pub head-rows : classed Class.headWord ≡ "for" ∷ "while" ∷ "with" ∷ "if" ∷ []
+head-rows = refl
 
 pub function-rows : classed Class.functionWord ≡ "function" ∷ []
 function-rows = refl
 
--- the delimiters have no other class
-pub other-rows : classed Class.other ≡ "{" ∷ "}" ∷ "(" ∷ ")" ∷ "[" ∷ "]" ∷ []
+-- the other words, and the delimiters
+pub other-rows : classed Class.other ≡ "break" ∷ "do" ∷ "else" ∷ "var" ∷ "catch" ∷ "finally" ∷ "continue" ∷ "switch" ∷ "debugger" ∷ "default" ∷ "try" ∷ "{" ∷ "}" ∷ "(" ∷ ")" ∷ "[" ∷ "]" ∷ []
 other-rows = refl
 
 -- document 02, U4: "Precedence follows chapter 11": the words, then the signs, of a precedence, from 11.14 up to 11.5
@@ -133,5 +135,5 @@ pub bound-multiplicative : bound 12 ≡ "*" ∷ "%" ∷ "/" ∷ []
 bound-multiplicative = refl
 
 -- and those that stand between no two operands
-pub unbound : bound 0 ≡ "typeof" ∷ "new" ∷ "return" ∷ "void" ∷ "function" ∷ "this" ∷ "if" ∷ "delete" ∷ "null" ∷ "true" ∷ "false" ∷ "{" ∷ "}" ∷ "(" ∷ ")" ∷ "[" ∷ "]" ∷ "." ∷ ";" ∷ "++" ∷ "--" ∷ "!" ∷ "~" ∷ "?" ∷ ":" ∷ []
+pub unbound : bound 0 ≡ "break" ∷ "do" ∷ "typeof" ∷ "case" ∷ "else" ∷ "new" ∷ "var" ∷ "catch" ∷ "finally" ∷ "return" ∷ "void" ∷ "continue" ∷ "for" ∷ "switch" ∷ "while" ∷ "debugger" ∷ "function" ∷ "this" ∷ "with" ∷ "default" ∷ "if" ∷ "throw" ∷ "delete" ∷ "try" ∷ "null" ∷ "true" ∷ "false" ∷ "{" ∷ "}" ∷ "(" ∷ ")" ∷ "[" ∷ "]" ∷ "." ∷ ";" ∷ "++" ∷ "--" ∷ "!" ∷ "~" ∷ "?" ∷ ":" ∷ []
 unbound = refl

@@ -6,7 +6,8 @@ pub data Class : Type 0 where
   name : Class
   -- a number, string or regular expression; by document 02, U4, also what stands as one does: `this`, `null`, `true` or `false`, and `++` or `--` after its operand
   literal : Class
-  -- `/`, `+`, `=`, `++` or `--` before its operand, or any other operator but those below
+  -- `/`, `+`, `=`, `++` or `--` before its operand, or any other operator but those below; by document 02, U6, also what a brace stands behind as
+  -- behind one: `case`
   operator : Class
   -- `?`, and a `:` that answers one
   question : Class
@@ -19,12 +20,12 @@ pub data Class : Type 0 where
   comma : Class
   -- `;`
   semicolon : Class
-  -- a reserved word that is not taken, or a delimiter: none of them is a tree by itself
+  -- any reserved word but those named here, or a delimiter, which is no tree by itself
   other : Class
-  -- the words `return`, `function` and `if`
+  -- the words `return` and `throw`; `function`; and those behind whose `( )` a slash opens a pattern: `if`, `while`, `for` and `with`
   returnWord : Class
   functionWord : Class
-  ifWord : Class
+  headWord : Class
   -- `( )`, `[ ]`, an object and a block
   parens : Class
   brackets : Class
@@ -45,7 +46,7 @@ rank semicolon = 8
 rank other = 9
 rank returnWord = 10
 rank functionWord = 11
-rank ifWord = 12
+rank headWord = 12
 rank parens = 13
 rank brackets = 14
 rank object = 15

@@ -1,8 +1,8 @@
 -- Tokens as far as the grammar tells them apart: their classes, by number.
 use Prim.Native.Nat.{ℕ}
 
--- A number, string, regular expression, value word or operator has the number of the part that it marks, and so has a name that is an operand. A
--- sign that marks parts of two kinds has that of the part with two operands or, `++` and `--`, that of the part in which it stands before its operand; `new` has that of the part without arguments.
+-- A number, string, regular expression, value word, operator or word of a statement that U6 adds has the number of the part that it marks, and so has a name that is an operand. An
+-- operator that marks parts of two kinds has that of the part with two operands or, `++` and `--`, that of the part in which it stands before its operand; `new` has that of the part without arguments.
 abbrev pub name : ℕ
 name = 1
 
@@ -167,6 +167,55 @@ orAssign = 72
 -- `,`, which marks a part where it is an operator
 abbrev pub comma : ℕ
 comma = 73
+
+-- words of statements (document 02, U6), which have the number of the part that they mark: `for` that with two `;`, `continue` and `break` that with a label
+abbrev pub varWord : ℕ
+varWord = 74
+
+abbrev pub elseWord : ℕ
+elseWord = 77
+
+abbrev pub doWord : ℕ
+doWord = 78
+
+abbrev pub whileWord : ℕ
+whileWord = 79
+
+abbrev pub forWord : ℕ
+forWord = 80
+
+abbrev pub continueWord : ℕ
+continueWord = 83
+
+abbrev pub breakWord : ℕ
+breakWord = 85
+
+abbrev pub withWord : ℕ
+withWord = 86
+
+abbrev pub switchWord : ℕ
+switchWord = 87
+
+abbrev pub caseWord : ℕ
+caseWord = 88
+
+abbrev pub defaultWord : ℕ
+defaultWord = 89
+
+abbrev pub throwWord : ℕ
+throwWord = 90
+
+abbrev pub tryWord : ℕ
+tryWord = 91
+
+abbrev pub catchWord : ℕ
+catchWord = 92
+
+abbrev pub finallyWord : ℕ
+finallyWord = 93
+
+abbrev pub debuggerWord : ℕ
+debuggerWord = 94
 
 -- the others have numbers from 128 up, which meet no kind of a part. 128 is the end of the text (Machine.antt of `machine`), and a closer has the number
 -- behind its opener's

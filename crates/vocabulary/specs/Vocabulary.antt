@@ -7,7 +7,7 @@ use mathlib.Core.List.{List, [], _∷_}
 use lib.ListN.{getD}
 use Rattle.text.specs.Quoted.{bytes}
 use Rattle.vocabulary.specs.RuleClasses.{Class}
-use Rattle.vocabulary.specs.TokenClasses.{divide, plus, assign, thisWord, nullWord, trueWord, falseWord, newWord, deleteWord, voidWord, typeofWord, increment, decrement, complement, negation, multiply, remainder, minus, leftShift, rightShift, unsignedShift, less, greater, atMost, atLeast, instanceofWord, inWord, equal, unequal, identical, unidentical, bitAnd, bitXor, bitOr, logicalAnd, logicalOr, question, multiplyAssign, divideAssign, remainderAssign, plusAssign, minusAssign, leftShiftAssign, rightShiftAssign, unsignedShiftAssign, andAssign, xorAssign, orAssign, comma, colon, semicolon, dot, openParen, closeParen, openBrace, closeBrace, returnWord, functionWord, ifWord, openBracket, closeBracket}
+use Rattle.vocabulary.specs.TokenClasses.{divide, plus, assign, thisWord, nullWord, trueWord, falseWord, newWord, deleteWord, voidWord, typeofWord, increment, decrement, complement, negation, multiply, remainder, minus, leftShift, rightShift, unsignedShift, less, greater, atMost, atLeast, instanceofWord, inWord, equal, unequal, identical, unidentical, bitAnd, bitXor, bitOr, logicalAnd, logicalOr, question, multiplyAssign, divideAssign, remainderAssign, plusAssign, minusAssign, leftShiftAssign, rightShiftAssign, unsignedShiftAssign, andAssign, xorAssign, orAssign, comma, varWord, elseWord, doWord, whileWord, forWord, continueWord, breakWord, withWord, switchWord, caseWord, defaultWord, throwWord, tryWord, catchWord, finallyWord, debuggerWord, colon, semicolon, dot, openParen, closeParen, openBrace, closeBrace, returnWord, functionWord, ifWord, openBracket, closeBracket}
 
 -- a reserved word or a sign
 pub data Row : Type 0 where
@@ -19,17 +19,17 @@ pub data Row : Type 0 where
   taken : String → Class → ℕ → ℕ → Row
 
 -- "The 36 reserved words of ES5.1 section 7.6.1 are compared byte for byte. Taken here: `return`, `function`, `if`.", and, by document 02, U4,
--- "the word operators" and "`this`, `null`, `true`, `false`": the keywords (7.6.1.1) and the future reserved words (7.6.1.2), row by row as that
--- section prints them, and the null and Boolean literals (7.8.1, 7.8.2)
+-- "the word operators" and "`this`, `null`, `true`, `false`", and U6, "7 remains for the seven future words": the keywords (7.6.1.1) and the future
+-- reserved words (7.6.1.2), row by row as that section prints them, and the null and Boolean literals (7.8.1, 7.8.2)
 abbrev pub words : List Row
 words =
-    barred "break" ∷ barred "do" ∷ taken "instanceof" Class.operator instanceofWord 9 ∷ taken "typeof" Class.operator typeofWord 0 ∷
-    barred "case" ∷ barred "else" ∷ taken "new" Class.operator newWord 0 ∷ barred "var" ∷
-    barred "catch" ∷ barred "finally" ∷ taken "return" Class.returnWord returnWord 0 ∷ taken "void" Class.operator voidWord 0 ∷
-    barred "continue" ∷ barred "for" ∷ barred "switch" ∷ barred "while" ∷
-    barred "debugger" ∷ taken "function" Class.functionWord functionWord 0 ∷ taken "this" Class.literal thisWord 0 ∷ barred "with" ∷
-    barred "default" ∷ taken "if" Class.ifWord ifWord 0 ∷ barred "throw" ∷
-    taken "delete" Class.operator deleteWord 0 ∷ taken "in" Class.operator inWord 9 ∷ barred "try" ∷
+    taken "break" Class.other breakWord 0 ∷ taken "do" Class.other doWord 0 ∷ taken "instanceof" Class.operator instanceofWord 9 ∷ taken "typeof" Class.operator typeofWord 0 ∷
+    taken "case" Class.operator caseWord 0 ∷ taken "else" Class.other elseWord 0 ∷ taken "new" Class.operator newWord 0 ∷ taken "var" Class.other varWord 0 ∷
+    taken "catch" Class.other catchWord 0 ∷ taken "finally" Class.other finallyWord 0 ∷ taken "return" Class.returnWord returnWord 0 ∷ taken "void" Class.operator voidWord 0 ∷
+    taken "continue" Class.other continueWord 0 ∷ taken "for" Class.headWord forWord 0 ∷ taken "switch" Class.other switchWord 0 ∷ taken "while" Class.headWord whileWord 0 ∷
+    taken "debugger" Class.other debuggerWord 0 ∷ taken "function" Class.functionWord functionWord 0 ∷ taken "this" Class.literal thisWord 0 ∷ taken "with" Class.headWord withWord 0 ∷
+    taken "default" Class.other defaultWord 0 ∷ taken "if" Class.headWord ifWord 0 ∷ taken "throw" Class.returnWord throwWord 0 ∷
+    taken "delete" Class.operator deleteWord 0 ∷ taken "in" Class.operator inWord 9 ∷ taken "try" Class.other tryWord 0 ∷
     barred "class" ∷ barred "enum" ∷ barred "extends" ∷ barred "super" ∷
     barred "const" ∷ barred "export" ∷ barred "import" ∷
     taken "null" Class.literal nullWord 0 ∷ taken "true" Class.literal trueWord 0 ∷ taken "false" Class.literal falseWord 0 ∷

@@ -1,5 +1,5 @@
 -- What a level holds: how far it reaches, and what changes with no record written.
-use mathlib.Core.Path.{_≡_, refl, _∙_, ap}
+use mathlib.Core.Path.{_≡_, refl, sym, _∙_, ap}
 use mathlib.Core.List.{List, [], _∷_}
 use Prim.Native.Nat.{ℕ, _+_, _-_, _*_, _≤_, _<_}
 use native.Mathlib.Omega.{arith}
@@ -184,5 +184,43 @@ module _ {table : List ℕ} {first : ℕ} {done : Syntax} {l : Level} {stack cel
         starts = omega (arith, h .starts);
         counts = h .counts;
         written = h .written ∙ put-nested (putSyntax table first (lefts done ps)) (first + size (lefts done ps)) a b d;
+        few = h .few;
+      }
+
+  -- a left side that is one part alone is that part, and the other way round; or the part is the operand again, and nothing the left side
+  pub left-alone-held : {kind mark : ℕ} {value : Syntax} {ps : List Pending} → Holds table first done (pending kind mark (snoc nil value) ∷ ps) nil l stack cells
+      → Holds table first done (pending kind mark value ∷ ps) nil l stack cells
+  unfolding putSyntax
+  left-alone-held {value = value} {ps = ps} h =
+      record {
+        stacked = left-any (h .stacked);
+        starts = omega (arith, h .starts);
+        counts = h .counts;
+        written = h .written ∙ put-alone table first (lefts done ps) value;
+        few = h .few;
+      }
+
+  pub left-lone-held : {kind mark : ℕ} {value : Syntax} {ps : List Pending} → Holds table first done (pending kind mark value ∷ ps) nil l stack cells
+      → Holds table first done (pending kind mark (snoc nil value) ∷ ps) nil l stack cells
+  unfolding putSyntax
+  left-lone-held {value = value} {ps = ps} h =
+      record {
+        stacked = left-any (h .stacked);
+        starts = omega (arith, h .starts);
+        counts = h .counts;
+        written = h .written ∙ sym (put-alone table first (lefts done ps) value);
+        few = h .few;
+      }
+
+  pub undone-held : {kind mark : ℕ} {value : Syntax} {ps : List Pending} → Holds table first done (pending kind mark (snoc nil value) ∷ ps) nil l stack cells
+      → Holds table first done (pending kind mark nil ∷ ps) value (record { count = l .count; top = l .top; floor = l .floor; start = getD stack ((l .top - 1) * width + 2) 0; held = l .held }) stack cells
+  unfolding putSyntax
+  undone-held {value = value} {ps = ps} h =
+      let u = uppermost h in
+      record {
+        stacked = left-any (h .stacked);
+        starts = omega (arith, u .start-is);
+        counts = omega (arith, u .start-is, h .counts, h .starts);
+        written = h .written ∙ sym (put-nested table first (lefts done ps) nil value);
         few = h .few;
       }

@@ -3,11 +3,11 @@ use Prim.Native.Nat.{ℕ, _+_, _≤_, _<_}
 use mathlib.Core.Path.{_≡_, refl, _∙_}
 use mathlib.Core.Bool.{Bool, true, false}
 use native.Mathlib.Omega.{arith}
-use borrow.Author.Tests.{leb-true, leb-false, ne-eqb, le-leb, lt-leb}
+use borrow.Author.Tests.{leb-true, leb-false, le-leb, lt-leb}
 use lib.Dec.{leb, leb→le}
 use Rattle.machine.specs.Machinery.Machine.{newPrecedence, tightness}
 use Rattle.controls.proofs.ClassLaws.{at-number, no-precedence, late-tightness}
-use Rattle.waiting.specs.Machinery.Waiting.{nestKind, askKind, binding}
+use Rattle.waiting.specs.Machinery.Waiting.{nestKind, binding}
 
 -- kinds that no operator has
 none-tight : (kind : ℕ) → 74 ≤ kind → tightness kind ≡ 0
@@ -22,28 +22,21 @@ tightness-small kind = go (leb 74 kind) refl
         leb→le (tightness kind) newPrecedence
         (at-number (λ (k : ℕ). leb (tightness k) newPrecedence) 0 74 tt kind (omega arith) (omega (arith, leb-false 74 kind e)))
 
-pub operator-small : (kind : ℕ) → 1 ≤ tightness kind → kind < askKind
+pub operator-small : (kind : ℕ) → 1 ≤ tightness kind → kind < nestKind
 operator-small kind some = go (leb 74 kind) refl
   where
-    go : (b : Bool) → leb 74 kind ≡ b → kind < askKind
+    go : (b : Bool) → leb 74 kind ≡ b → kind < nestKind
     go true e = absurd (omega (arith, some, none-tight kind (leb-true 74 kind e)))
     go false e = omega (arith, leb-false 74 kind e)
 
 -- how tight each of what waits binds
-pub binding-nest : binding nestKind ≡ 0
+pub binding-nest : (kind : ℕ) → nestKind ≤ kind → binding kind ≡ 0
 unfolding binding
-binding-nest = refl
+binding-nest kind many = rw (le-leb nestKind kind many)
 
-pub binding-asked : (kind : ℕ) → askKind ≤ kind → binding kind ≡ 0
+pub binding-other : (kind : ℕ) → kind < nestKind → binding kind ≡ tightness kind + 1
 unfolding binding
-binding-asked kind many = rw (ne-eqb kind nestKind (λ e. omega arith), le-leb askKind kind many)
-
-pub binding-other : (kind : ℕ) → (kind ≡ nestKind → ⊥) → kind < askKind → binding kind ≡ tightness kind + 1
-unfolding binding
-binding-other kind other few = rw (ne-eqb kind nestKind other, lt-leb askKind kind few)
+binding-other kind few = rw (lt-leb nestKind kind few)
 
 pub binding-operator : (kind : ℕ) → 1 ≤ tightness kind → binding kind ≡ tightness kind + 1
-binding-operator kind some = binding-other kind (λ e. none (rw e at some)) (operator-small kind some)
-  where
-    none : 1 ≤ tightness nestKind → ⊥
-    none h = omega arith
+binding-operator kind some = binding-other kind (operator-small kind some)

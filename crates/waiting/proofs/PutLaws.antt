@@ -128,3 +128,15 @@ module _ {table : List ℕ} {first : ℕ} {done : Syntax} {ps : List Pending} {l
         written = h .written ∙ ap (λ i. putSyntax (putSyntax (putSyntax table first (lefts done ps)) (first + size (lefts done ps)) left) i value) a;
         few = h .few;
       }
+
+  -- what waits uppermost has another kind, and nothing stands behind it
+  pub kind-held : {kind mark : ℕ} {left : Syntax} (next : ℕ) → Holds table first done (pending kind mark left ∷ ps) nil l stack cells
+      → Holds table first done (pending next mark left ∷ ps) nil (restarted l) (stackAs stack (l .top) next) cells
+  kind-held next h =
+      record {
+        stacked = other-stacked next (h .stacked);
+        starts = omega (arith, h .counts, h .starts);
+        counts = omega arith;
+        written = h .written;
+        few = h .few;
+      }

@@ -1,26 +1,26 @@
 // What waits on a level for a part on its right, and the syntax records so far. What waits stands on a lent stack, three numbers each:
-// operators and beginnings of statements with their kind, their mark and their first syntax record; nests with 0, the number of the
-// setting around them and their first syntax record; an open `?` with a number that tells its expression, its mark and the first
-// syntax record of its condition.
+// operators and beginnings of statements with their kind, their mark and their first syntax record; nests with a number that tells what
+// they are and the setting around them, the mark of their word and their first syntax record; an open `?` with a number that tells its
+// expression, its mark and the first syntax record of its condition.
 ghost use mathlib.Core.Path.{_≡_};
 ghost use Prim.Native.Nat.{_+_, _-_, _*_, _≤_, _<_};
 ghost use lib.ListN.{length};
 ghost use Rattle.tables.specs.Records.{mostTrees, mostSyntax};
-ghost use Rattle.machine.specs.Tokens.{question};
 ghost use Rattle.controls.specs.Machinery.Written.{putRecord};
 ghost use Rattle.waiting.specs.Machinery.Waiting.{width, binding, Backed, Closes, Completes, stackWith, stackAs, waitingOne, madeOne, withHeld, restarted};
 use controls::bindings;
 use controls::records;
-use machine::tokens;
 
 // Numbers that what waits takes on the stack.
 pub const WIDTH: usize = 3;
 
-// In place of a kind, what stands for a nest.
-pub const NEST: u32 = 0;
+// In place of a kind, which is below: the least number that stands for a nest, and that stands for an open `?`.
+pub const NEST: u32 = 128;
 
-// The least number that stands for an open `?`.
 pub const ASK: u32 = 256;
+
+// How many settings the numbers of nests and of open `?`s have room for.
+pub const SETTINGS: u32 = 8;
 
 // A level: syntax records so far; how many parts wait, and how many on the levels around; the first syntax record of the operand; the
 // mark of a word or name that is held.
@@ -36,10 +36,7 @@ pub struct Level {
 fn binding(kind: u32) -> u32
     ensures { λ r. ⌜ r ≡ binding kind ⌝ }
 {
-    if kind == NEST {
-        return 0;
-    }
-    if ASK <= kind {
+    if NEST <= kind {
         return 0;
     }
     bindings::tightness(kind) + 1
@@ -97,12 +94,13 @@ pub fn wait(l: Level, kind: u32, mark: usize, waiting: &mut [u16]) -> Level
     }
 }
 
-// The operand is the rest of the left side of what waits uppermost, a `?` that is answered.
-pub fn answered(l: Level, waiting: &mut [u16]) -> Level
-    requires { ⌜ (1 ≤ l .top) × (l .top * width ≤ length (now waiting)) ⌝ }
-    ensures { λ r. ⌜ (r ≡ restarted l) × (now (waiting .exit) ≡ stackAs (now (waiting .entry)) (l .top) question) ⌝ }
+// The operand is the rest of the left side of what waits uppermost, which is of a kind now: a `?` that is answered, or a `do` that has its
+// statement.
+pub fn joined(l: Level, kind: u32, waiting: &mut [u16]) -> Level
+    requires { ⌜ (1 ≤ l .top) × (l .top * width ≤ length (now waiting)) × (kind < 65536) ⌝ }
+    ensures { λ r. ⌜ (r ≡ restarted l) × (now (waiting .exit) ≡ stackAs (now (waiting .entry)) (l .top) kind) ⌝ }
 {
-    waiting[(l.top - 1) * WIDTH] = tokens::QUESTION as u16;
+    waiting[(l.top - 1) * WIDTH] = kind as u16;
     Level {
         count: l.count,
         top: l.top,
@@ -153,5 +151,18 @@ pub fn holding(l: Level, word: usize) -> Level
         floor: l.floor,
         start: l.start,
         held: word,
+    }
+}
+
+// The same level once more (see `controls::copied`).
+pub fn copied(l: Level) -> Level
+    ensures { λ r. ⌜ r ≡ l ⌝ }
+{
+    Level {
+        count: l.count,
+        top: l.top,
+        floor: l.floor,
+        start: l.start,
+        held: l.held,
     }
 }

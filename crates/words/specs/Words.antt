@@ -1,5 +1,6 @@
 -- Document 01, Elements: "The 36 reserved words of ES5.1 section 7.6.1 are compared byte for byte. Taken here: `return`,
--- `function`, `if`." and, by document 02, U4, the word operators and `this`, `null`, `true`, `false`. The words are those of the vocabulary.
+-- `function`, `if`." and, by document 02, U4, the word operators and `this`, `null`, `true`, `false`, and, by U6, all others but "the seven future words".
+-- The words are those of the vocabulary.
 use Prim.Native.Nat.{ℕ, _+_}
 use mathlib.Core.List.{List, [], _∷_}
 use mathlib.Core.Bool.{Bool, cond}

@@ -9,10 +9,12 @@ ghost use Rattle.text.specs.Runs.{same};
 ghost use Rattle.words.specs.Words.{wordNumber, taken};
 ghost use Rattle.words.specs.Machinery.Run.{word, wordLetters, wordLengths, lettersBefore, admits, slotOf};
 
-// The numbers of the words that are taken here.
+// The numbers of the words that the prefix rule tells apart.
 pub const INSTANCEOF: u32 = 3;
 
 pub const TYPEOF: u32 = 4;
+
+pub const CASE: u32 = 5;
 
 pub const NEW: u32 = 7;
 
@@ -20,11 +22,19 @@ pub const RETURN: u32 = 11;
 
 pub const VOID: u32 = 12;
 
+pub const FOR: u32 = 14;
+
+pub const WHILE: u32 = 16;
+
 pub const FUNCTION: u32 = 18;
 
 pub const THIS: u32 = 19;
 
+pub const WITH: u32 = 20;
+
 pub const IF: u32 = 22;
+
+pub const THROW: u32 = 23;
 
 pub const DELETE: u32 = 24;
 
@@ -184,27 +194,18 @@ pub fn word_number(name: &[u8]) -> u32
     0
 }
 
-// The words that are taken here: a bit for each, at its number.
-const TAKEN: u64 = 1 << INSTANCEOF
-    | 1 << TYPEOF
-    | 1 << NEW
-    | 1 << RETURN
-    | 1 << VOID
-    | 1 << FUNCTION
-    | 1 << THIS
-    | 1 << IF
-    | 1 << DELETE
-    | 1 << IN
-    | 1 << NULL
-    | 1 << TRUE
-    | 1 << FALSE;
+// The first of the seven future reserved words, which are not taken here. Next behind them is `null`.
+const CLASS: u32 = 27;
 
 // Whether the word of a number is taken here.
 pub fn is_taken(number: u32) -> bool
     ensures { λ r. ⌜ r ≡ taken number ⌝ }
 {
-    if number > FALSE {
+    if number < CLASS {
+        return 0 < number;
+    }
+    if number < NULL {
         return false;
     }
-    TAKEN >> number & 1 == 1
+    number <= FALSE
 }

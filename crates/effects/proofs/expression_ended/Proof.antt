@@ -18,7 +18,7 @@ same-length : tie.Need-same-length
 same-length c = search needs
 
 returns : tie.Need-returns
-returns c = expression-affects 0 (c .before .before .before .before .before .before .before .before .before .before .before .before .before .before .args .mark) (c .before .before .before .before .before .before .before .before .before .before .closed .ensures) (c .before .before .before .before .before .before .made .ensures) (c .before .before .completed .ensures)
+returns c = expression-affects (c .before .before .before .before .before .before .before .before .before .before .before .before .before .before .args .mark) (c .before .before .before .before .before .before .before .before .before .before .closed .ensures) (c .before .before .before .before .before .before .made .ensures) (c .before .before .completed .ensures)
 
 pub expression-ended-spec : {M : Type 1} → statement M
 expression-ended-spec =

@@ -1,5 +1,6 @@
 -- The `new`s that wait are closed, and the record is put.
 use borrow.Author.Needs.{needs}
+use Rattle.machine.specs.Operators.{postfixKind}
 use Rattle.effects.proofs.AffectLaws.{operand-asks, postfix-affects}
 use Rattle.effects.proofs.postfixed.Statement.{statement}
 use Rattle.effects.proofs.postfixed.Tie as tie
@@ -19,7 +20,7 @@ same-length c = search needs
 returns : tie.Need-returns
 returns c =
     let start = c .before .before .before .before .before .before .before .before .before .before .before in
-    postfix-affects (start .args .class) (start .args .mark) (c .before .before .before .before .postfix-kind .ensures) (c .before .before .before .before .before .before .before .closed .ensures) (c .before .before .made .ensures)
+    postfix-affects (postfixKind (start .args .class)) (start .args .mark) (c .before .before .before .before .postfix-kind .ensures) (c .before .before .before .before .before .before .before .closed .ensures) (c .before .before .made .ensures)
 
 pub postfixed-spec : {M : Type 1} → statement M
 postfixed-spec =

@@ -1,6 +1,7 @@
 -- The operator waits, with nothing on its left.
 use borrow.Author.Needs.{needs}
 use native.Mathlib.Omega.{arith}
+use Rattle.machine.specs.Operators.{prefixKind}
 use Rattle.effects.proofs.AffectLaws.{prefix-asks, prefix-affects}
 use Rattle.effects.proofs.prefixed.Statement.{statement}
 use Rattle.effects.proofs.prefixed.Tie as tie
@@ -17,7 +18,7 @@ same-length c = search needs
 returns : tie.Need-returns
 returns c =
     let start = c .before .before .before .before .before .before .before in
-    prefix-affects (start .args .class) (start .args .mark) (omega (arith, start .pre .marked)) (start .pre .room) (c .before .before .before .before .prefix-kind .ensures) (c .before .before .wait .ensures)
+    prefix-affects (prefixKind (start .args .class)) (start .args .mark) (omega (arith, start .pre .marked)) (start .pre .room) (c .before .before .before .before .prefix-kind .ensures) (c .before .before .wait .ensures)
 
 pub prefixed-spec : {M : Type 1} → statement M
 prefixed-spec = tie.close (tie.spec prefix-kind-requires wait-requires same-length returns)

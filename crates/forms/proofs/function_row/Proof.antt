@@ -34,7 +34,7 @@ declared-row-requires c κs = search needs
 
 returns : tie.Need-returns
 unfolding controlBy effectBy
-returns c = λ h no-nest no-name newline.
+returns c = λ h past newline.
     let a = c .before .before .args in
     rw (c .before .match .keys1)
     (besides-closers (c .only .ensures _ tt to-parameter)
@@ -43,7 +43,7 @@ returns c = λ h no-nest no-name newline.
 
 returns-2 : tie.Need-returns-2
 unfolding controlBy effectBy
-returns-2 c = λ h no-nest no-name newline.
+returns-2 c = λ h past newline.
     let a = c .before .before .args in
     rw (c .before .match .keys2)
     (besides-closers (c .only2 .ensures _ tt to-next-parameter)
@@ -52,26 +52,26 @@ returns-2 c = λ h no-nest no-name newline.
 
 returns-3 : tie.Need-returns-3
 unfolding controlBy
-returns-3 c = λ h no-nest no-name newline. rw (c .before .match .keys3) (c .unnamed-row .ensures)
+returns-3 c = λ h past newline. rw (c .before .match .keys3) (c .unnamed-row .ensures)
 
 returns-4 : tie.Need-returns-4
 unfolding controlBy closingBy insideBy
-returns-4 c = λ h no-nest no-name newline.
+returns-4 c = λ h past newline.
     rw (c .before .match .keys4)
     (c .opens .ensures _ tt past-parameter)
 
 returns-5 : tie.Need-returns-5
 unfolding controlBy closingBy insideBy
-returns-5 c = λ h no-nest no-name newline.
+returns-5 c = λ h past newline.
     rw (c .before .match .keys5)
     (c .opens2 .ensures _ tt past-function)
 
 returns-6 : tie.Need-returns-6
-returns-6 c = λ h no-nest no-name newline.
+returns-6 c = λ h past newline.
     let rest = c .before .match .rest in
     let a = c .before .before .args in
     let place = a .place in
-    c .declared-row .ensures (beyond 14 place (beyond 13 place (beyond 12 place (beyond 11 place (beyond 10 place h (rest .0 .0 .0 .0 .1)) (rest .0 .0 .0 .1)) (rest .0 .0 .1)) (rest .0 .1)) (rest .1)) no-nest no-name (a .ending) (a .setting) (a .flag) newline
+    c .declared-row .ensures (beyond 37 place (beyond 36 place (beyond 35 place (beyond 34 place (beyond 33 place h (rest .0 .0 .0 .0 .1)) (rest .0 .0 .0 .1)) (rest .0 .0 .1)) (rest .0 .1)) (rest .1)) past (a .ending) (a .setting) (a .flag) newline
 
 pub function-row-spec : {M : Type 1} → statement M
 function-row-spec =

@@ -2,12 +2,11 @@
 use borrow.Author.Needs.{needs}
 use Prim.Native.Nat.{ℕ}
 use mathlib.Core.Path.{_≡_, refl}
-use mathlib.Core.Bool.{true}
 use mathlib.Core.List.{[]}
 use borrow.Author.Tests.{ne-eqb}
 use Rattle.machine.specs.Scopes.{callArguments}
-use Rattle.machine.specs.Machinery.Machine.{keep, byItem, itemDue, propertyNamed, fail, goto, look, names}
-use Rattle.controls.specs.Machinery.Numbers.{itemsBy, endingBy, controlBy, effectBy}
+use Rattle.machine.specs.Machinery.Machine.{someTarget, keep, byItem, itemDue, propertyNamed, fail, goto, look, names}
+use Rattle.controls.specs.Machinery.Numbers.{itemsBy, endingBy, targetBy, controlBy, effectBy}
 use Rattle.controls.specs.Machinery.Steps.{due-item, to-property}
 use Rattle.controls.proofs.EndLaws.{at-closers, besides-closers}
 use Rattle.forms.proofs.FormLaws.{operand-closers}
@@ -18,10 +17,10 @@ operand-row-requires : tie.Need-operand-row-requires
 operand-row-requires c κs = search needs
 
 returns : tie.Need-returns
-unfolding itemsBy endingBy
+unfolding itemsBy endingBy targetBy
 returns c =
     rw (c .before .if1 .taken)
-    (besides-closers (c .operand-row .ensures (itemDue callArguments) due-item tt) (operand-closers (byItem callArguments) true (c .before .before .args .class))
+    (besides-closers (c .operand-row .ensures (itemDue callArguments) due-item tt) (operand-closers (byItem callArguments) someTarget (c .before .before .args .class))
     (λ none. rw (none .no-paren)))
 
 element-row-requires : tie.Need-element-row-requires
@@ -38,7 +37,7 @@ returns-3 : tie.Need-returns-3
 unfolding itemsBy controlBy effectBy
 returns-3 c =
     let a = c .before .before .before .args in
-    rw (ne-eqb (a .ending) 5 (c .before .before .if1 .left), ne-eqb (a .ending) 6 (c .before .if2 .left))
+    rw (ne-eqb (a .ending) 15 (c .before .before .if1 .left), ne-eqb (a .ending) 16 (c .before .if2 .left))
     (besides-closers (c .only-names .ensures _ to-property)
     (at-closers (λ (k : ℕ). look k (names (goto propertyNamed keep) []) ≡ fail) refl refl refl refl (a .class))
     (λ none. rw (none .no-brace)))

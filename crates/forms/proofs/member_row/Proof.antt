@@ -1,7 +1,7 @@
 -- `member_row` is the machine's row behind `new`, entry by entry.
 use borrow.Author.Needs.{needs}
 use mathlib.Core.Path.{sym, _∙_}
-use Rattle.controls.specs.Machinery.Numbers.{endingBy, controlBy, effectBy, closingBy, insideBy}
+use Rattle.controls.specs.Machinery.Numbers.{endingBy, targetBy, controlBy, effectBy, closingBy, insideBy}
 use Rattle.controls.specs.Machinery.Steps.{to-leaf, to-function, to-new, past-parens, past-object, past-array, means-fail}
 use Rattle.forms.proofs.FormLaws.{leaf-row, no-member}
 use Rattle.forms.proofs.member_row.Statement.{statement}
@@ -17,7 +17,7 @@ returns : tie.Need-returns
 unfolding controlBy effectBy
 returns c = λ from due.
     let a = c .before .before .before .args in
-    let l = leaf-row (a .class) (endingBy (a .ending) (a .setting)) (a .target) (sym (c .before .before .is-leaf .ensures) ∙ c .before .if1 .taken) in
+    let l = leaf-row (a .class) (endingBy (a .ending) (a .setting)) (targetBy (a .ending) (a .target)) (sym (c .before .before .is-leaf .ensures) ∙ c .before .if1 .taken) in
     rw (l .0) (c .goto .ensures _ _ (l .1) (to-leaf due))
 
 push-requires : tie.Need-push-requires
@@ -58,7 +58,7 @@ returns-6 c = λ from due. rw (c .before .if6 .taken) (c .goto3 .ensures _ _ tt 
 returns-7 : tie.Need-returns-7
 returns-7 c = λ from due.
     let a = c .before .before .before .before .before .before .before .args in
-    rw (no-member (a .class) (endingBy (a .ending) (a .setting)) (a .target) (sym (c .before .before .before .before .before .before .is-leaf .ensures) ∙ c .before .before .before .before .before .if1 .left) (c .before .before .before .before .if2 .left) (c .before .before .before .if3 .left) (c .before .before .if4 .left) (c .before .if5 .left) (c .if6 .left))
+    rw (no-member (a .class) (endingBy (a .ending) (a .setting)) (targetBy (a .ending) (a .target)) (sym (c .before .before .before .before .before .before .is-leaf .ensures) ∙ c .before .before .before .before .before .if1 .left) (c .before .before .before .before .if2 .left) (c .before .before .before .if3 .left) (c .before .before .if4 .left) (c .before .if5 .left) (c .if6 .left))
     means-fail
 
 pub member-row-spec : {M : Type 1} → statement M

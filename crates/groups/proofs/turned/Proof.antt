@@ -26,10 +26,10 @@ cast-number : tie.Need-cast-number
 cast-number c = omega (arith, c .slice-known4 .given ((c .before .before .before .before .closed .result .top - 1) * 3))
 
 sub-number-2 : tie.Need-sub-number-2
-sub-number-2 c = (turn-asks (c .before .before .before .before .before .before .before .before .before .pre) (c .before .before .before .before .closed .ensures)) .many
+sub-number-2 c = (turn-asks (c .before .before .before .before .before .before .before .before .before .pre) (c .before .before .before .before .closed .ensures)) .many .0
 
-answered-requires : tie.Need-answered-requires
-answered-requires c κs = let t = turn-asks (c .before .before .before .before .before .before .before .before .before .before .pre) (c .before .before .before .before .before .closed .ensures) in (t .waits, t .fits)
+joined-requires : tie.Need-joined-requires
+joined-requires c κs = let t = turn-asks (c .before .before .before .before .before .before .before .before .before .before .pre) (c .before .before .before .before .before .closed .ensures) in (t .waits, t .fits, omega arith)
 
 stand-requires : tie.Need-stand-requires
 stand-requires c κs = search needs
@@ -41,7 +41,7 @@ same-length-2 : tie.Need-same-length-2
 same-length-2 c = search needs
 
 returns : tie.Need-returns
-returns c = turns-there _ (c .before .before .before .before .before .before .before .before .before .closed .ensures) refl (c .before .before .before .answered .ensures) (c .stand .ensures)
+returns c = turns-there _ (c .before .before .before .before .before .before .before .before .before .closed .ensures) refl (c .before .before .before .joined .ensures) (c .stand .ensures)
 
 pub turned-spec : {M : Type 1} → statement M
 turned-spec =
@@ -54,7 +54,7 @@ turned-spec =
     slice-read-number
     cast-number
     sub-number-2
-    answered-requires
+    joined-requires
     stand-requires
     same-length
     same-length-2

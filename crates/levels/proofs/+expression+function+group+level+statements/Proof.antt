@@ -31,9 +31,11 @@ use Rattle.rows.proofs.row.Reads as row-reads
 use Rattle.controls.proofs.stand.Reads as stand-reads
 use Rattle.effects.proofs.affect.Reads as affect-reads
 use Rattle.groups.proofs.close.Reads as close-reads
+use Rattle.groups.proofs.closing_by.Reads as closing-by-reads
 use Rattle.frames.proofs.empty.Reads as empty-reads
 use Rattle.groups.proofs.at_closer.Reads as at-closer-reads
 use Rattle.groups.proofs.entered.Reads as entered-reads
+use Rattle.controls.proofs.entered.Reads as inside-entered-reads
 use Rattle.groups.proofs.asked.Reads as asked-reads
 use Rattle.groups.proofs.turned.Reads as turned-reads
 use Rattle.frames.proofs.ready.Reads as ready-reads
@@ -106,7 +108,7 @@ abbrev group-claims : ℕ → group-lts.Claims
 group-claims t = (inside-reads.Asked, inside-reads.Learnt, closer-at-reads.Asked, closer-at-reads.Learnt, statements-below t, statements.Post, function-below t, function.Post, expression-below t, expression.Post)
 
 abbrev level-claims : ℕ → level-lts.Claims
-level-claims t = (empty-reads.Asked, empty-reads.Learnt, class-at-reads.Asked, class-at-reads.Learnt, newline-at-reads.Asked, newline-at-reads.Learnt, ready-reads.Asked, ready-reads.Learnt, row-reads.Asked, row-reads.Learnt, place-at-reads.Asked, place-at-reads.Learnt, affect-reads.Asked, affect-reads.Learnt, entered-reads.Asked, entered-reads.Learnt, asked-reads.Asked, asked-reads.Learnt, turned-reads.Asked, turned-reads.Learnt, group-below t, group.Post, close-reads.Asked, close-reads.Learnt, size-at-reads.Asked, size-at-reads.Learnt, at-closer-reads.Asked, at-closer-reads.Learnt)
+level-claims t = (empty-reads.Asked, empty-reads.Learnt, class-at-reads.Asked, class-at-reads.Learnt, newline-at-reads.Asked, newline-at-reads.Learnt, ready-reads.Asked, ready-reads.Learnt, row-reads.Asked, row-reads.Learnt, place-at-reads.Asked, place-at-reads.Learnt, affect-reads.Asked, affect-reads.Learnt, entered-reads.Asked, entered-reads.Learnt, inside-entered-reads.Asked, inside-entered-reads.Learnt, asked-reads.Asked, asked-reads.Learnt, turned-reads.Asked, turned-reads.Learnt, group-below t, group.Post, closing-by-reads.Asked, closing-by-reads.Learnt, close-reads.Asked, close-reads.Learnt, size-at-reads.Asked, size-at-reads.Learnt, at-closer-reads.Asked, at-closer-reads.Learnt)
 
 abbrev statements-claims : ℕ → statements-lts.Claims
 statements-claims t = (stand-reads.Asked, stand-reads.Learnt, level-below t, level.Post)
@@ -198,17 +200,17 @@ level-μ-loop text trees base close closer waiting₀ top syntax₀ count number
 
 -- a turn of the loop, up to its step
 turn : (t : ℕ) (c : level-lts.After-row (level-claims t) (level-at t) level.Post level-Inv-loop level-μ-loop) → Arrival
-    (segment (c .before .before .before .before .before .before .before .before .before .before .before .before .before .before .before .args .text .now) (c .before .before .before .before .before .before .before .before .before .before .before .before .before .before .before .args .trees .now) (c .before .before .before .before .before .before .before .before .before .before .before .before .before .before .before .args .base) (c .before .before .before .before .before .before .before .before .before .before .before .before .before .before .before .args .close))
-    (controlOf (c .before .before .before .before .before .before .before .before .before .before .before .before .before .before .before .args .from)) (c .before .before .before .before .before .before .before .before .before .before .before .before .before .before .before .args .count) (c .before .before .before .before .before .before .before .before .before .before .before .before .before .before .before .args .top) (c .before .before .before .before .before .before .before .before .before .before .before .before .before .before .before .args .syntax .now) (c .before .before .before .before .before .before .before .before .before .before .before .before .before .before .before .args .waiting .now)
-    (c .before .before .before .before .before .before .before .before .before .loop .control) (c .before .before .before .before .before .before .before .before .before .loop .l) (c .before .before .before .before .before .before .before .before .before .loop .at) (c .before .before .before .before .before .before .before .before .before .loop .syntax) (c .before .before .before .before .before .before .before .before .before .loop .waiting)
-    (c .before .before .before .before .before .before .before .class-at .result) (c .before .before .before .before .before .before .newline-at .result) (c .before .before .before .ready .result) (c .before .before .before .ready .last .1 .1 .1 .1 .0) (c .row .result)
+    (segment (c .before .before .before .before .before .before .before .before .before .before .before .before .before .before .before .before .before .args .text .now) (c .before .before .before .before .before .before .before .before .before .before .before .before .before .before .before .before .before .args .trees .now) (c .before .before .before .before .before .before .before .before .before .before .before .before .before .before .before .before .before .args .base) (c .before .before .before .before .before .before .before .before .before .before .before .before .before .before .before .before .before .args .close))
+    (controlOf (c .before .before .before .before .before .before .before .before .before .before .before .before .before .before .before .before .before .args .from)) (c .before .before .before .before .before .before .before .before .before .before .before .before .before .before .before .before .before .args .count) (c .before .before .before .before .before .before .before .before .before .before .before .before .before .before .before .before .before .args .top) (c .before .before .before .before .before .before .before .before .before .before .before .before .before .before .before .before .before .args .syntax .now) (c .before .before .before .before .before .before .before .before .before .before .before .before .before .before .before .before .before .args .waiting .now)
+    (c .before .before .before .before .before .before .before .before .before .before .before .loop .control) (c .before .before .before .before .before .before .before .before .before .before .before .loop .l) (c .before .before .before .before .before .before .before .before .before .before .before .loop .at) (c .before .before .before .before .before .before .before .before .before .before .before .loop .syntax) (c .before .before .before .before .before .before .before .before .before .before .before .loop .waiting)
+    (c .before .before .before .before .before .before .before .before .before .class-at .result) (c .before .before .before .before .before .before .before .before .newline-at .result) (c .before .before .before .before .before .ready .result) (c .before .before .before .before .before .ready .last .1 .1 .1 .0) (c .before .before .before .before .before .ready .last .1 .1 .1 .1 .0) (c .row .result)
 turn t c = record {
-  fine = c .before .before .before .before .before .before .before .before .before .before .before .before .before .before .before .pre .1 .0 .fine;
-  underway = c .before .before .before .before .before .before .before .before .before .loop .inv .2;
-  here = c .before .before .before .before .before .before .before .before .loop-test .taken;
-  is = c .before .before .before .before .before .before .before .class-at .ensures;
-  lined = c .before .before .before .before .before .before .newline-at .ensures;
-  readies = c .before .before .before .ready .ensures;
+  fine = c .before .before .before .before .before .before .before .before .before .before .before .before .before .before .before .before .before .pre .1 .0 .fine;
+  underway = c .before .before .before .before .before .before .before .before .before .before .before .loop .inv .2;
+  here = c .before .before .before .before .before .before .before .before .before .before .loop-test .taken;
+  is = c .before .before .before .before .before .before .before .before .before .class-at .ensures;
+  lined = c .before .before .before .before .before .before .before .before .newline-at .ensures;
+  readies = c .before .before .before .before .before .ready .ensures;
   steps = c .row .ensures;
 }
 
@@ -237,67 +239,70 @@ level-place-at-requires : (t : ℕ) → level-lts.Need-place-at-requires (level-
 level-place-at-requires t c κs = tt
 
 level-same-length : (t : ℕ) → level-lts.Need-same-length (level-claims t) (level-at t) level.Post level-Inv-loop level-μ-loop
-level-same-length t c = c .before .before .before .before .before .before .before .before .before .before .before .before .loop .inv .1
+level-same-length t c = c .before .before .before .before .before .before .before .waiting .given ∙ c .before .before .before .before .before .before .before .before .before .before .before .before .before .before .loop .inv .1
 
 level-same-length-2 : (t : ℕ) → level-lts.Need-same-length-2 (level-claims t) (level-at t) level.Post level-Inv-loop level-μ-loop
-level-same-length-2 t c = c .before .before .before .before .before .syntax .given ∙ c .before .before .before .before .before .before .before .before .before .before .before .before .loop .inv .0
+level-same-length-2 t c = c .before .before .before .before .before .syntax .given ∙ c .before .before .before .before .before .before .before .before .before .before .before .before .before .before .loop .inv .0
 
 level-returns : (t : ℕ) → level-lts.Need-returns (level-claims t) (level-at t) level.Post level-Inv-loop level-μ-loop
-level-returns t c = fails (turn t (c .before .before .before)) ((c .before .enum-told) .given .1) ((c .place-at) .ensures)
+level-returns t c = fails (turn t (c .before .before .before)) (c .before .enum-told .given .1) (c .place-at .ensures)
 
 level-enum-known-step : (t : ℕ) → level-lts.Need-enum-known-step (level-claims t) (level-at t) level.Post level-Inv-loop level-μ-loop
 level-enum-known-step t c = c .match .keys2
 
 level-add-affect : (t : ℕ) → level-lts.Need-add-affect (level-claims t) (level-at t) level.Post level-Inv-loop level-μ-loop
-level-add-affect t c = omega (arith, (c .before .before .before .before .before .before .before .before .before .before .before .loop-test) .taken, (c .before .before .before .before .before .before .before .before .before .before .before .before .before .before .before .before .before .before) .pre .1 .0 .fine .few)
+level-add-affect t c = omega (arith, c .before .before .before .before .before .before .before .before .before .before .before .before .before .loop-test .taken, c .before .before .before .before .before .before .before .before .before .before .before .before .before .before .before .before .before .before .before .before .pre .1 .0 .fine .few)
 
 level-affect-requires : (t : ℕ) → level-lts.Need-affect-requires (level-claims t) (level-at t) level.Post level-Inv-loop level-μ-loop
-level-affect-requires t c κs = may-affect (turn t (c .before .before .before .before .before)) ((c .before .before .before .step) .given .1)
+level-affect-requires t c κs = may-affect (turn t (c .before .before .before .before .before)) (c .before .before .before .step .given .1)
 
 level-add-at : (t : ℕ) → level-lts.Need-add-at (level-claims t) (level-at t) level.Post level-Inv-loop level-μ-loop
-level-add-at t c = omega (arith, (c .before .before .before .before .before .before .before .before .before .before .before .before .before .before .before .before .before .before .loop-test) .taken, (c .before .before .before .before .before .before .before .before .before .before .before .before .before .before .before .before .before .before .before .before .before .before .before .before .before) .pre .1 .0 .fine .few)
+level-add-at t c = omega (arith, c .before .before .before .before .before .before .before .before .before .before .before .before .before .before .before .before .before .before .before .before .loop-test .taken, c .before .before .before .before .before .before .before .before .before .before .before .before .before .before .before .before .before .before .before .before .before .before .before .before .before .before .before .pre .1 .0 .fine .few)
 
 level-loop-less : (t : ℕ) → level-lts.Need-loop-less (level-claims t) (level-at t) level.Post level-Inv-loop level-μ-loop
-level-loop-less t c = search needs
+level-loop-less t c = omega (arith, c .before .before .before .before .before .before .before .before .before .before .before .before .before .before .before .before .before .before .before .before .loop-test .taken)
 
 level-loop-again : (t : ℕ) → level-lts.Need-loop-again (level-claims t) (level-at t) level.Post level-Inv-loop level-μ-loop
-level-loop-again t c = ((c .before .syntax2) .given ∙ (c .before .before .before .before .before .before .before .before .before .before .before .before .syntax) .given ∙ (c .before .before .before .before .before .before .before .before .before .before .before .before .before .before .before .before .before .before .before .loop) .inv .0, (c .before .before .before .waiting) .given ∙ (c .before .before .before .before .before .before .before .before .before .before .before .before .before .before .before .before .before .before .before .loop) .inv .1, affected (turn t (c .before .before .before .before .before .before .before .before .before .before)) ((c .before .before .before .before .before .before .before .before .step) .given .1) ((c .before .before .before .before .affect) .ensures) ((c .before .before .before .waiting) .given))
+level-loop-again t c = (c .before .syntax2 .given ∙ c .before .before .before .before .before .before .before .before .before .before .before .before .syntax .given ∙ c .before .before .before .before .before .before .before .before .before .before .before .before .before .before .before .before .before .before .before .before .before .loop .inv .0, c .before .before .before .waiting2 .given ∙ c .before .before .before .before .before .before .before .before .before .before .before .before .before .before .waiting .given ∙ c .before .before .before .before .before .before .before .before .before .before .before .before .before .before .before .before .before .before .before .before .before .loop .inv .1, affected (turn t (c .before .before .before .before .before .before .before .before .before .before)) (c .before .before .before .before .before .before .before .before .step .given .1) (c .before .before .before .before .affect .ensures) (c .before .before .before .waiting2 .given))
 
 level-enum-known-step-2 : (t : ℕ) → level-lts.Need-enum-known-step-2 (level-claims t) (level-at t) level.Post level-Inv-loop level-μ-loop
 level-enum-known-step-2 t c = c .match .keys3
 
 level-add-entered : (t : ℕ) → level-lts.Need-add-entered (level-claims t) (level-at t) level.Post level-Inv-loop level-μ-loop
-level-add-entered t c = omega (arith, (c .before .before .before .before .before .before .before .before .before .before .before .loop-test) .taken, (c .before .before .before .before .before .before .before .before .before .before .before .before .before .before .before .before .before .before) .pre .1 .0 .fine .few)
+level-add-entered t c = omega (arith, c .before .before .before .before .before .before .before .before .before .before .before .before .before .loop-test .taken, c .before .before .before .before .before .before .before .before .before .before .before .before .before .before .before .before .before .before .before .before .pre .1 .0 .fine .few)
 
 level-entered-requires : (t : ℕ) → level-lts.Need-entered-requires (level-claims t) (level-at t) level.Post level-Inv-loop level-μ-loop
-level-entered-requires t c κs = may-enter (turn t (c .before .before .before .before .before)) ((c .before .before .before .step2) .given .1)
+level-entered-requires t c κs = may-enter (turn t (c .before .before .before .before .before)) (c .before .before .before .step2 .given .1)
+
+level-entered-requires-2 : (t : ℕ) → level-lts.Need-entered-requires-2 (level-claims t) (level-at t) level.Post level-Inv-loop level-μ-loop
+level-entered-requires-2 t c κs = tt
 
 level-add-at-2 : (t : ℕ) → level-lts.Need-add-at-2 (level-claims t) (level-at t) level.Post level-Inv-loop level-μ-loop
-level-add-at-2 t c = omega (arith, (c .before .before .before .before .before .before .before .before .before .before .before .before .before .before .before .before .loop-test) .taken, (c .before .before .before .before .before .before .before .before .before .before .before .before .before .before .before .before .before .before .before .before .before .before .before) .pre .1 .0 .fine .few)
+level-add-at-2 t c = omega (arith, c .before .before .before .before .before .before .before .before .before .before .before .before .before .before .before .before .before .before .before .before .before .loop-test .taken, c .before .before .before .before .before .before .before .before .before .before .before .before .before .before .before .before .before .before .before .before .before .before .before .before .before .before .before .before .pre .1 .0 .fine .few)
 
 level-loop-less-2 : (t : ℕ) → level-lts.Need-loop-less-2 (level-claims t) (level-at t) level.Post level-Inv-loop level-μ-loop
-level-loop-less-2 t c = search needs
+level-loop-less-2 t c = omega (arith, c .before .before .before .before .before .before .before .before .before .before .before .before .before .before .before .before .before .before .before .before .before .loop-test .taken)
 
 level-loop-again-2 : (t : ℕ) → level-lts.Need-loop-again-2 (level-claims t) (level-at t) level.Post level-Inv-loop level-μ-loop
-level-loop-again-2 t c = ((c .before .before .before .before .before .before .before .before .before .before .syntax) .given ∙ (c .before .before .before .before .before .before .before .before .before .before .before .before .before .before .before .before .before .loop) .inv .0, (c .before .waiting2) .given ∙ (c .before .before .before .before .before .before .before .before .before .before .before .before .before .before .before .before .before .loop) .inv .1, entered (turn t (c .before .before .before .before .before .before .before .before)) ((c .before .before .before .before .before .before .step2) .given .1) ((c .before .before .entered) .ensures) ((c .before .waiting2) .given))
+level-loop-again-2 t c = (c .before .before .syntax3 .given ∙ c .before .before .before .before .before .before .before .before .before .before .before .before .before .syntax .given ∙ c .before .before .before .before .before .before .before .before .before .before .before .before .before .before .before .before .before .before .before .before .before .before .loop .inv .0, c .before .before .before .before .waiting3 .given ∙ c .before .before .before .before .before .before .before .before .before .before .before .before .before .before .before .waiting .given ∙ c .before .before .before .before .before .before .before .before .before .before .before .before .before .before .before .before .before .before .before .before .before .before .loop .inv .1, entered (turn t (c .before .before .before .before .before .before .before .before .before .before .before)) (c .before .before .before .before .before .before .before .before .before .step2 .given .1) (c .entered2 .ensures) (c .before .before .before .before .before .entered .ensures) (c .before .before .before .before .waiting3 .given))
 
 level-enum-told-2 : (t : ℕ) → level-lts.Need-enum-told-2 (level-claims t) (level-at t) level.Post level-Inv-loop level-μ-loop
 level-enum-told-2 t c = c .match .keys4
 
 level-add-asked : (t : ℕ) → level-lts.Need-add-asked (level-claims t) (level-at t) level.Post level-Inv-loop level-μ-loop
-level-add-asked t c = omega (arith, c .before .before .before .before .before .before .before .before .before .before .loop-test .taken, c .before .before .before .before .before .before .before .before .before .before .before .before .before .before .before .before .before .pre .1 .0 .fine .few)
+level-add-asked t c = omega (arith, c .before .before .before .before .before .before .before .before .before .before .before .before .loop-test .taken, c .before .before .before .before .before .before .before .before .before .before .before .before .before .before .before .before .before .before .before .pre .1 .0 .fine .few)
 
 level-asked-requires : (t : ℕ) → level-lts.Need-asked-requires (level-claims t) (level-at t) level.Post level-Inv-loop level-μ-loop
 level-asked-requires t c κs = may-ask (turn t (c .before .before .before .before)) (c .before .before .enum-told2 .given .1)
 
 level-add-at-3 : (t : ℕ) → level-lts.Need-add-at-3 (level-claims t) (level-at t) level.Post level-Inv-loop level-μ-loop
-level-add-at-3 t c = omega (arith, c .before .before .before .before .before .before .before .before .before .before .before .before .before .before .before .before .before .before .before .loop-test .taken, c .before .before .before .before .before .before .before .before .before .before .before .before .before .before .before .before .before .before .before .before .before .before .before .before .before .before .pre .1 .0 .fine .few)
+level-add-at-3 t c = omega (arith, c .before .before .before .before .before .before .before .before .before .before .before .before .before .before .before .before .before .before .before .before .before .loop-test .taken, c .before .before .before .before .before .before .before .before .before .before .before .before .before .before .before .before .before .before .before .before .before .before .before .before .before .before .before .before .pre .1 .0 .fine .few)
 
 level-loop-less-3 : (t : ℕ) → level-lts.Need-loop-less-3 (level-claims t) (level-at t) level.Post level-Inv-loop level-μ-loop
-level-loop-less-3 t c = search needs
+level-loop-less-3 t c = omega (arith, c .before .before .before .before .before .before .before .before .before .before .before .before .before .before .before .before .before .before .before .before .before .loop-test .taken)
 
 level-loop-again-3 : (t : ℕ) → level-lts.Need-loop-again-3 (level-claims t) (level-at t) level.Post level-Inv-loop level-μ-loop
-level-loop-again-3 t c = (c .before .before .before .syntax3 .given ∙ c .before .before .before .before .before .before .before .before .before .before .before .before .before .syntax .given ∙ c .before .before .before .before .before .before .before .before .before .before .before .before .before .before .before .before .before .before .before .before .loop .inv .0, c .before .before .before .before .before .waiting3 .given ∙ c .before .before .before .before .before .before .before .before .before .before .before .before .before .before .before .before .before .before .before .before .loop .inv .1, asked (turn t (c .before .before .before .before .before .before .before .before .before .before .before)) (c .before .before .before .before .before .before .before .before .before .enum-told2 .given .1) (c .before .before .before .before .before .before .asked .ensures) (c .before .before .before .before .before .waiting3 .given))
+level-loop-again-3 t c = (c .before .before .before .syntax4 .given ∙ c .before .before .before .before .before .before .before .before .before .before .before .before .before .syntax .given ∙ c .before .before .before .before .before .before .before .before .before .before .before .before .before .before .before .before .before .before .before .before .before .before .loop .inv .0, c .before .before .before .before .before .waiting4 .given ∙ c .before .before .before .before .before .before .before .before .before .before .before .before .before .before .before .waiting .given ∙ c .before .before .before .before .before .before .before .before .before .before .before .before .before .before .before .before .before .before .before .before .before .before .loop .inv .1, asked (turn t (c .before .before .before .before .before .before .before .before .before .before .before)) (c .before .before .before .before .before .before .before .before .before .enum-told2 .given .1) (c .before .before .before .before .before .before .asked .ensures) (c .before .before .before .before .before .waiting4 .given))
 
 level-enum-told-3 : (t : ℕ) → level-lts.Need-enum-told-3 (level-claims t) (level-at t) level.Post level-Inv-loop level-μ-loop
 level-enum-told-3 t c = c .match .keys5
@@ -306,67 +311,70 @@ level-turned-requires : (t : ℕ) → level-lts.Need-turned-requires (level-clai
 level-turned-requires t c κs = may-turn (turn t (c .before .before .before .before)) (c .before .before .enum-told3 .given .1)
 
 level-add-at-4 : (t : ℕ) → level-lts.Need-add-at-4 (level-claims t) (level-at t) level.Post level-Inv-loop level-μ-loop
-level-add-at-4 t c = omega (arith, c .before .before .before .before .before .before .before .before .before .before .before .before .before .before .before .before .before .before .before .loop-test .taken, c .before .before .before .before .before .before .before .before .before .before .before .before .before .before .before .before .before .before .before .before .before .before .before .before .before .before .pre .1 .0 .fine .few)
+level-add-at-4 t c = omega (arith, c .before .before .before .before .before .before .before .before .before .before .before .before .before .before .before .before .before .before .before .before .before .loop-test .taken, c .before .before .before .before .before .before .before .before .before .before .before .before .before .before .before .before .before .before .before .before .before .before .before .before .before .before .before .before .pre .1 .0 .fine .few)
 
 level-loop-less-4 : (t : ℕ) → level-lts.Need-loop-less-4 (level-claims t) (level-at t) level.Post level-Inv-loop level-μ-loop
-level-loop-less-4 t c = search needs
+level-loop-less-4 t c = omega (arith, c .before .before .before .before .before .before .before .before .before .before .before .before .before .before .before .before .before .before .before .before .before .loop-test .taken)
 
 level-loop-again-4 : (t : ℕ) → level-lts.Need-loop-again-4 (level-claims t) (level-at t) level.Post level-Inv-loop level-μ-loop
-level-loop-again-4 t c = (c .before .before .before .syntax4 .given ∙ c .before .before .before .before .before .before .before .before .before .before .before .before .before .syntax .given ∙ c .before .before .before .before .before .before .before .before .before .before .before .before .before .before .before .before .before .before .before .before .loop .inv .0, c .before .before .before .before .before .waiting4 .given ∙ c .before .before .before .before .before .before .before .before .before .before .before .before .before .before .before .before .before .before .before .before .loop .inv .1, turned (turn t (c .before .before .before .before .before .before .before .before .before .before .before)) (c .before .before .before .before .before .before .before .before .before .enum-told3 .given .1) (c .before .before .before .before .before .before .turned .ensures) (c .before .before .before .before .before .waiting4 .given))
+level-loop-again-4 t c = (c .before .before .before .syntax5 .given ∙ c .before .before .before .before .before .before .before .before .before .before .before .before .before .syntax .given ∙ c .before .before .before .before .before .before .before .before .before .before .before .before .before .before .before .before .before .before .before .before .before .before .loop .inv .0, c .before .before .before .before .before .waiting5 .given ∙ c .before .before .before .before .before .before .before .before .before .before .before .before .before .before .before .waiting .given ∙ c .before .before .before .before .before .before .before .before .before .before .before .before .before .before .before .before .before .before .before .before .before .before .loop .inv .1, turned (turn t (c .before .before .before .before .before .before .before .before .before .before .before)) (c .before .before .before .before .before .before .before .before .before .enum-told3 .given .1) (c .before .before .before .before .before .before .turned .ensures) (c .before .before .before .before .before .waiting5 .given))
 
 level-enum-known-step-3 : (t : ℕ) → level-lts.Need-enum-known-step-3 (level-claims t) (level-at t) level.Post level-Inv-loop level-μ-loop
 level-enum-known-step-3 t c = c .match .keys6
 
 level-add-group : (t : ℕ) → level-lts.Need-add-group (level-claims t) (level-at t) level.Post level-Inv-loop level-μ-loop
-level-add-group t c = omega (arith, class-small (turn t (c .before .before .before)) ((c .before .step3) .given .1))
+level-add-group t c = omega (arith, class-small (turn t (c .before .before .before)) (c .before .step3 .given .1))
 
 level-group-requires : (t : ℕ) → level-lts.Need-group-requires (level-claims t) (level-at t) level.Post level-Inv-loop level-μ-loop
-level-group-requires t c κs = (omega (arith, (c .before .before .before .before .before .before .before .before .before .before .before .before .before .before .before .before .before .before .before .before) .pre .0), open-any (may-open (turn t (c .before .before .before .before .before)) ((c .before .before .before .step3) .given .1) refl refl))
+level-group-requires t c κs = (omega (arith, c .before .before .before .before .before .before .before .before .before .before .before .before .before .before .before .before .before .before .before .before .before .before .pre .0), open-any (may-open (turn t (c .before .before .before .before .before)) (c .before .before .before .step3 .given .1) refl refl))
 
 level-enum-known-inner : (t : ℕ) → level-lts.Need-enum-known-inner (level-claims t) (level-at t) level.Post level-Inv-loop level-μ-loop
 level-enum-known-inner t c = c .match2 .keys1
 
 level-same-length-3 : (t : ℕ) → level-lts.Need-same-length-3 (level-claims t) (level-at t) level.Post level-Inv-loop level-μ-loop
-level-same-length-3 t c = (c .before .before .before .before .before .before .waiting5) .given ∙ (c .before .before .before .before .before .before .before .before .before .before .before .before .before .before .before .before .before .before .before .before .before .before .loop) .inv .1
+level-same-length-3 t c = c .before .before .before .before .before .before .waiting6 .given ∙ c .before .before .before .before .before .before .before .before .before .before .before .before .before .before .before .before .before .waiting .given ∙ c .before .before .before .before .before .before .before .before .before .before .before .before .before .before .before .before .before .before .before .before .before .before .before .before .loop .inv .1
 
 level-same-length-4 : (t : ℕ) → level-lts.Need-same-length-4 (level-claims t) (level-at t) level.Post level-Inv-loop level-μ-loop
-level-same-length-4 t c = (c .before .before .before .before .syntax5) .given ∙ (c .before .before .before .before .before .before .before .before .before .before .before .before .before .before .before .syntax) .given ∙ (c .before .before .before .before .before .before .before .before .before .before .before .before .before .before .before .before .before .before .before .before .before .before .loop) .inv .0
+level-same-length-4 t c = c .before .before .before .before .syntax6 .given ∙ c .before .before .before .before .before .before .before .before .before .before .before .before .before .before .before .syntax .given ∙ c .before .before .before .before .before .before .before .before .before .before .before .before .before .before .before .before .before .before .before .before .before .before .before .before .loop .inv .0
 
 level-returns-2 : (t : ℕ) → level-lts.Need-returns-2 (level-claims t) (level-at t) level.Post level-Inv-loop level-μ-loop
-level-returns-2 t c = inner-dies (turn t (c .before .before .before .before .before .before .before .before .before .before .before .before .before)) ((c .before .before .before .before .before .before .before .before .before .before .before .step3) .given .1) ((c .before .before .before .before .before .before .before .group) .ensures) ((c .before .inner) .given .1)
+level-returns-2 t c = inner-dies (turn t (c .before .before .before .before .before .before .before .before .before .before .before .before .before)) (c .before .before .before .before .before .before .before .before .before .before .before .step3 .given .1) (c .before .before .before .before .before .before .before .group .ensures) (c .before .inner .given .1)
 
 level-enum-known-inner-2 : (t : ℕ) → level-lts.Need-enum-known-inner-2 (level-claims t) (level-at t) level.Post level-Inv-loop level-μ-loop
 level-enum-known-inner-2 t c = c .match2 .keys2
 
+level-closing-by-requires : (t : ℕ) → level-lts.Need-closing-by-requires (level-claims t) (level-at t) level.Post level-Inv-loop level-μ-loop
+level-closing-by-requires t c κs = tt
+
 level-add-close : (t : ℕ) → level-lts.Need-add-close (level-claims t) (level-at t) level.Post level-Inv-loop level-μ-loop
-level-add-close t c = omega (arith, (c .before .before .before .before .before .before .before .before .before .before .before .before .before .before .before .before .before .before .before .before .before .loop-test) .taken, (c .before .before .before .before .before .before .before .before .before .before .before .before .before .before .before .before .before .before .before .before .before .before .before .before .before .before .before .before) .pre .1 .0 .fine .few)
+level-add-close t c = omega (arith, c .before .before .before .before .before .before .before .before .before .before .before .before .before .before .before .before .before .before .before .before .before .before .before .before .loop-test .taken, c .before .before .before .before .before .before .before .before .before .before .before .before .before .before .before .before .before .before .before .before .before .before .before .before .before .before .before .before .before .before .before .pre .1 .0 .fine .few)
 
 level-close-requires : (t : ℕ) → level-lts.Need-close-requires (level-claims t) (level-at t) level.Post level-Inv-loop level-μ-loop
-level-close-requires t c κs = may-close (turn t (c .before .before .before .before .before .before .before .before .before .before .before .before .before .before .before)) ((c .before .before .before .before .before .before .before .before .before .before .before .before .before .step3) .given .1) ((c .before .before .before .before .before .before .before .before .before .group) .ensures) ((c .before .before .before .inner2) .given .1)
+level-close-requires t c κs = may-close (turn t (c .before .before .before .before .before .before .before .before .before .before .before .before .before .before .before .before)) (c .before .before .before .before .before .before .before .before .before .before .before .before .before .before .step3 .given .1) (c .before .before .before .before .before .before .before .before .before .before .group .ensures) (c .before .before .before .before .inner2 .given .1) (c .before .before .closing-by .result) (c .before .before .closing-by .ensures)
 
 level-size-at-requires : (t : ℕ) → level-lts.Need-size-at-requires (level-claims t) (level-at t) level.Post level-Inv-loop level-μ-loop
 level-size-at-requires t c κs = tt
 
 level-add-at-5 : (t : ℕ) → level-lts.Need-add-at-5 (level-claims t) (level-at t) level.Post level-Inv-loop level-μ-loop
-level-add-at-5 t c = omega (arith, (c .size-at) .ensures, (c .before .before .before .before .before .before .before .before .before .before .before .before .before .before .before .before .before .before .before .before .before .before .before .before .before .before .before .before .before .before .before .before .before .before .before .before) .pre .1 .0 .fine .at ((c .before .before .before .before .before .before .before .before .before .before .before .before .before .before .before .before .before .before .before .before .before .before .before .before .before .before .before .before .before .before .loop) .at) ((c .before .before .before .before .before .before .before .before .before .before .before .before .before .before .before .before .before .before .before .before .before .before .before .before .before .before .before .before .before .loop-test) .taken) .fits, (c .before .before .before .before .before .before .before .before .before .before .before .before .before .before .before .before .before .before .before .before .before .before .before .before .before .before .before .before .before .before .before .before .before .before .before .before) .pre .1 .0 .fine .few)
+level-add-at-5 t c = let fine = c .before .before .before .before .before .before .before .before .before .before .before .before .before .before .before .before .before .before .before .before .before .before .before .before .before .before .before .before .before .before .before .before .before .before .before .before .before .before .before .pre .1 .0 .fine in omega (arith, c .size-at .ensures, fine .at (c .before .before .before .before .before .before .before .before .before .before .before .before .before .before .before .before .before .before .before .before .before .before .before .before .before .before .before .before .before .before .before .before .before .loop .at) (c .before .before .before .before .before .before .before .before .before .before .before .before .before .before .before .before .before .before .before .before .before .before .before .before .before .before .before .before .before .before .before .before .loop-test .taken) .fits, fine .few)
 
 level-loop-less-5 : (t : ℕ) → level-lts.Need-loop-less-5 (level-claims t) (level-at t) level.Post level-Inv-loop level-μ-loop
-level-loop-less-5 t c = omega (arith, (c .before .before .before .before .before .before .before .before .before .before .before .before .before .before .before .before .before .before .before .before .before .before .before .before .before .before .before .before .before .loop-test) .taken, (c .size-at) .ensures, (c .before .before .before .before .before .before .before .before .before .before .before .before .before .before .before .before .before .before .before .before .before .before .before .before .before .before .before .before .before .before .before .before .before .before .before .before) .pre .1 .0 .fine .at ((c .before .before .before .before .before .before .before .before .before .before .before .before .before .before .before .before .before .before .before .before .before .before .before .before .before .before .before .before .before .before .loop) .at) ((c .before .before .before .before .before .before .before .before .before .before .before .before .before .before .before .before .before .before .before .before .before .before .before .before .before .before .before .before .before .loop-test) .taken) .some)
+level-loop-less-5 t c = omega (arith, c .before .before .before .before .before .before .before .before .before .before .before .before .before .before .before .before .before .before .before .before .before .before .before .before .before .before .before .before .before .before .before .before .loop-test .taken, c .size-at .ensures, c .before .before .before .before .before .before .before .before .before .before .before .before .before .before .before .before .before .before .before .before .before .before .before .before .before .before .before .before .before .before .before .before .before .before .before .before .before .before .before .pre .1 .0 .fine .at (c .before .before .before .before .before .before .before .before .before .before .before .before .before .before .before .before .before .before .before .before .before .before .before .before .before .before .before .before .before .before .before .before .before .loop .at) (c .before .before .before .before .before .before .before .before .before .before .before .before .before .before .before .before .before .before .before .before .before .before .before .before .before .before .before .before .before .before .before .before .loop-test .taken) .some)
 
 level-loop-again-5 : (t : ℕ) → level-lts.Need-loop-again-5 (level-claims t) (level-at t) level.Post level-Inv-loop level-μ-loop
-level-loop-again-5 t c = ((c .before .before .syntax6) .given ∙ (c .before .before .before .before .before .before .before .before .before .before .before .before .syntax5) .given ∙ (c .before .before .before .before .before .before .before .before .before .before .before .before .before .before .before .before .before .before .before .before .before .before .before .syntax) .given ∙ (c .before .before .before .before .before .before .before .before .before .before .before .before .before .before .before .before .before .before .before .before .before .before .before .before .before .before .before .before .before .before .loop) .inv .0, (c .before .before .before .before .waiting6) .given ∙ (c .before .before .before .before .before .before .before .before .before .before .before .before .before .before .waiting5) .given ∙ (c .before .before .before .before .before .before .before .before .before .before .before .before .before .before .before .before .before .before .before .before .before .before .before .before .before .before .before .before .before .before .loop) .inv .1, rw ((c .size-at) .ensures) (closed (turn t (c .before .before .before .before .before .before .before .before .before .before .before .before .before .before .before .before .before .before .before .before .before)) ((c .before .before .before .before .before .before .before .before .before .before .before .before .before .before .before .before .before .before .before .step3) .given .1) ((c .before .before .before .before .before .before .before .before .before .before .before .before .before .before .before .group) .ensures) ((c .before .before .before .before .before .before .before .before .before .inner2) .given .1) ((c .before .before .before .before .before .close) .ensures) ((c .before .before .before .before .waiting6) .given)))
+level-loop-again-5 t c = (c .before .before .syntax7 .given ∙ c .before .before .before .before .before .before .before .before .before .before .before .before .before .syntax6 .given ∙ c .before .before .before .before .before .before .before .before .before .before .before .before .before .before .before .before .before .before .before .before .before .before .before .before .syntax .given ∙ c .before .before .before .before .before .before .before .before .before .before .before .before .before .before .before .before .before .before .before .before .before .before .before .before .before .before .before .before .before .before .before .before .before .loop .inv .0, c .before .before .before .before .waiting7 .given ∙ c .before .before .before .before .before .before .before .before .before .before .before .before .before .before .before .waiting6 .given ∙ c .before .before .before .before .before .before .before .before .before .before .before .before .before .before .before .before .before .before .before .before .before .before .before .before .before .before .waiting .given ∙ c .before .before .before .before .before .before .before .before .before .before .before .before .before .before .before .before .before .before .before .before .before .before .before .before .before .before .before .before .before .before .before .before .before .loop .inv .1, rw (c .size-at .ensures) (closed (turn t (c .before .before .before .before .before .before .before .before .before .before .before .before .before .before .before .before .before .before .before .before .before .before)) (c .before .before .before .before .before .before .before .before .before .before .before .before .before .before .before .before .before .before .before .before .step3 .given .1) (c .before .before .before .before .before .before .before .before .before .before .before .before .before .before .before .before .group .ensures) (c .before .before .before .before .before .before .before .before .before .before .inner2 .given .1) (c .before .before .before .before .before .before .before .before .closing-by .result) (c .before .before .before .before .before .before .before .before .closing-by .ensures) (c .before .before .before .before .before .close .ensures) (c .before .before .before .before .waiting7 .given)))
 
 level-at-closer-requires : (t : ℕ) → level-lts.Need-at-closer-requires (level-claims t) (level-at t) level.Post level-Inv-loop level-μ-loop
 level-at-closer-requires t c κs = (somewhere (c .before .before .before .loop .inv .2), c .before .before .before .before .before .before .before .before .before .pre .1 .0 .closes)
 
 level-same-length-5 : (t : ℕ) → level-lts.Need-same-length-5 (level-claims t) (level-at t) level.Post level-Inv-loop level-μ-loop
-level-same-length-5 t c = c .before .before .before .before .before .before .loop .inv .1
+level-same-length-5 t c = c .before .before .before .waiting8 .given ∙ c .before .before .before .before .before .before .before .before .loop .inv .1
 
 level-same-length-6 : (t : ℕ) → level-lts.Need-same-length-6 (level-claims t) (level-at t) level.Post level-Inv-loop level-μ-loop
-level-same-length-6 t c = c .before .syntax7 .given ∙ c .before .before .before .before .before .before .loop .inv .0
+level-same-length-6 t c = c .before .syntax8 .given ∙ c .before .before .before .before .before .before .before .before .loop .inv .0
 
 level-returns-3 : (t : ℕ) → level-lts.Need-returns-3 (level-claims t) (level-at t) level.Post level-Inv-loop level-μ-loop
-level-returns-3 t c = ran-to-closer (c .before .before .before .before .before .before .loop .control) (c .before .before .before .before .before .before .loop .inv .2) (c .before .before .before .before .before .loop-test .left) (c .before .before .before .before .before .before .before .before .before .before .before .before .args .closer) (c .before .before .at-closer .ensures)
+level-returns-3 t c = ran-to-closer (c .before .before .before .before .before .before .before .before .loop .control) (c .before .before .before .before .before .before .before .before .loop .inv .2) (c .before .before .before .before .before .before .before .loop-test .left) (c .before .before .before .before .before .before .before .before .before .before .before .before .before .before .args .closer) (c .before .before .before .before .at-closer .ensures)
 
 statements-stand-requires : (t : ℕ) → statements-lts.Need-stand-requires (statements-claims t) (statements-at t) statements.Post
 statements-stand-requires t c κs = tt
@@ -381,7 +389,7 @@ statements-same-length-2 : (t : ℕ) → statements-lts.Need-same-length-2 (stat
 statements-same-length-2 t c = c .before .syntax .given
 
 statements-returns : (t : ℕ) → statements-lts.Need-returns (statements-claims t) (statements-at t) statements.Post
-statements-returns t c = ran-as ((c .before .before .before .before .level) .ensures) (statements-start ((c .before .before .before .before .before .before .before .before .before .before .before .before) .args .scope) ((c .before .before .before .before .before .before .before .stand) .ensures))
+statements-returns t c = ran-as ((c .before .before .before .before .level) .ensures) (statements-start ((c .before .before .before .before .before .before .before .before .before .before .before .before) .args .scope) ((c .before .before .before .before .before .before .before .before .before .before .before .before) .pre .1 .1) ((c .before .before .before .before .before .before .before .stand) .ensures))
 
 pub +expression+function+group+level+statements-spec : {M : Type 1} → statement M
 +expression+function+group+level+statements-spec =
@@ -453,12 +461,16 @@ pub +expression+function+group+level+statements-spec : {M : Type 1} → statemen
       affect-reads.Learnt,
       entered-reads.Asked,
       entered-reads.Learnt,
+      inside-entered-reads.Asked,
+      inside-entered-reads.Learnt,
       asked-reads.Asked,
       asked-reads.Learnt,
       turned-reads.Asked,
       turned-reads.Learnt,
       group-below t,
       group.Post,
+      closing-by-reads.Asked,
+      closing-by-reads.Learnt,
       close-reads.Asked,
       close-reads.Learnt,
       size-at-reads.Asked,
@@ -490,6 +502,7 @@ pub +expression+function+group+level+statements-spec : {M : Type 1} → statemen
     (level-enum-known-step-2 t)
     (level-add-entered t)
     (level-entered-requires t)
+    (level-entered-requires-2 t)
     (level-add-at-2 t)
     (level-loop-less-2 t)
     (level-loop-again-2 t)
@@ -512,6 +525,7 @@ pub +expression+function+group+level+statements-spec : {M : Type 1} → statemen
     (level-same-length-4 t)
     (level-returns-2 t)
     (level-enum-known-inner-2 t)
+    (level-closing-by-requires t)
     (level-add-close t)
     (level-close-requires t)
     (level-size-at-requires t)

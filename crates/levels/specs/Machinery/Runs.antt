@@ -1,14 +1,14 @@
 -- What the parsers of a level say, by runs of the token machine. Machinery.
 use Prim.Native.Nat.{ℕ, _+_, _*_, _≤_, _<_}
 use mathlib.Core.Path.{_≡_}
-use mathlib.Core.Bool.{true, false}
+use mathlib.Core.Bool.{Bool, true, false}
 use mathlib.Core.List.{List, _∷_, _++_}
 use lib.Dec.{T}
 use lib.ListN.{length}
 use Rattle.machine.specs.Tokens.{Token}
 use Rattle.machine.specs.Syntax.{Syntax, nil, size}
 use Rattle.machine.specs.Scopes.{Items, Scope, body}
-use Rattle.machine.specs.Machinery.Machine.{empty, among, byParen, byBracket, Control, statementDue, operandDue, itemDue, parameterDue, Open, dead, live, run}
+use Rattle.machine.specs.Machinery.Machine.{empty, among, someTarget, byParen, byBracket, Control, statementDue, startDue, clauseDue, catchDue, operandDue, itemDue, parameterDue, Open, dead, live, run}
 use Rattle.controls.specs.Machinery.Numbers.{settingBy, insideBy}
 use Rattle.machine.specs.Machinery.Classes.{isEnd}
 use Rattle.controls.specs.Machinery.Written.{putSyntax}
@@ -20,11 +20,12 @@ use Rattle.groups.specs.Machinery.Closers.{closerToken, closedState}
 use Rattle.groups.specs.declared.Parsed.{Parsed}
 use Rattle.groups.specs.declared.Parsed.the-variants.{Done, Bad}
 
--- a level that was run to its end, from a control: whatever stands around it, its value is popped, and the value's records are written
-pub record Through (class : ℕ) (p : Segment) (c : Control) (count top : ℕ) (table before : List ℕ) (n : ℕ) (cells stack : List ℕ) : Type 0 where
+-- a level that was run to its end, from a control: whatever stands around it, its value is popped, as the head of a `for` with `in` or not, and the
+-- value's records are written
+pub record Through (class : ℕ) (p : Segment) (c : Control) (count top : ℕ) (table before : List ℕ) (n : ℕ) (within : Bool) (cells stack : List ℕ) : Type 0 where
   pub value : Syntax
   pub runs : (around : List Open) (mark : ℕ) (u : List Token)
-      → run (live c empty around) (tokensAt p 0 ++ (closerToken class (p .close) mark ∷ u)) ≡ run (closedState class (p .close) value around) u
+      → run (live c empty around) (tokensAt p 0 ++ (closerToken class (p .close) mark ∷ u)) ≡ run (closedState class (p .close) within value around) u
   pub count-is : n ≡ count + size value
   pub cells-are : cells ≡ putSyntax table count value
   pub kept : Kept before stack top
@@ -37,17 +38,20 @@ Dies class p c place = (around : List Open) (mark : ℕ) (u : List Token)
     → run (live c empty around) (tokensAt p 0 ++ (closerToken class (p .close) mark ∷ u)) ≡ dead place
 
 pub data Ran (class : ℕ) (p : Segment) (c : Control) (count top : ℕ) (table before : List ℕ) : Parsed → List ℕ → List ℕ → Type 0 where
-  ran-through : {n : ℕ} {cells stack : List ℕ} → Through class p c count top table before n cells stack
-      → Ran class p c count top table before (Done n) cells stack
+  ran-through : {n : ℕ} {within : Bool} {cells stack : List ℕ} → Through class p c count top table before n within cells stack
+      → Ran class p c count top table before (Done n within) cells stack
   ran-dead : {place : ℕ} {cells stack : List ℕ} → Dies class p c place → Ran class p c count top table before (Bad place) cells stack
 
 -- where a level may begin
 pub data Begins : Control → Type 0 where
   begins-statements : {scope : Scope} → Begins (statementDue false (among scope))
-  begins-expression : Begins (operandDue byParen true)
-  begins-index : Begins (operandDue byBracket true)
+  begins-expression : Begins (operandDue byParen someTarget)
+  begins-index : Begins (operandDue byBracket someTarget)
   begins-items : {items : Items} → Begins (itemDue items)
   begins-parameter : Begins (parameterDue false)
+  begins-head : Begins startDue
+  begins-clauses : Begins (clauseDue false)
+  begins-caught : Begins catchDue
 
 -- a level may be run: its records are fine, no more records and waiting parts are before it than tree records, and the stack has
 -- room for one part for each tree record

@@ -1,11 +1,10 @@
 -- `comma_row` is the entry of an ending, at `,`.
 use borrow.Author.Needs.{needs}
-use Prim.Native.Nat.{_≤_}
 use native.Mathlib.Omega.{arith}
-use Rattle.controls.specs.Machinery.Numbers.{itemsBy, endingBy, controlBy, effectBy}
-use Rattle.controls.specs.Machinery.Steps.{to-comma, to-item-end, means-fail}
+use Rattle.controls.specs.Machinery.Numbers.{itemsBy, endingBy, targetBy, controlBy, effectBy}
+use Rattle.controls.specs.Machinery.Steps.{ended-value, to-comma, to-item-end, to-next-variable, means-fail}
 use Rattle.controls.proofs.NumberLaws.{item-ending}
-use Rattle.rows.proofs.RowLaws.{comma-operator, item-next}
+use Rattle.rows.proofs.RowLaws.{variable-ending, early-comma, late-comma, comma-operator, item-next}
 use Rattle.rows.proofs.comma_row.Statement.{statement}
 use Rattle.rows.proofs.comma_row.Tie as tie
 
@@ -13,7 +12,7 @@ goto-requires : tie.Need-goto-requires
 goto-requires c κs = search needs
 
 returns : tie.Need-returns
-unfolding itemsBy endingBy controlBy effectBy
+unfolding itemsBy endingBy targetBy controlBy effectBy
 returns c = λ from ended.
     rw (c .before .if1 .taken) (c .goto .ensures _ _ tt (to-item-end (rw (c .before .if1 .taken) at ended)))
 
@@ -32,16 +31,36 @@ returns-3 : tie.Need-returns-3
 unfolding endingBy
 returns-3 c = λ from ended. rw (c .if3 .taken) means-fail
 
-goto-requires-3 : tie.Need-goto-requires-3
-goto-requires-3 c κs = search needs
+behind-assignment-requires : tie.Need-behind-assignment-requires
+behind-assignment-requires c κs = search needs
 
 returns-4 : tie.Need-returns-4
-unfolding controlBy effectBy
+unfolding effectBy
 returns-4 c = λ from ended.
-    let a = c .before .before .before .before .args in
-    let few : a .ending ≤ 3 = omega (arith, c .before .before .before .if1 .left, c .before .if3 .left) in
-    let o = comma-operator (a .ending) (a .setting) few in
-    rw (o .0) (c .goto3 .ensures _ _ tt (to-comma (o .1) ended))
+    let a = c .before .before .before .before .before .args in
+    let t = early-comma (a .ending) (a .setting) (c .before .if4 .taken) in
+    rw (comma-operator (endingBy (a .ending) (a .setting)) t) (c .behind-assignment .ensures _ _ tt (to-comma t ended))
+
+next-variable-requires : tie.Need-next-variable-requires
+next-variable-requires c κs = search needs
+
+returns-5 : tie.Need-returns-5
+unfolding effectBy
+returns-5 c = λ from ended.
+    let a = c .before .before .before .before .before .before .args in
+    let v = variable-ending (a .ending) (a .setting) (c .before .before .if4 .left) (c .before .if5 .taken) in
+    rw v (c .next-variable .ensures _ _ tt (to-next-variable (ended-value (rw v at ended))))
+
+behind-assignment-requires-2 : tie.Need-behind-assignment-requires-2
+behind-assignment-requires-2 c κs = search needs
+
+returns-6 : tie.Need-returns-6
+unfolding effectBy
+returns-6 c = λ from ended.
+    let at = c .before .before .before in
+    let a = at .before .before .before .args in
+    let t = late-comma (a .ending) (a .setting) (c .before .if5 .left) (omega (arith, at .if3 .left, at .before .before .if1 .left)) in
+    rw (comma-operator (endingBy (a .ending) (a .setting)) t) (c .behind-assignment2 .ensures _ _ tt (to-comma t ended))
 
 pub comma-row-spec : {M : Type 1} → statement M
 comma-row-spec =
@@ -52,5 +71,9 @@ comma-row-spec =
     goto-requires-2
     returns-2
     returns-3
-    goto-requires-3
-    returns-4)
+    behind-assignment-requires
+    returns-4
+    next-variable-requires
+    returns-5
+    behind-assignment-requires-2
+    returns-6)

@@ -4,10 +4,10 @@ use mathlib.Core.Bool.{Bool, true, false, not, cond, _||_}
 use lib.Dec.{eqb, ltb, leb}
 use Rattle.elements.specs.Elements.{stating}
 use Rattle.elements.specs.declared.Stated.{Stated}
-use Rattle.rule.specs.Rule.{Class, name, literal, operator, question, answer, colon, dot, comma, semicolon, other, returnWord, functionWord, ifWord, parens, brackets, object, block, settledSign}
+use Rattle.rule.specs.Rule.{Class, name, literal, operator, question, answer, colon, dot, comma, semicolon, other, returnWord, functionWord, headWord, parens, brackets, object, block, settledSign}
 use Rattle.rule.specs.Trees.{objectKind}
 use Rattle.rule.specs.Levels.{isExpression}
-use Rattle.rule.specs.Machinery.Summary.{nothing, operand, afterOperator, afterColon, afterDot, afterComma, afterOther, afterReturn, afterIf, afterIfParens, afterBlock, afterFunction, afterFunctionName, afterFunctionParens, code, summaries, kinds, oneQuestion}
+use Rattle.rule.specs.Machinery.Summary.{nothing, operand, afterOperator, afterSeparator, afterDot, afterComma, afterOther, afterReturn, afterHeadWord, afterHead, afterBlock, afterFunction, afterFunctionName, afterFunctionParens, code, summaries, kinds, oneQuestion}
 
 -- the kind of the level's group, and the count of its unanswered `?`s
 abbrev pub kindIn : ℕ → ℕ
@@ -38,7 +38,7 @@ abbrev pub braceByCode : Bool → ℕ → Bool → Bool
 braceByCode expression n newline =
     cond (eqb n (code false afterOperator) || eqb n (code true afterComma)) true
     (cond (eqb n (code false afterReturn)) (not newline)
-    (cond (eqb n (code false nothing) || eqb n (code false afterColon)) expression
+    (cond (eqb n (code false nothing) || eqb n (code false afterSeparator)) expression
     false))
 
 unfoldable pub braceByLevel : ℕ → Bool → Bool
@@ -60,7 +60,7 @@ levelAfterName level = with level (nameCode (level % summaries))
 
 abbrev pub parensCode : ℕ → ℕ
 parensCode n =
-    cond (eqb n (code false afterIf)) (code false afterIfParens)
+    cond (eqb n (code false afterHeadWord)) (code false afterHead)
     (cond (eqb n (code false (afterFunctionName false)) || eqb n (code false (afterFunction false))) (code false (afterFunctionParens false))
     (cond (eqb n (code false (afterFunctionName true)) || eqb n (code false (afterFunction true))) (code false (afterFunctionParens true))
     (code false operand)))
@@ -81,14 +81,14 @@ levelAfter level literal newline = with level (code false operand)
 levelAfter level operator newline = with level (code false afterOperator)
 levelAfter level question newline = with level (code false afterOperator) + oneQuestion
 levelAfter level answer newline = with (cond (ltb level oneQuestion) level (level - oneQuestion)) (code false afterOperator)
-levelAfter level colon newline = with level (code false afterColon)
+levelAfter level colon newline = with level (code false afterSeparator)
 levelAfter level dot newline = with level (code false afterDot)
 levelAfter level comma newline = with level (cond (eqb (kindIn level) objectKind) (code true afterComma) (code false afterComma))
-levelAfter level semicolon newline = with (level % oneQuestion) (code false afterOther)
+levelAfter level semicolon newline = with (level % oneQuestion) (code false afterSeparator)
 levelAfter level other newline = with level (code false afterOther)
 levelAfter level returnWord newline = with level (code false afterReturn)
 levelAfter level functionWord newline = with level (code false (afterFunction (braceByLevel level newline)))
-levelAfter level ifWord newline = with level (code false afterIf)
+levelAfter level headWord newline = with level (code false afterHeadWord)
 levelAfter level parens newline = levelAfterParens level
 levelAfter level brackets newline = with level (code false operand)
 levelAfter level object newline = with level (code false operand)

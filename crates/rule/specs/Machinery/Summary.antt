@@ -3,14 +3,14 @@ use Prim.Native.Nat.{ℕ, _+_, _*_}
 use mathlib.Core.Bool.{Bool, true, false, not, cond}
 use mathlib.Core.List.{List, [], _∷_}
 use lib.Dec.{eqb}
-use Rattle.rule.specs.Rule.{Class, name, literal, operator, question, answer, colon, dot, comma, semicolon, other, returnWord, functionWord, ifWord, parens, brackets, object, block, Before, tree, backwards, unanswered}
+use Rattle.rule.specs.Rule.{Class, name, literal, operator, question, answer, colon, dot, comma, semicolon, other, returnWord, functionWord, headWord, parens, brackets, object, block, Before, tree, backwards, unanswered}
 use Rattle.rule.specs.Trees.{objectKind}
 use Rattle.rule.specs.Levels.{Levels, isExpression, kindOf, treesOf}
 
--- what stands last. `if ( )` is told from other `( )`, and the trees of a function from other trees, with whether a brace in
+-- what stands last. A head, as in `if ( )`, is told from other `( )`, `:` and `;` from other signs, and the trees of a function from other trees, with whether a brace in
 -- place of `function` would open an object
 pub data Summary : Type 0 where
-  nothing operand afterOperator afterColon afterDot afterComma afterOther afterReturn afterIf afterIfParens afterBlock : Summary
+  nothing operand afterOperator afterSeparator afterDot afterComma afterOther afterReturn afterHeadWord afterHead afterBlock : Summary
   afterFunction afterFunctionName afterFunctionParens : Bool → Summary
 
 -- its answers: what a brace opens, and what a slash does
@@ -18,13 +18,13 @@ abbrev pub braceBy : Bool → Summary → Bool → Bool
 braceBy expression nothing newline = expression
 braceBy expression operand newline = false
 braceBy expression afterOperator newline = true
-braceBy expression afterColon newline = expression
+braceBy expression afterSeparator newline = expression
 braceBy expression afterDot newline = false
 braceBy expression afterComma newline = true
 braceBy expression afterOther newline = false
 braceBy expression afterReturn newline = not newline
-braceBy expression afterIf newline = false
-braceBy expression afterIfParens newline = false
+braceBy expression afterHeadWord newline = false
+braceBy expression afterHead newline = false
 braceBy expression afterBlock newline = false
 braceBy expression (afterFunction inObject) newline = false
 braceBy expression (afterFunctionName inObject) newline = false
@@ -34,13 +34,13 @@ abbrev pub slashBy : Summary → Bool
 slashBy nothing = true
 slashBy operand = false
 slashBy afterOperator = true
-slashBy afterColon = true
+slashBy afterSeparator = true
 slashBy afterDot = true
 slashBy afterComma = true
 slashBy afterOther = true
 slashBy afterReturn = true
-slashBy afterIf = true
-slashBy afterIfParens = true
+slashBy afterHeadWord = true
+slashBy afterHead = true
 slashBy afterBlock = true
 slashBy (afterFunction inObject) = true
 slashBy (afterFunctionName inObject) = false
@@ -51,13 +51,13 @@ abbrev pub addName : Summary → Summary
 addName nothing = operand
 addName operand = operand
 addName afterOperator = operand
-addName afterColon = operand
+addName afterSeparator = operand
 addName afterDot = operand
 addName afterComma = operand
 addName afterOther = operand
 addName afterReturn = operand
-addName afterIf = operand
-addName afterIfParens = operand
+addName afterHeadWord = operand
+addName afterHead = operand
 addName afterBlock = operand
 addName (afterFunction inObject) = afterFunctionName inObject
 addName (afterFunctionName inObject) = operand
@@ -67,13 +67,13 @@ abbrev pub addParens : Summary → Summary
 addParens nothing = operand
 addParens operand = operand
 addParens afterOperator = operand
-addParens afterColon = operand
+addParens afterSeparator = operand
 addParens afterDot = operand
 addParens afterComma = operand
 addParens afterOther = operand
 addParens afterReturn = operand
-addParens afterIf = afterIfParens
-addParens afterIfParens = operand
+addParens afterHeadWord = afterHead
+addParens afterHead = operand
 addParens afterBlock = operand
 addParens (afterFunction inObject) = afterFunctionParens inObject
 addParens (afterFunctionName inObject) = afterFunctionParens inObject
@@ -88,13 +88,13 @@ abbrev pub addBlock : Summary → Summary
 addBlock nothing = afterBlock
 addBlock operand = afterBlock
 addBlock afterOperator = afterBlock
-addBlock afterColon = afterBlock
+addBlock afterSeparator = afterBlock
 addBlock afterDot = afterBlock
 addBlock afterComma = afterBlock
 addBlock afterOther = afterBlock
 addBlock afterReturn = afterBlock
-addBlock afterIf = afterBlock
-addBlock afterIfParens = afterBlock
+addBlock afterHeadWord = afterBlock
+addBlock afterHead = afterBlock
 addBlock afterBlock = afterBlock
 addBlock (afterFunction inObject) = afterBlock
 addBlock (afterFunctionName inObject) = afterBlock
@@ -107,14 +107,14 @@ add expression s literal newline = operand
 add expression s operator newline = afterOperator
 add expression s question newline = afterOperator
 add expression s answer newline = afterOperator
-add expression s colon newline = afterColon
+add expression s colon newline = afterSeparator
 add expression s dot newline = afterDot
 add expression s comma newline = afterComma
-add expression s semicolon newline = afterOther
+add expression s semicolon newline = afterSeparator
 add expression s other newline = afterOther
 add expression s returnWord newline = afterReturn
 add expression s functionWord newline = afterFunction (braceBy expression s newline)
-add expression s ifWord newline = afterIf
+add expression s headWord newline = afterHeadWord
 add expression s parens newline = addParens s
 add expression s brackets newline = operand
 add expression s object newline = operand
@@ -129,13 +129,13 @@ abbrev pub nameBy : Bool → Summary → Bool
 nameBy inBrace nothing = inBrace
 nameBy inBrace operand = false
 nameBy inBrace afterOperator = false
-nameBy inBrace afterColon = false
+nameBy inBrace afterSeparator = false
 nameBy inBrace afterDot = true
 nameBy inBrace afterComma = inBrace
 nameBy inBrace afterOther = false
 nameBy inBrace afterReturn = false
-nameBy inBrace afterIf = false
-nameBy inBrace afterIfParens = false
+nameBy inBrace afterHeadWord = false
+nameBy inBrace afterHead = false
 nameBy inBrace afterBlock = false
 nameBy inBrace (afterFunction inObject) = false
 nameBy inBrace (afterFunctionName inObject) = false
@@ -151,11 +151,11 @@ code inBrace (afterFunction inObject) = cond inObject 6 5
 code inBrace nothing = cond inBrace 16 7
 code inBrace afterOperator = 8
 code inBrace afterComma = cond inBrace 16 8
-code inBrace afterColon = 9
+code inBrace afterSeparator = 9
 code inBrace afterOther = 10
 code inBrace afterReturn = 11
-code inBrace afterIf = 12
-code inBrace afterIfParens = 13
+code inBrace afterHeadWord = 12
+code inBrace afterHead = 13
 code inBrace afterBlock = 14
 code inBrace afterDot = 15
 

@@ -1,4 +1,4 @@
--- By its length and its last byte; a record that ends before its first byte has the length 0.
+-- By its length and its bytes; a record that ends before its first byte has the length 0.
 use borrow.Author.Needs.{needs}
 use Prim.Native.Nat.{_-_}
 use mathlib.Core.Path.{_≡_}
@@ -20,6 +20,9 @@ cell-requires-2 c κs = search needs
 cast-end : tie.Need-cast-end
 cast-end c = search needs
 
+byte-at-requires : tie.Need-byte-at-requires
+byte-at-requires c κs = search needs
+
 byte-before-requires : tie.Need-byte-before-requires
 byte-before-requires c κs = search needs
 
@@ -29,17 +32,17 @@ word-class-requires c κs = search needs
 returns : tie.Need-returns
 unfolding placeAt endAt
 returns c =
-    let given = c .before .before .before .before .before .before .before .args in
+    let given = c .before .before .before .before .before .before .before .before .args in
     let cells = now (given .trees) in
-    let none : endAt cells (given .at) - placeAt cells 0 (given .at) ≡ 0 = omega (arith, c .before .if1 .taken, c .before .before .before .cell2 .ensures, c .before .before .before .before .cell .ensures) in
-    rw none (rw (c .before .before .byte-before .ensures, c .before .before .before .cell2 .ensures) at (c .word-class .ensures))
+    let none : endAt cells (given .at) - placeAt cells 0 (given .at) ≡ 0 = omega (arith, c .before .if1 .taken, c .before .before .before .before .cell2 .ensures, c .before .before .before .before .before .cell .ensures) in
+    rw none (rw (c .before .before .before .byte-at .ensures, c .before .before .byte-before .ensures, c .before .before .before .before .cell2 .ensures, c .before .before .before .before .before .cell .ensures) at (c .word-class .ensures))
 
 word-class-requires-2 : tie.Need-word-class-requires-2
 word-class-requires-2 c κs = search needs
 
 returns-2 : tie.Need-returns-2
 unfolding placeAt endAt
-returns-2 c = rw (c .before .before .byte-before .ensures, c .before .before .before .cell2 .ensures, c .before .before .before .before .cell .ensures) at (c .word-class2 .ensures)
+returns-2 c = rw (c .before .before .before .byte-at .ensures, c .before .before .byte-before .ensures, c .before .before .before .before .cell2 .ensures, c .before .before .before .before .before .cell .ensures) at (c .word-class2 .ensures)
 
 pub word-at-spec : {M : Type 1} → statement M
 word-at-spec =
@@ -49,6 +52,7 @@ word-at-spec =
     cast-first
     cell-requires-2
     cast-end
+    byte-at-requires
     byte-before-requires
     word-class-requires
     returns

@@ -9,7 +9,7 @@ use Rattle.text.specs.Quoted.{byte}
 use Rattle.elements.specs.Elements.{nameKind, wordKind, numberKind, stringKind, patternKind, signKind}
 use Rattle.rule.specs.Trees.{parenKind, objectKind, blockKind, bracketKind, beforeKind, afterKind, answerKind}
 use Rattle.tables.specs.Records.{treeWidth, mostTrees}
-use Rattle.machine.specs.Tokens.{Token, token, Spot, name, number, string, pattern, openParen, openBrace, openBracket, andAssign, assign, atLeast, atMost, bitAnd, bitOr, bitXor, colon, comma, complement, decrement, deleteWord, divide, divideAssign, dot, equal, falseWord, functionWord, greater, identical, ifWord, inWord, increment, instanceofWord, leftShift, leftShiftAssign, less, logicalAnd, logicalOr, minus, minusAssign, multiply, multiplyAssign, negation, newWord, nullWord, orAssign, plus, plusAssign, question, remainder, remainderAssign, returnWord, rightShift, rightShiftAssign, semicolon, thisWord, trueWord, typeofWord, unequal, unidentical, unsignedShift, unsignedShiftAssign, voidWord, xorAssign}
+use Rattle.machine.specs.Tokens.{name, number, openBrace, openParen, pattern, Spot, string, Token, token, andAssign, assign, atLeast, atMost, bitAnd, bitOr, bitXor, breakWord, caseWord, catchWord, colon, comma, complement, continueWord, debuggerWord, decrement, defaultWord, deleteWord, divide, divideAssign, dot, doWord, elseWord, equal, falseWord, finallyWord, forWord, functionWord, greater, identical, ifWord, increment, instanceofWord, inWord, leftShift, leftShiftAssign, less, logicalAnd, logicalOr, minus, minusAssign, multiply, multiplyAssign, negation, newWord, nullWord, openBracket, orAssign, plus, plusAssign, question, remainder, remainderAssign, returnWord, rightShift, rightShiftAssign, semicolon, switchWord, thisWord, throwWord, trueWord, tryWord, typeofWord, unequal, unidentical, unsignedShift, unsignedShiftAssign, varWord, voidWord, whileWord, withWord, xorAssign}
 use Rattle.machine.specs.Machinery.Classes.{isOpener}
 
 -- the number of records among cells
@@ -110,27 +110,57 @@ compared =
     ∷ entry (byte ">") rightShiftAssign
     ∷ []
 
--- words of two, four and six letters, by the last
-abbrev pub shortWords : List Entry
-shortWords =
-    entry (byte "f") ifWord
+-- words of two letters, by the last, and of more, by the first; `this` and `true` have the last too
+abbrev pub twoLetters : List Entry
+twoLetters =
+    entry (byte "o") doWord
+    ∷ entry (byte "f") ifWord
     ∷ entry (byte "n") inWord
     ∷ []
 
-abbrev pub middleWords : List Entry
-middleWords =
-    entry (byte "s") thisWord
-    ∷ entry (byte "l") nullWord
-    ∷ entry (byte "e") trueWord
-    ∷ entry (byte "d") voidWord
+abbrev pub threeLetters : List Entry
+threeLetters =
+    entry (byte "n") newWord
+    ∷ entry (byte "v") varWord
+    ∷ entry (byte "f") forWord
+    ∷ entry (byte "t") tryWord
     ∷ []
 
-abbrev pub longWords : List Entry
-longWords =
-    entry (byte "n") returnWord
-    ∷ entry (byte "f") typeofWord
-    ∷ entry (byte "e") deleteWord
+abbrev pub fourLetters : List Entry
+fourLetters =
+    entry (byte "c") caseWord
+    ∷ entry (byte "e") elseWord
+    ∷ entry (byte "n") nullWord
+    ∷ entry (byte "v") voidWord
+    ∷ entry (byte "w") withWord
     ∷ []
+
+abbrev pub fiveLetters : List Entry
+fiveLetters =
+    entry (byte "b") breakWord
+    ∷ entry (byte "c") catchWord
+    ∷ entry (byte "f") falseWord
+    ∷ entry (byte "t") throwWord
+    ∷ entry (byte "w") whileWord
+    ∷ []
+
+abbrev pub sixLetters : List Entry
+sixLetters =
+    entry (byte "r") returnWord
+    ∷ entry (byte "t") typeofWord
+    ∷ entry (byte "d") deleteWord
+    ∷ entry (byte "s") switchWord
+    ∷ []
+
+abbrev pub eightLetters : List Entry
+eightLetters =
+    entry (byte "f") functionWord
+    ∷ entry (byte "c") continueWord
+    ∷ entry (byte "d") debuggerWord
+    ∷ []
+
+abbrev pub fourBy : ℕ → ℕ → ℕ
+fourBy b last = cond (eqb b (byte "t")) (cond (eqb last (byte "s")) thisWord trueWord) (lookUp fourLetters b)
 
 abbrev pub singleBy : ℕ → ℕ
 singleBy b = cond (ltb (byte "?") b) (lookUp highSingles b) (lookUp lowSingles b)
@@ -141,7 +171,7 @@ pairBy b last = cond (eqb last (byte "=")) (lookUp assigned b) (lookUp doubled b
 abbrev pub tripleBy : ℕ → ℕ → ℕ
 tripleBy b last = cond (eqb last (byte "=")) (lookUp compared b) unsignedShift
 
--- the class of a sign by its length and its first and last bytes, and of a word by its length and its last byte
+-- the class of a sign, and of a word, by its length and its first and last bytes
 unfoldable pub signBy : ℕ → ℕ → ℕ → ℕ
 signBy len b last =
     cond (eqb len 1) (singleBy b)
@@ -149,16 +179,17 @@ signBy len b last =
     (cond (eqb len 3) (tripleBy b last)
     unsignedShiftAssign))
 
-unfoldable pub wordBy : ℕ → ℕ → ℕ
-wordBy len last =
-    cond (eqb len 8) functionWord
-    (cond (eqb len 6) (lookUp longWords last)
-    (cond (eqb len 4) (lookUp middleWords last)
-    (cond (eqb len 2) (lookUp shortWords last)
-    (cond (eqb len 3) newWord
-    (cond (eqb len 5) falseWord
+unfoldable pub wordBy : ℕ → ℕ → ℕ → ℕ
+wordBy len b last =
+    cond (eqb len 8) (lookUp eightLetters b)
+    (cond (eqb len 6) (lookUp sixLetters b)
+    (cond (eqb len 4) (fourBy b last)
+    (cond (eqb len 2) (lookUp twoLetters last)
+    (cond (eqb len 3) (lookUp threeLetters b)
+    (cond (eqb len 5) (lookUp fiveLetters b)
     (cond (eqb len 10) instanceofWord
-    0))))))
+    (cond (eqb len 7) (cond (eqb b (byte "d")) defaultWord finallyWord)
+    0)))))))
 
 -- by the kind alone; 0 for that of words and of signs
 unfoldable pub kindBy : ℕ → ℕ
@@ -180,7 +211,7 @@ isSpelled kind = eqb kind signKind || (eqb kind beforeKind || eqb kind afterKind
 
 -- the class of a record's token, by its kind, its length and its first and last bytes
 unfoldable pub classBy : ℕ → ℕ → ℕ → ℕ → ℕ
-classBy kind len b last = cond (isSpelled kind) (signBy len b last) (cond (eqb kind wordKind) (wordBy len last) (kindBy kind))
+classBy kind len b last = cond (isSpelled kind) (signBy len b last) (cond (eqb kind wordKind) (wordBy len b last) (kindBy kind))
 
 -- of a text and cells; 0 past the last record
 unfoldable pub classAt : List ℕ → List ℕ → ℕ → ℕ

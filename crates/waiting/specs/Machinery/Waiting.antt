@@ -3,7 +3,7 @@ use Prim.Native.Nat.{ℕ, _+_, _-_, _*_, _≤_}
 use mathlib.Core.Path.{_≡_}
 use mathlib.Core.Bool.{cond}
 use mathlib.Core.List.{List, [], _∷_}
-use lib.Dec.{eqb, leb}
+use lib.Dec.{leb}
 use lib.ListN.{length, getD, set}
 use Rattle.tables.specs.Records.{mostTrees}
 use Rattle.machine.specs.Syntax.{Syntax, snoc, node, size}
@@ -15,19 +15,20 @@ use Rattle.waiting.specs.declared.Level.{Level}
 abbrev pub width : ℕ
 width = 3
 
--- in place of a kind, what stands for a nest, and the least number that stands for a `?` that is not answered
+-- in place of a kind, the least number that stands for a nest, and that stands for a `?` that is not answered; and the settings that such numbers have
+-- room for
 abbrev pub nestKind : ℕ
-nestKind = 0
+nestKind = 128
 
 abbrev pub askKind : ℕ
 askKind = 256
 
+abbrev pub settings : ℕ
+settings = 8
+
 -- how tight what waits binds: an operator more than 1, the beginning of a statement 1, a nest 0 and an open `?` 0
 unfoldable pub binding : ℕ → ℕ
-binding kind =
-    cond (eqb kind nestKind) 0
-    (cond (leb askKind kind) 0
-    (tightness kind + 1))
+binding kind = cond (leb nestKind kind) 0 (tightness kind + 1)
 
 -- what waits, innermost first, and the operand, once those are closed that bind at least so tight
 pub data Shut : Type 0 where

@@ -16,7 +16,7 @@ returns-3 : tie.Need-returns-3
 unfolding itemsBy
 returns-3 c =
     let ending = c .before .before .args .ending in
-    rw (ne-eqb ending 5 (c .before .if1 .left), ne-eqb ending 6 (c .if2 .left))
+    rw (ne-eqb ending 15 (c .before .if1 .left), ne-eqb ending 16 (c .if2 .left))
 
 pub list-closer-spec : {M : Type 1} → statement M
 list-closer-spec = tie.close (tie.spec returns returns-2 returns-3)
