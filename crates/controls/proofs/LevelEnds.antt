@@ -5,8 +5,8 @@ use mathlib.Core.List.{List, _∷_}
 use mathlib.Core.Logic.{_⊎_, inl, inr}
 use Prim.Native.Nat.{ℕ, _≤_, _<_}
 use native.Mathlib.Omega.{arith}
-use borrow.Author.Tests.{ne-eqb, eqb-true, eqb-false}
-use lib.Dec.{T, eqb}
+use borrow.Author.Tests.{ne-eqb, eqb-true, eqb-false, leb-true}
+use lib.Dec.{T, eqb, leb}
 use Rattle.machine.specs.Tokens.{question, dot, openParen, closeParen, closeBrace, openBracket, closeBracket}
 use Rattle.machine.specs.Operators.{binaryOperatorsBy}
 use Rattle.machine.specs.Scopes.{Items, callArguments, arrayElements, objectProperties}
@@ -284,7 +284,7 @@ module _ (closer : ℕ) (end : T (isEnd closer)) where
       (at 38 (functionFirst declared) refl refl refl refl
       (at 39 (functionNamed declared) refl refl refl refl
       (at 40 (parameterPast declared) refl refl refl refl
-      (clause-goes-on (eqb place 45) refl)))))))))))))))))))))))))))))))))
+      (clause-goes-on (leb 45 place) refl)))))))))))))))))))))))))))))))))
     where
       expression : Ending
       expression = endingBy ending setting
@@ -302,7 +302,7 @@ module _ (closer : ℕ) (end : T (isEnd closer)) where
       named-goes-on (inHead false) = no-closer-at (variableNamed (inHead false)) refl refl refl refl
 
       -- no `}` comes here
-      clause-goes-on : (b : Bool) → eqb place 45 ≡ b → GoesOn closer (cond b (statementDue false inClause) finished)
+      clause-goes-on : (b : Bool) → leb 45 place ≡ b → GoesOn closer (cond b (statementDue false inClause) finished)
       clause-goes-on true e =
-          at-closers (λ (k : ℕ). (k ≡ closeBrace → ⊥) → GoesOn k (statementDue false inClause)) (λ other. goes-on) (λ other. absurd (other refl)) (λ other. goes-on) (λ other. goes-on) closer end (settled .no-clause (eqb-true place 45 e) .2)
+          at-closers (λ (k : ℕ). (k ≡ closeBrace → ⊥) → GoesOn k (statementDue false inClause)) (λ other. goes-on) (λ other. absurd (other refl)) (λ other. goes-on) (λ other. goes-on) closer end (settled .no-clause (leb-true 45 place e) .2)
       clause-goes-on false e = no-closer-at finished refl refl refl refl

@@ -3,10 +3,10 @@ use mathlib.Core.Path.{_≡_, refl, _∙_}
 use mathlib.Core.Bool.{Bool, true, false, cond}
 use Prim.Native.Nat.{ℕ, _+_, _≤_, _<_}
 use native.Mathlib.Omega.{arith}
-use borrow.Author.Tests.{eq-eqb, ne-eqb, eqb-false}
+use borrow.Author.Tests.{eq-eqb, ne-eqb, eqb-false, le-leb}
 use lib.Dec.{T, eqb, ltb, ltb→lt}
 use Rattle.machine.specs.Scopes.{body, block}
-use Rattle.machine.specs.Machinery.Machine.{ifNest, elseNest, doNest, among, inClause, inNest, byItem, finished}
+use Rattle.machine.specs.Machinery.Machine.{ifNest, elseNest, doNest, among, inClause, inNest, byItem, statementDue}
 use Rattle.controls.specs.Machinery.Numbers.{settingBy, nestBy, itemsBy, endingBy, controlBy}
 
 -- numbers that are passed one by one
@@ -50,9 +50,9 @@ item-ending ending setting h =
     let other = other-than ending 15 h in
     simp (other 0 tt, other 1 tt, other 2 tt, other 3 tt, other 4 tt, other 5 tt, other 6 tt, other 7 tt, other 8 tt, other 9 tt, other 10 tt, other 11 tt, other 12 tt, other 13 tt, other 14 tt)
 
--- no place has a number past the last
-pub past-places : (place ending setting : ℕ) (flag : Bool) → 46 ≤ place → controlBy place ending setting flag ≡ finished
+-- from the last number on a place is that of a clause
+pub at-clause : (place ending setting : ℕ) (flag : Bool) → 45 ≤ place → controlBy place ending setting flag ≡ statementDue false inClause
 unfolding controlBy
-past-places place ending setting flag h =
-    let other = other-than place 46 h in
-    simp (other 0 tt, other 1 tt, other 2 tt, other 3 tt, other 4 tt, other 5 tt, other 6 tt, other 7 tt, other 8 tt, other 9 tt, other 10 tt, other 11 tt, other 12 tt, other 13 tt, other 14 tt, other 15 tt, other 16 tt, other 17 tt, other 18 tt, other 19 tt, other 20 tt, other 21 tt, other 22 tt, other 23 tt, other 24 tt, other 25 tt, other 26 tt, other 27 tt, other 28 tt, other 29 tt, other 30 tt, other 31 tt, other 32 tt, other 33 tt, other 34 tt, other 35 tt, other 36 tt, other 37 tt, other 38 tt, other 39 tt, other 40 tt, other 41 tt, other 42 tt, other 43 tt, other 44 tt, other 45 tt)
+at-clause place ending setting flag h =
+    let other = other-than place 45 h in
+    simp (other 0 tt, other 1 tt, other 2 tt, other 3 tt, other 4 tt, other 5 tt, other 6 tt, other 7 tt, other 8 tt, other 9 tt, other 10 tt, other 11 tt, other 12 tt, other 13 tt, other 14 tt, other 15 tt, other 16 tt, other 17 tt, other 18 tt, other 19 tt, other 20 tt, other 21 tt, other 22 tt, other 23 tt, other 24 tt, other 25 tt, other 26 tt, other 27 tt, other 28 tt, other 29 tt, other 30 tt, other 31 tt, other 32 tt, other 33 tt, other 34 tt, other 35 tt, other 36 tt, other 37 tt, other 38 tt, other 39 tt, other 40 tt, other 41 tt, other 42 tt, other 43 tt, other 44 tt, le-leb 45 place h)

@@ -5,17 +5,22 @@ use Prim.Native.Nat.{ℕ, _≤_, _<_}
 use native.Mathlib.Omega.{arith}
 use borrow.Author.Tests.{eqb-true, eqb-false}
 use lib.Dec.{T, eqb}
-use Rattle.machine.specs.Machinery.Machine.{Control, goto, push}
+use Rattle.machine.specs.Machinery.Machine.{inClause, Control, statementDue, goto, push}
 use Rattle.controls.specs.Machinery.Numbers.{endingBy, controlBy, controlOf, effectBy, closingBy, insideBy}
 use Rattle.controls.specs.declared.Control as code
 use Rattle.controls.specs.declared.Step.the-variants.{Goto, Push}
 use Rattle.machine.specs.Machinery.Classes.{isSingle, isOpener}
+use Rattle.controls.proofs.NumberLaws.{at-clause}
 use Rattle.controls.specs.Machinery.Steps.{Ended, ended-operand, ended-postfix, Leads, Spans, Means, means-goto, means-push}
 
 -- where the code stands, by the number of its place
 pub at-place : (at : code.Control) (place : ℕ) → at .place ≡ place → controlOf at ≡ controlBy place (at .ending) (at .setting) (at .flag)
 unfolding controlOf
 at-place at place e = rw e
+
+pub in-clause : (at : code.Control) → 45 ≤ at .place → controlOf at ≡ statementDue false inClause
+unfolding controlOf
+in-clause at h = at-clause (at .place) (at .ending) (at .setting) (at .flag) h
 
 -- what a step means that leads to a control known so, or to it past a group
 module _ {from : Control} {class : ℕ} {to : code.Control} {behind : Control} (e : controlOf to ≡ behind) where

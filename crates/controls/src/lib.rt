@@ -1,9 +1,10 @@
 // Where the token machine stands, and what it does: places and effects are named after those of machine/specs/Machinery/Machine.antt
 // where there is one, so that the two can be laid side by side; specs/Machinery/Numbers.antt ties them.
 ghost use mathlib.Core.Path.{_≡_};
-ghost use Rattle.machine.specs.Machinery.Machine.{behindStatement};
+ghost use mathlib.Core.Bool.{false};
+ghost use Rattle.machine.specs.Machinery.Machine.{behindStatement, statementDue};
 ghost use Rattle.machine.specs.Machinery.Classes.{isLeaf};
-ghost use Prim.Native.Nat.{ℕ};
+ghost use Prim.Native.Nat.{ℕ, _≤_};
 ghost use Rattle.controls.specs.Machinery.Numbers.{settingBy, endingBy, controlBy, controlOf, startKind, insideBy, enteredBy};
 
 pub mod bindings;
@@ -313,6 +314,16 @@ pub fn inside_of(closing: u32) -> Control
         TO_CATCH => stand(CATCH_DUE, BY_PAREN, BODY, true),
         _ => stand(OPERAND_DUE, BY_PAREN, BODY, true),
     }
+}
+
+// A group whose inside has the statements of a scope, a body's or a block's.
+pub fn around(scope: u32) -> u32
+    ensures { λ r. ⌜ (scope ≤ 1 → insideBy r ≡ statementDue false (settingBy scope)) ⌝ }
+{
+    if scope == BODY {
+        return TO_FUNCTION;
+    }
+    TO_BLOCK
 }
 
 // Where the inside of a nest starts.

@@ -58,10 +58,11 @@ pub fn put(syntax: &mut [u32], count: usize, kind: u32, mark: usize, start: usiz
     requires { ⌜ (start ≤ count) × (count < mostSyntax) × (mark ≤ mostTrees) ⌝ }
     ensures { λ r. ⌜ (r ≡ count + 1) × (now (syntax .exit) ≡ putRecord (now (syntax .entry)) count kind mark (count - start + 1)) ⌝ }
 {
-    if syntax.len() / SyntaxRecord::WIDTH <= count {
+    let at = count * SyntaxRecord::WIDTH;
+    // A quotient would be reckoned anew for each level, before its first record.
+    if syntax.len() < at + SyntaxRecord::WIDTH {
         return count + 1;
     }
-    let at = count * SyntaxRecord::WIDTH;
     syntax[at] = kind;
     syntax[at + 1] = mark as u32;
     syntax[at + 2] = (count - start + 1) as u32;

@@ -159,7 +159,7 @@ assignments-recorded text d before e after split h =
     assign-recorded (elements-counting (d .elements)) (d .steps) (tokens before)
     (record { newline = e .newline; mark = countTrees before; first = e .first }) (t .0) (rw h at (ap tokens split ∙ t .1))
 
--- and so does `in`, but inside a `for` with `in` (`Relates`)
+-- and so does `in`, but where it is that of a `for`, between its target or variable and its object
 pub relations-recorded : (text : List ℕ) (d : Derivation text) (before : List Element) (e : Element) (after : List Element)
     → d .elements ≡ before ++ (e ∷ after) → classOf e ≡ inWord → Relates (countTrees before) (partsOf (d .parts))
 relations-recorded text d before e after split h =

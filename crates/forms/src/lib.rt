@@ -1,7 +1,7 @@
 // Rows of the machine's table inside a form: operands, members, labels, heads of statements, items of lists, functions and their parameters.
 ghost use mathlib.Core.Bool.{Bool, true, false};
 ghost use mathlib.Core.List.{[], _∷_};
-ghost use Prim.Native.Nat.{ℕ, _≤_};
+ghost use Prim.Native.Nat.{ℕ, _≤_, _<_};
 ghost use mathlib.Core.Path.{_≡_};
 ghost use lib.Dec.{T};
 ghost use Rattle.machine.specs.Tokens.{openParen, openBrace};
@@ -227,7 +227,7 @@ fn item_row(class: u32, ending: u32) -> Step
 
 // The places inside a form whose next token is settled, from `MEMBER_DUE` on.
 pub fn form_row(place: u32, ending: u32, setting: u32, flag: bool, class: u32) -> Step
-    ensures { λ r. ⌜ (12 ≤ place → (place ≡ 45 → ⊥) → SettledAt place setting class → (newline : Bool) → Means (controlBy place ending setting flag) class r (look class (row (controlBy place ending setting flag) newline))) ⌝ }
+    ensures { λ r. ⌜ (12 ≤ place → place < 45 → SettledAt place setting class → (newline : Bool) → Means (controlBy place ending setting flag) class r (look class (row (controlBy place ending setting flag) newline))) ⌝ }
 {
     match place {
         DOT_LAST => only_names(class, OPERAND_DONE, ending, setting, flag, TAKE_MEMBER),
@@ -261,7 +261,7 @@ pub fn form_row(place: u32, ending: u32, setting: u32, flag: bool, class: u32) -
 
 // The places of statements that start with a word, and of functions.
 fn later_row(place: u32, ending: u32, setting: u32, flag: bool, class: u32) -> Step
-    ensures { λ r. ⌜ (17 ≤ place → (41 ≤ place → 46 ≤ place) → (newline : Bool) → Means (controlBy place ending setting flag) class r (look class (row (controlBy place ending setting flag) newline))) ⌝ }
+    ensures { λ r. ⌜ (17 ≤ place → place < 41 → (newline : Bool) → Means (controlBy place ending setting flag) class r (look class (row (controlBy place ending setting flag) newline))) ⌝ }
 {
     if place <= SWITCH_PAST {
         return word_form_row(place, ending, setting, class);
@@ -407,7 +407,7 @@ fn handler_row(class: u32) -> Step
 
 // The places of a function's parameters, and of a function that is an operand.
 fn function_row(place: u32, ending: u32, setting: u32, flag: bool, class: u32) -> Step
-    ensures { λ r. ⌜ (33 ≤ place → (41 ≤ place → 46 ≤ place) → (newline : Bool) → Means (controlBy place ending setting flag) class r (look class (row (controlBy place ending setting flag) newline))) ⌝ }
+    ensures { λ r. ⌜ (33 ≤ place → place < 41 → (newline : Bool) → Means (controlBy place ending setting flag) class r (look class (row (controlBy place ending setting flag) newline))) ⌝ }
 {
     match place {
         PARAMETER_DUE => only(
@@ -471,7 +471,7 @@ fn unnamed_row(ending: u32, setting: u32, flag: bool, class: u32) -> Step
 
 // The places of a function that is declared.
 fn declared_row(place: u32, class: u32) -> Step
-    ensures { λ r. ⌜ (38 ≤ place → (41 ≤ place → 46 ≤ place) → (ending setting : ℕ) (flag newline : Bool) → Means (controlBy place ending setting flag) class r (look class (row (controlBy place ending setting flag) newline))) ⌝ }
+    ensures { λ r. ⌜ (38 ≤ place → place < 41 → (ending setting : ℕ) (flag newline : Bool) → Means (controlBy place ending setting flag) class r (look class (row (controlBy place ending setting flag) newline))) ⌝ }
 {
     match place {
         DECLARED_FIRST => only(
@@ -492,7 +492,7 @@ fn declared_row(place: u32, class: u32) -> Step
             false,
             TO_PARAMETER,
         ),
-        DECLARED_PAST => opens(
+        _ => opens(
             class,
             tokens::OPEN_BRACE,
             STATEMENT_DUE,
@@ -501,6 +501,5 @@ fn declared_row(place: u32, class: u32) -> Step
             false,
             TO_DECLARATION,
         ),
-        _ => Step::Fail,
     }
 }

@@ -4,8 +4,8 @@ use mathlib.Core.Bool.{Bool, true, false, cond, not, _||_}
 use mathlib.Core.List.{List, [], _∷_, _++_}
 use Prim.Native.Nat.{ℕ, _+_, _-_, _*_, _/_, _%_, _≤_, _<_}
 use native.Mathlib.Omega.{arith}
-use borrow.Author.Tests.{eq-eqb, ne-eqb, eqb-true, eqb-false, lt-ltb, le-ltb, ltb-true, ltb-false}
-use lib.Dec.{T, eqb, ltb}
+use borrow.Author.Tests.{eq-eqb, ne-eqb, eqb-true, eqb-false, lt-ltb, le-ltb, ltb-true, ltb-false, leb-true, le-leb}
+use lib.Dec.{T, eqb, ltb, leb}
 use lib.ListN.{length, getD}
 use Rattle.tables.specs.Records.{mostTrees, mostSyntax}
 use Rattle.machine.specs.Tokens.{Token, token, Spot, name, colon, elseWord, doWord, tryWord, caseWord, defaultWord, finallyWord, closeBrace}
@@ -84,6 +84,8 @@ use Rattle.controls.specs.Machinery.Numbers.{settingBy, nestBy, endingBy, targe
 use Rattle.controls.specs.Machinery.Steps.{Ended, Enters, enters-if, enters-do, enters-try, enters-case, enters-last-case, enters-default, SettledAt, Settled, inGroup, Ends, ends-statements, ends-text, ends-expression, ends-item, ends-items, ends-no-parameter, ends-parameter, ends-head, ends-object, ends-no-step, ends-clauses, ends-caught}
 use Rattle.controls.specs.declared.Control as code
 use Rattle.controls.specs.Machinery.Written.{putRecord}
+use Rattle.controls.proofs.NumberLaws.{other-than}
+use Rattle.controls.proofs.StepLaws.{in-clause}
 use Rattle.waiting.specs.Machinery.Waiting.{width, nestKind, settings, Backed, Closes, Completes, stackWith, stackAs, waitingOne, madeOne, withHeld, restarted}
 use Rattle.waiting.specs.declared.Level.{Level}
 use Rattle.waiting.proofs.HoldLaws.{backed, start-le}
@@ -426,6 +428,13 @@ module _ {g : Frame} {nests : List machine.Open} {table stack₀ : List ℕ} {fi
       (expression-written (rw (s .shaped .0, s .shaped .1, s .shaped .2, s .shaped .3, s .shaped .4) at (carries-expression (carried s) f w closes)))
 
 -- what is done before a token, over the code's controls
+no-leb : (a b : ℕ) → (a ≤ b → ⊥) → leb a b ≡ false
+no-leb a b beyond = go (leb a b) refl
+  where
+    go : (c : Bool) → leb a b ≡ c → leb a b ≡ false
+    go true e = absurd (beyond (leb-true a b e))
+    go false e = e
+
 module _ (at : code.Control) where
   control-named : at .place ≡ 42 → controlOf at ≡ nameFirst (settingBy (at .setting))
   unfolding controlOf controlBy
@@ -443,10 +452,6 @@ module _ (at : code.Control) where
   unfolding controlOf controlBy
   control-try e = rw e
 
-  control-clause : at .place ≡ 45 → controlOf at ≡ statementDue false inClause
-  unfolding controlOf controlBy
-  control-clause e = rw e
-
   operand-settles : {ending : Ending} {target : Target} (class : ℕ) → controlOf at ≡ operandDone ending target → Settled at class
   operand-settles class e =
       record {
@@ -454,7 +459,7 @@ module _ (at : code.Control) where
         no-name = λ p. let q = control-named p in let z : _≡_ {A = ℕ} 0 1 = cc in absurd (omega arith);
         no-catch = λ p. let q = control-catch p in let z : _≡_ {A = ℕ} 0 1 = cc in absurd (omega arith);
         no-try = λ p. let q = control-try p in let z : _≡_ {A = ℕ} 0 1 = cc in absurd (omega arith);
-        no-clause = λ p. let q = control-clause p in let z : _≡_ {A = ℕ} 0 1 = cc in absurd (omega arith);
+        no-clause = λ p. let q = in-clause at p in let z : _≡_ {A = ℕ} 0 1 = cc in absurd (omega arith);
       }
 
   nest-unnamed : (nest : ℕ) (setting : Setting) → controlOf at ≡ behindBy nest setting → at .place ≡ 42 → ⊥
@@ -470,7 +475,7 @@ module _ (at : code.Control) where
         ne-eqb (at .place) 41 (λ p. let q = control-done p in let z : _≡_ {A = ℕ} 0 1 = cc in omega arith),
         ne-eqb (at .place) 43 (λ p. let q = control-catch p in let z : _≡_ {A = ℕ} 0 1 = cc in omega arith),
         ne-eqb (at .place) 44 (λ p. let q = control-try p in let z : _≡_ {A = ℕ} 0 1 = cc in omega arith),
-        ne-eqb (at .place) 45 (λ p. let q = control-clause p in let z : _≡_ {A = ℕ} 0 1 = cc in omega arith),
+        no-leb 45 (at .place) (λ p. let q = in-clause at p in let z : _≡_ {A = ℕ} 0 1 = cc in omega arith),
       )
 
 -- a nest is done that a token does not go on with
@@ -665,9 +670,9 @@ not-true false e = refl
 
 pub done-here : (at : code.Control) (class : ℕ) → isDone at class ≡ true → Done at class
 unfolding isDoneAt mayBeDone
-done-here at class e = go (eqb (at .place) 41) (eqb (at .place) 43) (eqb (at .place) 44) (eqb (at .place) 45) refl refl refl refl e
+done-here at class e = go (eqb (at .place) 41) (eqb (at .place) 43) (eqb (at .place) 44) (leb 45 (at .place)) refl refl refl refl e
   where
-    go : (a b d f : Bool) → eqb (at .place) 41 ≡ a → eqb (at .place) 43 ≡ b → eqb (at .place) 44 ≡ d → eqb (at .place) 45 ≡ f
+    go : (a b d f : Bool) → eqb (at .place) 41 ≡ a → eqb (at .place) 43 ≡ b → eqb (at .place) 44 ≡ d → leb 45 (at .place) ≡ f
         → cond a (not (eqb class elseWord) || not (eqb (at .setting) 3)) (cond b (not (eqb class finallyWord)) (cond d true (cond f (endsClause class) false))) ≡ true
         → Done at class
     go true b d f x y z w e =
@@ -676,7 +681,7 @@ done-here at class e = go (eqb (at .place) 41) (eqb (at .place) 43) (eqb (at .pl
         record { value = doneValue; leaving = rw (control-catch at (eqb-true (at .place) 43 y)) (leaving-catch (eqb-false class finallyWord (not-true (eqb class finallyWord) e))); may = rw (x, y) }
     go false false true f x y z w e = record { value = doneValue; leaving = rw (control-try at (eqb-true (at .place) 44 z)) leaving-try; may = rw (x, y, z) }
     go false false false true x y z w e =
-        record { value = doneValue; leaving = rw (control-clause at (eqb-true (at .place) 45 w)) (clause-test class e); may = rw (x, y, z, w) }
+        record { value = doneValue; leaving = rw (in-clause at (leb-true 45 (at .place) w)) (clause-test class e); may = rw (x, y, z, w) }
     go false false false false x y z w e = absurd (let v : _≡_ {A = ℕ} 0 1 = cc in omega arith)
 
 -- where the tests fail
@@ -706,6 +711,10 @@ clause-settled class e = go (eqb class caseWord) (eqb class defaultWord) (eqb cl
     go false false true x y z e = let w : _≡_ {A = ℕ} 0 1 = cc in absurd (omega arith)
     go false false false x y z e = (eqb-false class caseWord x, eqb-false class defaultWord y, eqb-false class closeBrace z)
 
+clause-left : (place setting class : ℕ) → 45 ≤ place → isDoneAt place setting class ≡ false → endsClause class ≡ false
+unfolding isDoneAt
+clause-left place setting class h e = let other = other-than place 45 h in rw (other 41 tt, other 43 tt, other 44 tt, le-leb 45 place h) at e
+
 pub settled-here : (place setting class : ℕ) → isDoneAt place setting class ≡ false → (place ≡ 42 → ⊥) → SettledAt place setting class
 unfolding isDoneAt
 settled-here place setting class e unnamed =
@@ -714,7 +723,7 @@ settled-here place setting class e unnamed =
       no-name = λ p. absurd (unnamed p);
       no-catch = λ p. catch-settled class (rw p at e);
       no-try = λ p. let w : true ≡ false = rw p at e in let v : _≡_ {A = ℕ} 0 1 = cc in omega arith;
-      no-clause = λ p. clause-settled class (rw p at e);
+      no-clause = λ p. clause-settled class (clause-left place setting class p e);
     }
 
 pub name-readies : {at c : code.Control} {l r : Level} {cells cells′ : List ℕ} → at .place ≡ 42 → controlOf c ≡ controlBy 3 0 (at .setting) true

@@ -96,11 +96,13 @@ fn is_done(at: Control, class: u32) -> bool
     ensures { λ r. ⌜ r ≡ isDone at class ⌝ }
 {
     let place = at.place;
+    if controls::CLAUSE_STATEMENT <= place {
+        return ends_clause(class);
+    }
     match place {
         controls::STATEMENT_DONE => class != tokens::ELSE || at.setting != controls::IF_NEST,
         controls::CATCH_DONE => class != tokens::FINALLY,
         controls::TRY_ENDED => true,
-        controls::CLAUSE_STATEMENT => ends_clause(class),
         _ => false,
     }
 }

@@ -112,17 +112,14 @@ signed : {low middle high : ℕ} {before last : Syntax} → Marks low middle bef
 signed {high = high} before last = let up : high ≤ high + 1 = omega arith in to-higher up (marks-both before last)
 
 -- tokens are passed, with or without parts that they make: the next mark behind them
-pub record Skips (total low : ℕ) (after : List Token) : Type 0 where
-  pub high : ℕ
-  pub rest : Counting total high after
-  pub up : low ≤ high
+record Skips (total low : ℕ) (after : List Token) : Type 0 where
+  high : ℕ
+  rest : Counting total high after
+  up : low ≤ high
 
 module _ {total : ℕ} where
   skips-none : {low : ℕ} {here : List Token} → Counting total low here → Skips total low here
   skips-none {low} counting = record { high = low; rest = counting; up = omega arith }
-
-  pub part-skips : {low : ℕ} {after : List Token} {value : Syntax} → MarksTo total low after value → Skips total low after
-  part-skips {low} m = let up : low ≤ m .high = omega (arith, range-size (m .marks)) in record { high = m .high; rest = m .rest; up = up }
 
   item-skips : {low : ℕ} {items : Items} {before after : List Token} → ItemStart items before after → Counting total low before → Skips total low after
   item-skips at-argument counting = skips-none counting

@@ -1,12 +1,12 @@
 -- Document 02, U4: "each added operator and value word makes one syntax record": each token of a program that is one marks a part, whose kind its
 -- class and its place in the part tell. No two parts have the same mark (OwnMarks.antt).
-use mathlib.Core.Path.{_≡_, refl, subst}
+use mathlib.Core.Path.{_≡_, refl, sym, subst}
 use mathlib.Core.Bool.{Bool, true, not}
 use mathlib.Core.List.{List, [], _∷_, _++_, List·Memᴰ, List·Memᴰ·head, Memᴰ·append-left, Memᴰ·append-right, append-assoc}
 use Prim.Native.Nat.{ℕ, _+_, _≤_, _<_}
 use native.Mathlib.Omega.{arith}
 use lib.Dec.{T, T-not}
-use Rattle.machine.specs.Tokens.{Token, token, Spot, name, assign, comma, varWord, elseWord, doWord, whileWord, forWord, inWord, switchWord, caseWord, defaultWord, throwWord, tryWord, catchWord, finallyWord, debuggerWord, colon, semicolon, dot, openParen, closeParen, openBracket, closeBracket, openBrace, closeBrace, returnWord, functionWord, ifWord}
+use Rattle.machine.specs.Tokens.{Token, token, Spot, name, newWord, assign, comma, varWord, elseWord, doWord, whileWord, forWord, inWord, switchWord, caseWord, defaultWord, throwWord, tryWord, catchWord, finallyWord, debuggerWord, colon, semicolon, dot, openParen, closeParen, openBracket, closeBracket, openBrace, closeBrace, returnWord, functionWord, ifWord}
 use Rattle.machine.specs.Syntax.{Syntax, nil, node, snoc, marksOf, variableSyntax, forInSyntax}
 use Rattle.grammar.specs.Grammar.{
   assignmentOperators,
@@ -107,28 +107,28 @@ use Rattle.grammar.specs.Grammar.{
   add-declaration,
   binaryForm,
   expressionForm,
+  Statement,
+  Expression,
   Target,
   Chain,
   Program,
 }
-use Rattle.grammar.specs.Recorded.{recordedClasses, isRecorded, firstKinds, behindKind, Part, part, partsOf, Makes, makes-first, makes-behind, Assigns, assigns, initialises, Relates, relates, iterates}
+use Rattle.grammar.specs.Recorded.{recordedClasses, isRecorded, firstKinds, behindKind, Part, part, partsOf, Makes, makes-first, makes-behind, Assigns, assigns, initialises, Iterates, Relates, relates, iterates}
 use Rattle.grammar.proofs.TableLaws.{at-class, at-leaf, number-at, binary-by}
 use Rattle.grammar.proofs.Counts.{isClosing, leaf-open, operator-open}
-use Rattle.grammar.proofs.Ranges.{within}
-use Rattle.grammar.proofs.Counting.{Counting, counting-closer, counting-mark, at-mark}
-use Rattle.grammar.proofs.OwnMarks.{MarksTo, Skips, part-skips, marked}
+use Rattle.grammar.proofs.Ranges.{marks-both, no-marks, before-parts, within}
+use Rattle.grammar.proofs.Counting.{Counting, counting-closer, counting-mark, past-closer, at-mark}
+use Rattle.grammar.proofs.OwnMarks.{MarksTo, marked}
 
 -- a token that is to have a record, or a `=` or `in`
 abbrev mayMark : ℕ → Bool
 mayMark class = isAmong (assign ∷ inWord ∷ recordedClasses) class
 
--- it has it among these, or stands behind the name of a variable, or in the head of a `for`
+-- it has it among these, or initialises a variable, or is the `in` of a `for`
 data Has (class mark : ℕ) (parts : List Part) : Type 0 where
   has-part : Makes class mark parts → Has class mark parts
-  has-variable : {called : ℕ} {inside : List ℕ} → class ≡ assign → List·Memᴰ (part variableSyntax called inside) parts → called + 1 ≡ mark
-      → Has class mark parts
-  has-for : {word later : ℕ} {inside : List ℕ} → class ≡ inWord → List·Memᴰ (part forInSyntax word inside) parts → word < mark → List·Memᴰ later inside
-      → mark < later → Has class mark parts
+  has-assign : class ≡ assign → Assigns mark parts → Has class mark parts
+  has-in : class ≡ inWord → Relates mark parts → Has class mark parts
 
 -- so it is with each of a list
 data Recorded (parts : List Part) : List Token → Type 0 where
@@ -154,42 +154,50 @@ jump-other : {class bare : ℕ} → JumpWord class bare → T (not (mayMark clas
 jump-other continue-word = tt
 jump-other break-word = tt
 
--- an operand has a mark
-record HasMark (value : Syntax) : Type 0 where
-  has : ℕ
-  member : List·Memᴰ has (marksOf value)
+-- a mark is among a tree's
+record MarkIn (mark : ℕ) (value : Syntax) : Type 0 where
+  member : List·Memᴰ mark (marksOf value)
 
-node-mark : {kind mark : ℕ} {left right : Syntax} → HasMark (node kind mark left right)
-node-mark {mark = mark} {left = left} {right = right} =
-    record { has = mark; member = Memᴰ·append-right (marksOf left) (Memᴰ·append-right (marksOf right) (List·Memᴰ·head refl)) }
+left-mark : {mark kind own : ℕ} {left right : Syntax} → MarkIn mark left → MarkIn mark (node kind own left right)
+left-mark {own = own} {right = right} m = record { member = Memᴰ·append-left (marksOf right ++ (own ∷ [])) (m .member) }
 
-chain-mark : {calls : Bool} {before after : List Token} {value : Syntax} → Chain calls before after value → HasMark value
-chain-mark (chain-leaf leaf) = node-mark
-chain-mark (chain-array values) = node-mark
-chain-mark (chain-object values) = node-mark
-chain-mark (chain-parens value) = node-mark
-chain-mark (chain-function function) = node-mark
-chain-mark (chain-unnamed function) = node-mark
-chain-mark (chain-index object value) = node-mark
-chain-mark (chain-member called object) = node-mark
-chain-mark (chain-call callee values) = node-mark
-chain-mark (chain-new callee values) = node-mark
+-- that of the first token of an operand is among the operand's
+module _ {total low : ℕ} where
+  own-first : (class : ℕ) {kind : ℕ} {spot : Spot} {rest : List Token} {left right : Syntax} → T (not (isClosing class))
+      → Counting total low (token class spot ∷ rest) → MarkIn low (node kind (spot .mark) left right)
+  own-first class {left = left} {right = right} opens c =
+      record { member = Memᴰ·append-right (marksOf left) (Memᴰ·append-right (marksOf right) (List·Memᴰ·head (sym (at-mark class opens c .own)))) }
 
-target-mark : {calls : Bool} {before after : List Token} {value : Syntax} → Target calls before after value → HasMark value
-target-mark (target-chain chain) = chain-mark chain
-target-mark (target-new callee) = node-mark
+  chain-first : {calls : Bool} {before after : List Token} {value : Syntax} → Chain calls before after value → Counting total low before → MarkIn low value
+  chain-first (chain-leaf {class = class} leaf) c = own-first class (leaf-open leaf) c
+  chain-first (chain-array values) c = own-first openBracket tt c
+  chain-first (chain-object values) c = own-first openBrace tt c
+  chain-first (chain-parens value) c = own-first openParen tt c
+  chain-first (chain-function function) c = own-first functionWord tt c
+  chain-first (chain-unnamed function) c = own-first functionWord tt c
+  chain-first (chain-index object value) c = left-mark (chain-first object c)
+  chain-first (chain-member called object) c = left-mark (chain-first object c)
+  chain-first (chain-call callee values) c = left-mark (chain-first callee c)
+  chain-first (chain-new callee values) c = own-first newWord tt c
 
-binary-mark : {within : Bool} {least : ℕ} {before after : List Token} {value : Syntax} → Derives (binaryForm within least) before after value → HasMark value
-binary-mark (binary-unary (unary-target target)) = target-mark target
-binary-mark (binary-unary (unary-prefix op operand)) = node-mark
-binary-mark (binary-unary (unary-postfix op same operand)) = node-mark
-binary-mark (binary-operator op tight left right) = node-mark
+  target-first : {calls : Bool} {before after : List Token} {value : Syntax} → Target calls before after value → Counting total low before → MarkIn low value
+  target-first (target-chain chain) c = chain-first chain c
+  target-first (target-new callee) c = own-first newWord tt c
 
-expression-mark : {within : Bool} {before after : List Token} {value : Syntax} → Derives (expressionForm within) before after value → HasMark value
-expression-mark (expression-assign (assign-binary binary)) = binary-mark binary
-expression-mark (expression-assign (assign-to op target value)) = node-mark
-expression-mark (expression-assign (assign-conditional condition first second)) = node-mark
-expression-mark (expression-comma left right) = node-mark
+  binary-first : {within : Bool} {least : ℕ} {before after : List Token} {value : Syntax} → Derives (binaryForm within least) before after value
+      → Counting total low before → MarkIn low value
+  binary-first (binary-unary (unary-target target)) c = target-first target c
+  binary-first (binary-unary (unary-prefix {class = class} op operand)) c = own-first class (operator-open prefixOperators tt class op) c
+  binary-first (binary-unary (unary-postfix op same operand)) c = left-mark (target-first operand c)
+  binary-first (binary-operator op tight left right) c = left-mark (binary-first left c)
+
+  expression-first : {within : Bool} {before after : List Token} {value : Syntax} → Derives (expressionForm within) before after value
+      → Counting total low before → MarkIn low value
+  expression-first (expression-assign (assign-binary binary)) c = binary-first binary c
+  expression-first (expression-assign (assign-to op target value)) c = left-mark (target-first target c)
+  expression-first (expression-assign (assign-conditional {first = inner} condition first second)) c =
+      left-mark (record { member = Memᴰ·append-left (marksOf inner) (binary-first condition c .member) })
+  expression-first (expression-comma left right) c = left-mark (expression-first left c)
 
 -- the records of a part are among these
 record Among (parts : List Part) (value : Syntax) : Type 0 where
@@ -209,7 +217,7 @@ module _ {parts : List Part} where
   in-last : {before last : Syntax} → Among parts (snoc before last) → Among parts last
   in-last {before} among = record { each = λ p member. among .each p (Memᴰ·append-right (partsOf before) member) }
 
-  own-part : {kind mark : ℕ} {left right : Syntax} → Among parts (node kind mark left right) → List·Memᴰ (part kind mark (marksOf left ++ marksOf right)) parts
+  own-part : {kind mark : ℕ} {left right : Syntax} → Among parts (node kind mark left right) → List·Memᴰ (part kind mark (snoc left right)) parts
   own-part {left = left} {right = right} among =
       among .each _ (Memᴰ·append-right (partsOf left) (Memᴰ·append-right (partsOf right) (List·Memᴰ·head refl)))
 
@@ -236,16 +244,16 @@ module _ {total : ℕ} {parts : List Part} where
       low counting
 
   behind : {kind class : ℕ} {spot : Spot} {operand left right : Syntax} {before rest : List Token} → kind ≡ behindKind class → T (not (isClosing class))
-      → HasMark operand → ((m : ℕ) → List·Memᴰ m (marksOf operand) → List·Memᴰ m (marksOf left))
+      → ((low : ℕ) → Counting total low before → MarkIn low operand) → ((m : ℕ) → List·Memᴰ m (marksOf operand) → List·Memᴰ m (marksOf left))
       → ((low : ℕ) → Counting total low before → MarksTo total low (token class spot ∷ rest) operand)
       → Among parts (node kind (spot .mark) left right) → (Held total parts (token class spot ∷ rest) → Held total parts before) → Held total parts rest
       → Held total parts before
-  behind {class = class} {spot = spot} {right = right} same opens some inside marks among first r low counting =
+  behind {class = class} {spot = spot} {right = right} same opens first inside marks among before r low counting =
       let to = marks low counting in
       let m = at-mark class opens (to .rest) in
-      let under : some .has < spot .mark = omega (arith, within (to .marks) (some .has) (some .member)) in
-      first (taken (λ h. has-part (makes-behind (rw same at (own-part among)) (Memᴰ·append-left (marksOf right) (inside (some .has) (some .member))) under)) r)
-      low counting
+      let some = first low counting .member in
+      let under : low < spot .mark = omega (arith, within (to .marks) low some) in
+      before (taken (λ h. has-part (makes-behind (rw same at (own-part among)) (Memᴰ·append-left (marksOf right) (inside low some)) under)) r) low counting
 
   initialised : {called sign : Spot} {value : Syntax} {rest : List Token} → Among parts (node variableSyntax (called .mark) nil value)
       → Held total parts rest → Held total parts (token name called ∷ token assign sign ∷ rest)
@@ -253,23 +261,32 @@ module _ {total : ℕ} {parts : List Part} where
       let n = at-mark name tt counting in
       let s = at-mark assign tt (n .then) in
       let next : called .mark + 1 ≡ sign .mark = omega (arith, n .own, s .own) in
-      other name tt (taken (λ h. has-variable refl (own-part among) next) r) low counting
+      other name tt (taken (λ h. has-assign refl (initialises (own-part among) next)) r) low counting
 
-  -- the `in` of a `for`, behind what stands before it in the head, and before its object
-  iterated : {word opener sign : Spot} {start object inner : Syntax} {inside rest after : List Token} → HasMark object
+  -- the `in` of a `for`, behind its start and before its object
+  iterated : {word opener sign closer : Spot} {start object inner : Syntax} {inside rest middle after : List Token}
+      → Expression rest (token closeParen closer ∷ middle) object → Statement middle after inner
       → Among parts (node forInSyntax (word .mark) (snoc (snoc nil start) object) inner)
-      → ((low : ℕ) → Counting total low inside → Skips total low (token inWord sign ∷ rest))
-      → ((low : ℕ) → Counting total low rest → MarksTo total low after object) → (Held total parts (token inWord sign ∷ rest) → Held total parts inside)
-      → Held total parts rest → Held total parts (token forWord word ∷ token openParen opener ∷ inside)
-  iterated {word} {sign = sign} {start = start} {inner = inner} some among skips marks first r low counting =
+      → ((low : ℕ) → Counting total low inside → MarkIn low start)
+      → ((low : ℕ) → Counting total low inside → MarksTo total low (token inWord sign ∷ rest) start)
+      → (Held total parts (token inWord sign ∷ rest) → Held total parts inside) → Held total parts rest
+      → Held total parts (token forWord word ∷ token openParen opener ∷ inside)
+  iterated {word} {sign = sign} {start = start} {object = object} {inner = inner} value body among first marks before r low counting =
       let m = at-mark forWord tt counting in
       let o = at-mark openParen tt (m .then) in
-      let s = skips (low + 1 + 1) (o .then) in
+      let s = marks (low + 1 + 1) (o .then) in
       let n = at-mark inWord tt (s .rest) in
-      let over : word .mark < sign .mark = omega (arith, s .up) in
-      let under : sign .mark < some .has = omega (arith, within (marks (s .high + 1) (n .then) .marks) (some .has) (some .member)) in
-      let member = Memᴰ·append-left (marksOf inner) (Memᴰ·append-right (marksOf start) (some .member)) in
-      other forWord tt (other openParen tt (first (taken (λ h. has-for refl (own-part among) over member under) r))) low counting
+      let v = marked value (n .then) in
+      let b = marked body (past-closer closeParen tt (v .rest)) in
+      let start-at : low + 1 + 1 ≡ word .mark + 2 = omega (arith, m .own) in
+      let object-at : s .high + 1 ≡ sign .mark + 1 = omega (arith, n .own) in
+      let own : Iterates (word .mark) (sign .mark) start object inner = record {
+        begins = subst (λ (x : ℕ). List·Memᴰ x (marksOf start)) start-at (first (low + 1 + 1) (o .then) .member);
+        before = λ x member. omega (arith, within (s .marks) x member);
+        next = subst (λ (x : ℕ). List·Memᴰ x (marksOf object)) object-at (expression-first value (n .then) .member);
+        behind = λ x member. omega (arith, within (marks-both (v .marks) (b .marks)) x member);
+      } in
+      other forWord tt (other openParen tt (before (taken (λ h. has-in refl (iterates (own-part among) own)) r))) low counting
 
   item-recorded : {items : Items} {before after : List Token} → ItemStart items before after → Held total parts after → Held total parts before
   item-recorded at-argument r = r
@@ -306,19 +323,19 @@ module _ {total : ℕ} {parts : List Part} where
       starting (at-class (λ x. isAmong (firstKinds x) (prefixKind x)) prefixOperators class op tt) (operator-open prefixOperators tt class op)
       (λ low. marked (unary-prefix op operand)) a (derived operand (in-right a) r)
   derived (unary-postfix {class = class} op same operand) a r =
-      behind (number-at postfixKind behindKind postfixOperators tt class op) (operator-open postfixOperators tt class op) (target-mark operand) (λ m e. e)
+      behind (number-at postfixKind behindKind postfixOperators tt class op) (operator-open postfixOperators tt class op) (λ low. target-first operand) (λ m e. e)
       (λ low. marked operand) a (λ t. derived operand (in-left a) t) r
   derived (binary-unary unary) a r = derived unary a r
   derived (binary-operator {within = within} {class = class} op tight left right) a r =
       let among = binary-by within class op in
-      behind (number-at (λ x. x) behindKind binaryOperators tt class among) (operator-open binaryOperators tt class among) (binary-mark left) (λ m e. e)
+      behind (number-at (λ x. x) behindKind binaryOperators tt class among) (operator-open binaryOperators tt class among) (λ low. binary-first left) (λ m e. e)
       (λ low. marked left) a (λ t. derived left (in-left a) t) (derived right (in-right a) r)
   derived (assign-binary binary) a r = derived binary a r
   derived (assign-to {class = class} op target value) a r =
-      behind (number-at (λ x. x) behindKind assignmentOperators tt class op) (operator-open assignmentOperators tt class op) (target-mark target) (λ m e. e)
+      behind (number-at (λ x. x) behindKind assignmentOperators tt class op) (operator-open assignmentOperators tt class op) (λ low. target-first target) (λ m e. e)
       (λ low. marked target) a (λ t. derived target (in-left a) t) (derived value (in-right a) r)
   derived (assign-conditional {first = inner} condition first second) a r =
-      behind refl tt (binary-mark condition) (λ m e. Memᴰ·append-left (marksOf inner) e) (λ low. marked condition) a (λ t. derived condition (in-before (in-left a)) t)
+      behind refl tt (λ low. binary-first condition) (λ m e. Memᴰ·append-left (marksOf inner) e) (λ low. marked condition) a (λ t. derived condition (in-before (in-left a)) t)
       (derived first (in-last (in-left a)) (other colon tt (derived second (in-right a) r)))
   derived (expression-assign value) a r = derived value a r
   derived (expression-comma left right) a r = derived left (in-left a) (other comma tt (derived right (in-right a) r))
@@ -365,15 +382,15 @@ module _ {total : ℕ} {parts : List Part} where
   derived left-out a r = r
   derived (not-left-out value) a r = derived value a r
   derived (statement-for-in target object inner) a r =
-      iterated (expression-mark object) a (λ low counting. part-skips (marked target counting)) (λ low. marked object)
-      (λ t. derived target (in-last (in-before (in-left a))) t) (derived object (in-last (in-left a)) (other closeParen tt (derived inner (in-right a) r)))
+      iterated object inner a (λ low. target-first target) (λ low. marked target) (λ t. derived target (in-last (in-before (in-left a))) t)
+      (derived object (in-last (in-left a)) (other closeParen tt (derived inner (in-right a) r)))
   derived (statement-for-var-in variable object inner) a r =
-      iterated (expression-mark object) a
+      iterated object inner a (λ low. own-first varWord tt)
       (λ low counting.
-      let s = part-skips (marked variable (at-mark varWord tt counting .then)) in
-      let up : low ≤ s .high = omega (arith, s .up) in
-      record { high = s .high; rest = s .rest; up = up })
-      (λ low. marked object) (λ t. other varWord tt (derived variable (in-right (in-last (in-before (in-left a)))) t))
+      let d = at-mark varWord tt counting in
+      let v = marked variable (d .then) in
+      record { high = v .high; rest = v .rest; marks = before-parts (d .own) (omega arith) (no-marks (low + 1)) (v .marks) })
+      (λ t. other varWord tt (derived variable (in-right (in-last (in-before (in-left a)))) t))
       (derived object (in-last (in-left a)) (other closeParen tt (derived inner (in-right a) r)))
   derived (statement-bare-jump {class = class} jumps) a r = other class (jump-other jumps) (other semicolon tt r)
   derived (statement-jump {class = class} jumps same) a r = other class (jump-other jumps) (other name tt (other semicolon tt r))
@@ -428,8 +445,8 @@ module _ {total low : ℕ} {all : List Token} {value : Syntax} (counting : Count
     where
       made : {mark : ℕ} {parts : List Part} → Has class mark parts → Makes class mark parts
       made (has-part makes) = makes
-      made (has-variable same member next) = absurd (subst (λ (x : ℕ). T (isRecorded x)) same h)
-      made (has-for same member over later under) = absurd (subst (λ (x : ℕ). T (isRecorded x)) same h)
+      made (has-assign same assigned) = absurd (subst (λ (x : ℕ). T (isRecorded x)) same h)
+      made (has-in same related) = absurd (subst (λ (x : ℕ). T (isRecorded x)) same h)
 
   -- a `=` marks one too, unless it stands behind the name of a variable
   pub assign-recorded : (spot : Spot) (after : List Token) → all ≡ before ++ (token assign spot ∷ after) → Assigns (spot .mark) (partsOf value)
@@ -437,8 +454,8 @@ module _ {total low : ℕ} {all : List Token} {value : Syntax} (counting : Count
     where
       made : {mark : ℕ} {parts : List Part} → Has assign mark parts → Assigns mark parts
       made (has-part makes) = assigns makes
-      made (has-variable same member next) = initialises member next
-      made (has-for same member over later under) = absurd (omega arith)
+      made (has-assign same assigned) = assigned
+      made (has-in same related) = absurd (omega arith)
 
   -- and so does `in`, unless it is that of a `for`
   pub in-recorded : (spot : Spot) (after : List Token) → all ≡ before ++ (token inWord spot ∷ after) → Relates (spot .mark) (partsOf value)
@@ -446,5 +463,11 @@ module _ {total low : ℕ} {all : List Token} {value : Syntax} (counting : Count
     where
       made : {mark : ℕ} {parts : List Part} → Has inWord mark parts → Relates mark parts
       made (has-part makes) = relates makes
-      made (has-variable same member next) = absurd (omega arith)
-      made (has-for same member over later under) = iterates member over later under
+      made (has-assign same assigned) = absurd (omega arith)
+      made (has-in same related) = related
+
+-- a `for` has one `in` of its own
+pub one-in : {word first second : ℕ} {start object inner : Syntax} → Iterates word first start object inner → Iterates word second start object inner
+    → first ≡ second
+one-in {first = first} {second = second} {inner = inner} i j =
+    omega (arith, i .behind (second + 1) (Memᴰ·append-left (marksOf inner) (j .next)), j .behind (first + 1) (Memᴰ·append-left (marksOf inner) (i .next)))

@@ -13,7 +13,7 @@ abbrev pub valueWords : List ℕ
 valueWords = thisWord ∷ nullWord ∷ trueWord ∷ falseWord ∷ []
 
 -- The tokens that mark a part wherever they stand: value words and operators, those of document 01 too, but `,`, which is an operator only "where
--- ES5.1 has Expression", and `=` and `in`, which behind the name of a variable and in the head of a `for` are no operators (`Assigns` and `Relates`
+-- ES5.1 has Expression", and `=` and `in`, which behind the name of a variable and behind the start of a `for` are no operators (`Assigns` and `Relates`
 -- below). `?` marks the conditional, and the `:` that answers it nothing
 abbrev pub recordedClasses : List ℕ
 recordedClasses =
@@ -22,14 +22,14 @@ recordedClasses =
 abbrev pub isRecorded : ℕ → Bool
 isRecorded class = isAmong recordedClasses class
 
--- a record's kind and mark, and the marks of the records in it
+-- a record's kind and mark, and what is in it
 pub data Part : Type 0 where
-  part : ℕ → ℕ → List ℕ → Part
+  part : ℕ → ℕ → Syntax → Part
 
 -- those of a tree, in the order of its records, which they are (`parts-written` of PartRecords.antt)
 abbrev pub partsOf : Syntax → List Part
 partsOf nil = []
-partsOf (node kind mark left right) = partsOf left ++ (partsOf right ++ (part kind mark (marksOf left ++ marksOf right) ∷ []))
+partsOf (node kind mark left right) = partsOf left ++ (partsOf right ++ (part kind mark (snoc left right) ∷ []))
 partsOf (snoc before last) = partsOf before ++ partsOf last
 
 -- the kinds of a part that starts with its mark, a token of a class: the class, but for `+` and `-` that before one operand; `new` may have arguments
@@ -43,19 +43,27 @@ behindKind class = cond (eqb class increment) incrementedSyntax (cond (eqb class
 
 -- a token of this class makes one of these, with this mark: nothing in it is marked before the token, or an operand is
 pub data Makes (class mark : ℕ) (parts : List Part) : Type 0 where
-  makes-first : {kind : ℕ} {inside : List ℕ} → List·Memᴰ (part kind mark inside) parts → T (isAmong (firstKinds class) kind)
-      → ((m : ℕ) → List·Memᴰ m inside → mark ≤ m) → Makes class mark parts
-  makes-behind : {operand : ℕ} {inside : List ℕ} → List·Memᴰ (part (behindKind class) mark inside) parts → List·Memᴰ operand inside → operand < mark
-      → Makes class mark parts
+  makes-first : {kind : ℕ} {inside : Syntax} → List·Memᴰ (part kind mark inside) parts → T (isAmong (firstKinds class) kind)
+      → ((m : ℕ) → List·Memᴰ m (marksOf inside) → mark ≤ m) → Makes class mark parts
+  makes-behind : {operand : ℕ} {inside : Syntax} → List·Memᴰ (part (behindKind class) mark inside) parts → List·Memᴰ operand (marksOf inside)
+      → operand < mark → Makes class mark parts
 
 -- a `=` makes a record as other operators do; or it initialises a variable, whose name, the record before it, marks that
 pub data Assigns (mark : ℕ) (parts : List Part) : Type 0 where
   assigns : Makes assign mark parts → Assigns mark parts
-  initialises : {called : ℕ} {inside : List ℕ} → List·Memᴰ (part variableSyntax called inside) parts → called + 1 ≡ mark → Assigns mark parts
+  initialises : {called : ℕ} {inside : Syntax} → List·Memᴰ (part variableSyntax called inside) parts → called + 1 ≡ mark → Assigns mark parts
 
--- `in` does so too; or it stands in a `for` with `in`, whose word is before it and some part of which is behind it: its own `in` does, and any other
--- there is not told from that
+-- Document 02, U6, "as in ES5.1 chapter 12"; 12.6.4: "for ( LeftHandSideExpression in Expression ) Statement", or `var` and one variable before the `in`.
+-- That `in` stands behind all marks of the start, which begins behind `for (`, and before all others in the part, of which the object has the next. No two
+-- of a part do (`one-in` of proofs/Recorded.antt): an operator in its start, object or statement does not
+pub record Iterates (word mark : ℕ) (start object inner : Syntax) : Type 0 where
+  pub begins : List·Memᴰ (word + 2) (marksOf start)
+  pub before : (m : ℕ) → List·Memᴰ m (marksOf start) → m < mark
+  pub next : List·Memᴰ (mark + 1) (marksOf object)
+  pub behind : (m : ℕ) → List·Memᴰ m (marksOf object ++ marksOf inner) → mark < m
+
+-- an `in` makes a record as other operators do; or it is that of a `for`
 pub data Relates (mark : ℕ) (parts : List Part) : Type 0 where
   relates : Makes inWord mark parts → Relates mark parts
-  iterates : {word later : ℕ} {inside : List ℕ} → List·Memᴰ (part forInSyntax word inside) parts → word < mark → List·Memᴰ later inside → mark < later
-      → Relates mark parts
+  iterates : {word : ℕ} {start object inner : Syntax} → List·Memᴰ (part forInSyntax word (snoc (snoc (snoc nil start) object) inner)) parts
+      → Iterates word mark start object inner → Relates mark parts

@@ -180,7 +180,7 @@ numbered place ending setting flag =
     (either (eqb place 42) (numbered-by refl)
     (either (eqb place 43) (numbered-by refl)
     (either (eqb place 44) (numbered-by refl)
-    (either (eqb place 45) (numbered-by refl)
+    (either (leb 45 place) (numbered-by refl)
     (numbered-by refl))))))))))))))))))))))))))))))))))))))))))))))
 
 ended-number : (at : code.Control) {ending : Ending} → Ended (controlOf at) ending → ending ≡ endingBy (at .ending) (at .setting)

@@ -3,7 +3,7 @@ use mathlib.Core.Path.{_≡_, refl, sym}
 use mathlib.Core.Bool.{Bool, true, false, cond}
 use Prim.Native.Nat.{ℕ}
 use borrow.Author.Tests.{ne-eqb, eqb-true, eqb-false}
-use lib.Dec.{eqb}
+use lib.Dec.{eqb, leb}
 use Rattle.machine.specs.Machinery.Machine.{Ending, Control}
 use Rattle.controls.specs.Machinery.Numbers.{endingBy, controlBy, controlOf}
 use Rattle.controls.specs.declared.Control as code
@@ -101,7 +101,7 @@ plain-place place ending setting flag operand postfix =
     (one-place (eqb place 42) (λ b. plain refl)
     (one-place (eqb place 43) (λ b. plain refl)
     (one-place (eqb place 44) (λ b. plain refl)
-    (one-place (eqb place 45) (λ b. plain refl)
+    (one-place (leb 45 place) (λ b. plain refl)
     (plain refl)))))))))))))))))))))))))))))))))))))))))))))))
 
 module _ (at : code.Control) where

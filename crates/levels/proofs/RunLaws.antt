@@ -5,14 +5,14 @@ use mathlib.Core.List.{List, [], _∷_, _++_}
 use Prim.Native.Nat.{ℕ, _+_, _*_, _≤_, _<_}
 use native.Mathlib.Omega.{arith}
 use borrow.Author.Tests.{lt-ltb, ne-eqb}
-use lib.Dec.{T, ltb}
+use lib.Dec.{T, eqb, ltb}
 use lib.ListN.{length}
 use Rattle.machine.specs.Tokens.{Token, token, Spot}
 use Rattle.machine.specs.Syntax.{Syntax, nil}
 use Rattle.machine.specs.Operators.{leastBinary}
 use Rattle.machine.specs.Machinery.Machine.{endOfText, Frame, empty, Effect, affect, reduced, answered, Closing, close, inFor, someTarget, expressionValue, valueOf, Ending, byColon, Control, operandDue, Action, fail, goto, push, enter, ask, turn, look, row, Open, grouped, nested, asking, State, dead, live, popTo, headIn, turnTo, act, run}
 use Rattle.machine.proofs.Ran.{stays-dead}
-use Rattle.controls.specs.Machinery.Numbers.{controlOf}
+use Rattle.controls.specs.Machinery.Numbers.{controlOf, insideBy}
 use Rattle.machine.specs.Machinery.Classes.{isOpener, isEnd, isSingle}
 use Rattle.controls.specs.declared.Control as code
 use Rattle.controls.specs.Machinery.Written.{putSyntax}
@@ -25,7 +25,7 @@ use Rattle.segments.specs.Machinery.Segments.{Segment, inside, countOf, classAt
 use Rattle.segments.proofs.SegmentLaws.{at-openers, element-then, group-then, end-then}
 use Rattle.groups.specs.Machinery.Closers.{closerToken, pops-there, dies-there, AtCloser, ComesTo}
 use Rattle.groups.specs.declared.Parsed.{Parsed}
-use Rattle.levels.specs.Machinery.Runs.{Through, Ran, ran-through, ran-dead, MayRun, Begins, begins-statements, begins-expression, begins-index, begins-items, begins-parameter, begins-head, begins-clauses, begins-caught}
+use Rattle.levels.specs.Machinery.Runs.{Through, Ran, ran-through, ran-dead, MayRun}
 
 -- where the run of a level is, before a record: what stands around it is behind the nests that are open on it
 pub record Underway (p : Segment) (from : Control) (count top : ℕ) (table before : List ℕ) (c : Control) (l : Level) (at : ℕ) (cells stack : List ℕ) : Type 0 where
@@ -51,21 +51,35 @@ record Fresh (c : Control) : Type 0 where
   held-none : (word : ℕ) → HeldAt c nil word
   owes-none : owed c ≡ 0
 
-fresh : {c : Control} → Begins c → Fresh c
-fresh begins-statements = record { shaped = (refl, refl, refl, refl); written-none = refl; held-none = λ word. tt; owes-none = refl }
-fresh begins-expression = record { shaped = (refl, (refl, refl, refl)); written-none = refl; held-none = λ word. tt; owes-none = refl }
-fresh begins-index = record { shaped = (refl, (refl, refl, refl)); written-none = refl; held-none = λ word. tt; owes-none = refl }
-fresh begins-items = record { shaped = (refl, refl, refl, refl); written-none = refl; held-none = λ word. tt; owes-none = refl }
-fresh begins-parameter = record { shaped = (refl, refl, refl, refl, refl); written-none = refl; held-none = λ word. tt; owes-none = refl }
-fresh begins-head = record { shaped = (refl, refl, refl, refl); written-none = refl; held-none = λ word. tt; owes-none = refl }
-fresh begins-clauses = record { shaped = (refl, refl, refl, refl); written-none = refl; held-none = λ word. tt; owes-none = refl }
-fresh begins-caught = record { shaped = (refl, refl, refl, refl, refl); written-none = refl; held-none = λ word. tt; owes-none = refl }
+fresh : {c : Control} → Shaped c nil [] [] nil [] → written c nil ≡ nil → ((word : ℕ) → HeldAt c nil word) → owed c ≡ 0 → Fresh c
+fresh shape none held owes = record { shaped = shape; written-none = none; held-none = held; owes-none = owes }
 
-pub starts-underway : {p : Segment} {c : Control} {closer count top : ℕ} {table stack : List ℕ} {l : Level} → MayRun p closer count top stack → Begins c
-    → l .count ≡ count → l .top ≡ top → l .floor ≡ top → l .start ≡ count → l .held ≡ 0 → Underway p c count top table stack c l 0 table stack
+either : (b : Bool) {x y : Control} → Fresh x → Fresh y → Fresh (cond b x y)
+either true u v = u
+either false u v = v
+
+fresh-inside : (closing : ℕ) → Fresh (insideBy closing)
+unfolding insideBy
+fresh-inside closing =
+    (either (eqb closing 1) (fresh (refl, refl, refl, refl) refl (λ word. tt) refl)
+    (either (eqb closing 2) (fresh (refl, refl, refl, refl) refl (λ word. tt) refl)
+    (either (eqb closing 4) (fresh (refl, refl, refl, refl, refl) refl (λ word. tt) refl)
+    (either (eqb closing 5) (fresh (refl, refl, refl, refl) refl (λ word. tt) refl)
+    (either (eqb closing 6) (fresh (refl, refl, refl, refl) refl (λ word. tt) refl)
+    (either (eqb closing 7) (fresh (refl, refl, refl, refl) refl (λ word. tt) refl)
+    (either (eqb closing 8) (fresh (refl, refl, refl, refl) refl (λ word. tt) refl)
+    (either (eqb closing 9) (fresh (refl, (refl, refl, refl)) refl (λ word. tt) refl)
+    (either (eqb closing 12) (fresh (refl, refl, refl, refl) refl (λ word. tt) refl)
+    (either (eqb closing 13) (fresh (refl, refl, refl, refl) refl (λ word. tt) refl)
+    (either (eqb closing 14) (fresh (refl, refl, refl, refl, refl) refl (λ word. tt) refl)
+    (fresh (refl, (refl, refl, refl)) refl (λ word. tt) refl))))))))))))
+
+pub starts-underway : {p : Segment} {closer count top : ℕ} {table stack : List ℕ} {l : Level} (closing : ℕ) → MayRun p closer count top stack
+    → l .count ≡ count → l .top ≡ top → l .floor ≡ top → l .start ≡ count → l .held ≡ 0
+    → Underway p (insideBy closing) count top table stack (insideBy closing) l 0 table stack
 unfolding putSyntax
-starts-underway {l = l} may begins counted topped floored started worded =
-    let f = fresh begins in
+starts-underway {l = l} closing may counted topped floored started worded =
+    let f = fresh-inside closing in
     record {
       g = empty;
       nests = [];

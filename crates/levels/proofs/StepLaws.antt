@@ -25,7 +25,7 @@ use Rattle.frames.specs.declared.Standing.{Standing}
 use Rattle.frames.proofs.ParameterLaws.{ended-kind, leads-kind, spans-kind, parameter-inside}
 use Rattle.segments.specs.Machinery.Segments.{Segment, segment, inside, countOf, classAt, sizeAt, placeAt, closerAt, lineAt, contentOf, Fine}
 use Rattle.segments.proofs.SegmentLaws.{at-openers, inside-fine, inside-count, never-ends}
-use Rattle.levels.specs.Machinery.Runs.{Begins, begins-statements, begins-expression, begins-index, begins-items, begins-parameter, begins-head, begins-clauses, begins-caught, Through, Ran, ran-through, ran-dead, MayRun, MayOpen}
+use Rattle.levels.specs.Machinery.Runs.{Through, Ran, ran-through, ran-dead, MayRun, MayOpen}
 use Rattle.groups.specs.declared.Parsed.{Parsed}
 use Rattle.groups.specs.declared.Parsed.the-variants.{Done, Bad}
 use Rattle.levels.proofs.RunLaws as runs
@@ -402,43 +402,6 @@ module _ {p : Segment} {at closer count top : ℕ} {stack within : List ℕ} {en
   as-inside ran e = rw (content, closer-is, e) at ran
 
 -- where the parsers start
-as-begins : {c d : Control} → c ≡ d → Begins d → Begins c
-as-begins e b = subst Begins (sym e) b
-
-either : (b : Bool) {x y : Control} → Begins x → Begins y → Begins (cond b x y)
-either true u v = u
-either false u v = v
-
-pub begins-inside : {c : Control} (closing : ℕ) → c ≡ insideBy closing → Begins c
-unfolding insideBy
-begins-inside closing e =
-    as-begins e
-    (either (eqb closing 1) begins-items
-    (either (eqb closing 2) begins-items
-    (either (eqb closing 4) begins-parameter
-    (either (eqb closing 5) begins-statements
-    (either (eqb closing 6) begins-statements
-    (either (eqb closing 7) begins-statements
-    (either (eqb closing 8) begins-items
-    (either (eqb closing 9) begins-index
-    (either (eqb closing 12) begins-head
-    (either (eqb closing 13) begins-clauses
-    (either (eqb closing 14) begins-caught
-    begins-expression)))))))))))
-
-pub statements-start : {c : Control} (scope : ℕ) → scope ≤ 1 → c ≡ controlBy 0 0 scope false → c ≡ statementDue false (settingBy scope)
-unfolding controlBy mustBy
-statements-start scope small e = e ∙ rw (ne-eqb scope 2 (λ q. omega arith))
-
-pub begins-scope : {c : Control} (scope : ℕ) → scope ≤ 1 → c ≡ controlBy 0 0 scope false → Begins c
-unfolding settingBy
-begins-scope scope small e = as-begins (statements-start scope small e) (go scope small)
-  where
-    go : (n : ℕ) → n ≤ 1 → Begins (statementDue false (settingBy n))
-    go zero h = begins-statements
-    go (suc zero) h = begins-statements
-    go (suc (suc n)) h = absurd (omega arith)
-
 pub body-inside : (closing : ℕ) → (closing ≡ 5 → ⊥) → 5 ≤ closing → closing < 8 → statementDue false (among body) ≡ insideBy closing
 unfolding insideBy
 body-inside closing other low high = go (eqb closing 6) refl

@@ -2,32 +2,32 @@
 // part of the tree table inside a group, whose first record has the index `base` in the whole table, and behind which a token of the
 // class `closer` stands at the place `close`. Inside a level nothing is called for a part: what waits stands on the lent stack.
 ghost use Prim.Native.Nat.{_≤_};
-ghost use Rattle.controls.specs.Machinery.Numbers.{controlOf, insideBy};
+ghost use Rattle.controls.specs.Machinery.Numbers.{insideBy};
 ghost use Rattle.segments.specs.Machinery.Segments.{segment, inside};
-ghost use Rattle.levels.specs.Machinery.Runs.{Begins, MayRun, MayOpen, Ran, RanStatements, RanExpression, RanFunction};
-use controls::Control;
+ghost use Rattle.levels.specs.Machinery.Runs.{MayRun, MayOpen, Ran, RanStatements, RanExpression, RanFunction};
 use controls::Step;
 use groups::Parsed;
 use tables::TreeRecord;
 
-// Runs the machine over a level, from where it stands to the closer.
+// Runs the machine over a level, from where the inside of such a group starts to the closer. The number tells it, since a control would
+// be handed over through memory.
 fn level(
     text: &[u8],
     trees: &[u32],
     base: usize,
     close: usize,
     closer: u32,
-    from: Control,
+    inside: u32,
     waiting: &mut [u16],
     top: usize,
     syntax: &mut [u32],
     count: usize,
 ) -> Parsed
-    requires { ⌜ MayRun (segment (now text) (now trees) base close) closer count top (now waiting) × Begins (controlOf from) ⌝ }
-    ensures { λ r. ⌜ Ran closer (segment (now (text .entry)) (now (trees .entry)) base close) (controlOf from) count top (now (syntax .entry)) (now (waiting .entry)) r (now (syntax .exit)) (now (waiting .exit)) ⌝ }
+    requires { ⌜ MayRun (segment (now text) (now trees) base close) closer count top (now waiting) ⌝ }
+    ensures { λ r. ⌜ Ran closer (segment (now (text .entry)) (now (trees .entry)) base close) (insideBy inside) count top (now (syntax .entry)) (now (waiting .entry)) r (now (syntax .exit)) (now (waiting .exit)) ⌝ }
 {
     let number = trees.len() / TreeRecord::WIDTH;
-    let mut control = from;
+    let mut control = controls::inside_of(inside);
     let mut l = frames::empty(count, top);
     let mut at = 0;
     while at < number {
@@ -165,19 +165,14 @@ pub fn statements(
     requires { ⌜ MayRun (segment (now text) (now trees) base close) closer count top (now waiting) × (scope ≤ 1) ⌝ }
     ensures { λ r. ⌜ RanStatements scope closer (segment (now (text .entry)) (now (trees .entry)) base close) count top (now (syntax .entry)) (now (waiting .entry)) r (now (syntax .exit)) (now (waiting .exit)) ⌝ }
 {
-    let from = controls::stand(
-        controls::STATEMENT_DUE,
-        controls::BY_STATEMENT,
-        scope,
-        false,
-    );
+    let inside = controls::around(scope);
     level(
         text,
         trees,
         base,
         close,
         closer,
-        from,
+        inside,
         waiting,
         top,
         syntax,
@@ -201,14 +196,13 @@ fn expression(
     requires { ⌜ MayRun (segment (now text) (now trees) base close) closer count top (now waiting) ⌝ }
     ensures { λ r. ⌜ RanExpression closing closer (segment (now (text .entry)) (now (trees .entry)) base close) count top (now (syntax .entry)) (now (waiting .entry)) r (now (syntax .exit)) (now (waiting .exit)) ⌝ }
 {
-    let from = controls::inside_of(closing);
     level(
         text,
         trees,
         base,
         close,
         closer,
-        from,
+        closing,
         waiting,
         top,
         syntax,

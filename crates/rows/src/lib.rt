@@ -43,6 +43,7 @@ use controls::HOLD_WORD;
 use controls::ITEM_DUE;
 use controls::JUMP_FIRST;
 use controls::KEEP;
+use controls::MEMBER_DUE;
 use controls::NAME_FIRST;
 use controls::OF_CLAUSE;
 use controls::OF_DO;
@@ -550,12 +551,22 @@ fn semicolon_due(class: u32, setting: u32) -> Step
 
 // The setting of a statement that is due.
 fn statement_setting(place: u32, setting: u32) -> u32
-    ensures { λ r. ⌜ r ≡ cond (eqb place 45) 2 setting ⌝ }
+    ensures { λ r. ⌜ r ≡ cond (eqb place 0) setting 2 ⌝ }
 {
-    if place == CLAUSE_STATEMENT {
-        return CLAUSE;
+    if place == STATEMENT_DUE {
+        return setting;
     }
-    setting
+    CLAUSE
+}
+
+// The places inside a form.
+fn is_in_form(place: u32) -> bool
+    ensures { λ r. ⌜ r ≡ (leb 12 place && ltb place 45) ⌝ }
+{
+    if place < MEMBER_DUE {
+        return false;
+    }
+    place < CLAUSE_STATEMENT
 }
 
 // The machine's table, for a token that a record makes.
@@ -563,10 +574,10 @@ pub fn row(at: Control, class: u32, newline: bool) -> Step
     ensures { λ r. ⌜ (Settled at class → Means (controlOf at) class r (look class (row (controlOf at) newline))) ⌝ }
 {
     let place = at.place;
+    if is_in_form(place) {
+        return form_row(place, at.ending, at.setting, at.flag, class);
+    }
     match place {
-        STATEMENT_DUE | CLAUSE_STATEMENT => {
-            statement_row(class, statement_setting(place, at.setting), at.flag)
-        }
         OPERAND_DONE | POSTFIX_DONE => {
             operator_row(
                 class,
@@ -584,6 +595,6 @@ pub fn row(at: Control, class: u32, newline: bool) -> Step
         RETURN_FIRST | THROW_FIRST | START_DUE | TEST_DUE | STEP_DUE => {
             due_row(place, class, at.setting, newline)
         }
-        _ => form_row(place, at.ending, at.setting, at.flag, class),
+        _ => statement_row(class, statement_setting(place, at.setting), at.flag),
     }
 }

@@ -1,7 +1,7 @@
 -- The machine's controls, effects and groups as the code numbers them. Machinery.
 use Prim.Native.Nat.{ℕ}
 use mathlib.Core.Bool.{Bool, true, false, cond, _||_}
-use lib.Dec.{eqb, ltb}
+use lib.Dec.{eqb, ltb, leb}
 use Rattle.machine.specs.Tokens.{name, returnWord}
 use Rattle.machine.specs.Operators.{prefixKind, postfixKind}
 use Rattle.machine.specs.Syntax.{fullReturnSyntax, variableSyntax}
@@ -215,7 +215,7 @@ controlBy place ending setting flag =
     (cond (eqb place 42) (nameFirst (settingBy setting))
     (cond (eqb place 43) catchDone
     (cond (eqb place 44) tryEnded
-    (cond (eqb place 45) (statementDue false inClause)
+    (cond (leb 45 place) (statementDue false inClause)
     finished)))))))))))))))))))))))))))))))))))))))))))))
 
 unfoldable pub controlOf : code.Control → Control

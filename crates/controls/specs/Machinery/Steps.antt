@@ -201,7 +201,7 @@ pub record SettledAt (place setting class : ℕ) : Type 0 where
   pub no-name : place ≡ 42 → class ≡ colon
   pub no-catch : place ≡ 43 → class ≡ finallyWord
   pub no-try : place ≡ 44 → ⊥
-  pub no-clause : place ≡ 45 → (class ≡ caseWord → ⊥) × (class ≡ defaultWord → ⊥) × (class ≡ closeBrace → ⊥)
+  pub no-clause : 45 ≤ place → (class ≡ caseWord → ⊥) × (class ≡ defaultWord → ⊥) × (class ≡ closeBrace → ⊥)
 
 abbrev pub Settled : code.Control → ℕ → Type 0
 Settled at class = SettledAt (at .place) (at .setting) class

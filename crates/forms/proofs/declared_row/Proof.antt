@@ -1,8 +1,11 @@
 -- `declared_row` is the machine's rows of functions that are declared, place by place.
 use borrow.Author.Needs.{needs}
+use Prim.Native.Nat.{ℕ, _≤_, _<_}
+use mathlib.Core.Path.{_≡_}
+use native.Mathlib.Omega.{arith}
 use Rattle.controls.specs.Machinery.Numbers.{settingBy, mustBy, controlBy, effectBy, closingBy, insideBy}
-use Rattle.controls.specs.Machinery.Steps.{to-function-name, past-parameter, past-declaration, means-fail}
-use Rattle.controls.proofs.NumberLaws.{beyond, past-places}
+use Rattle.controls.specs.Machinery.Steps.{to-function-name, past-parameter, past-declaration}
+use Rattle.controls.proofs.NumberLaws.{beyond}
 use Rattle.forms.proofs.declared_row.Statement.{statement}
 use Rattle.forms.proofs.declared_row.Tie as tie
 
@@ -27,18 +30,14 @@ returns-2 c = λ h past ending setting flag newline.
     rw (c .before .match .keys2)
     (c .opens .ensures _ tt past-parameter)
 
+last : (place : ℕ) → 40 ≤ place → place < 41 → place ≡ 40
+last place low high = omega arith
+
 returns-3 : tie.Need-returns-3
 unfolding mustBy controlBy settingBy closingBy insideBy
 returns-3 c = λ h past ending setting flag newline.
-    rw (c .before .match .keys3)
+    rw (last (c .before .before .args .place) (beyond 39 _ (beyond 38 _ h (c .before .match .rest .0 .1)) (c .before .match .rest .1)) past)
     (c .opens2 .ensures _ tt past-declaration)
-
-returns-4 : tie.Need-returns-4
-returns-4 c = λ h past ending setting flag newline.
-    let place = c .before .args .place in
-    let rest = c .match .rest in
-    let declared = beyond 40 place (beyond 39 place (beyond 38 place h (rest .0 .0 .1)) (rest .0 .1)) (rest .1) in
-    rw (past-places place ending setting flag (past declared)) means-fail
 
 pub declared-row-spec : {M : Type 1} → statement M
 declared-row-spec =
@@ -49,5 +48,4 @@ declared-row-spec =
     opens-requires-2
     returns
     returns-2
-    returns-3
-    returns-4)
+    returns-3)

@@ -1,5 +1,8 @@
 -- `form_row` is the machine's rows inside forms, place by place.
 use borrow.Author.Needs.{needs}
+use Prim.Native.Nat.{ℕ, _<_}
+use mathlib.Core.Path.{_≡_}
+use native.Mathlib.Omega.{arith}
 use Rattle.controls.specs.Machinery.Numbers.{settingBy, nestBy, itemsBy, endingBy, targetBy, mustBy, startKind, controlBy, effectBy, closingBy, insideBy}
 use Rattle.controls.specs.Machinery.Steps.{due-member, to-member, to-label, to-else, to-finally-behind, to-value, past-condition}
 use Rattle.controls.proofs.NumberLaws.{beyond}
@@ -78,12 +81,15 @@ returns-8 c = λ h other settled newline.
 returns-9 : tie.Need-returns-9
 returns-9 c = λ h other settled newline. absurd (settled .no-try (c .match .keys9))
 
+before-done : (place : ℕ) → place < 45 → (place ≡ 41 → ⊥) → (place ≡ 42 → ⊥) → (place ≡ 43 → ⊥) → (place ≡ 44 → ⊥) → place < 41
+before-done place less first second third last = omega arith
+
 returns-10 : tie.Need-returns-10
 returns-10 c = λ h other settled newline.
     let place = c .before .before .args .place in
     let rest = c .before .match .rest in
     let forms = beyond 16 place (beyond 15 place (beyond 14 place (beyond 13 place (beyond 12 place h (rest .0 .0 .0 .0 .1)) (rest .0 .0 .0 .0 .0 .0 .1)) (rest .0 .0 .0 .0 .0 .0 .0 .0 .1)) (rest .0 .0 .0 .0 .0 .1)) (rest .0 .0 .0 .1) in
-    c .later-row .ensures forms (λ late. beyond 45 place (beyond 44 place (beyond 43 place (beyond 42 place (beyond 41 place late (rest .0 .0 .1)) (rest .0 .0 .0 .0 .0 .0 .0 .1)) (rest .0 .1)) (rest .1)) other) newline
+    c .later-row .ensures forms (before-done place other (rest .0 .0 .1) (rest .0 .0 .0 .0 .0 .0 .0 .1) (rest .0 .1) (rest .1)) newline
 
 pub form-row-spec : {M : Type 1} → statement M
 form-row-spec =

@@ -3,7 +3,7 @@ use Prim.Native.Nat.{ℕ, _+_, _*_, _≤_, _<_}
 use mathlib.Core.Path.{_≡_}
 use mathlib.Core.Bool.{Bool, true, false, cond, not, _&&_, _||_}
 use mathlib.Core.List.{List, [], _∷_, _++_}
-use lib.Dec.{eqb}
+use lib.Dec.{eqb, leb}
 use lib.ListN.{length}
 use Rattle.tables.specs.Records.{mostTrees}
 use Rattle.machine.specs.Tokens.{Token, token, Spot, colon, elseWord, caseWord, defaultWord, finallyWord, closeBrace}
@@ -273,7 +273,7 @@ pub record Readies (at : code.Control) (class : ℕ) (l : Level) (stack cells : 
 
 -- the places where a nest may be done, and whether one is that a token of a class does not go on with
 unfoldable pub mayBeDone : ℕ → Bool
-mayBeDone place = eqb place 41 || (eqb place 43 || (eqb place 44 || eqb place 45))
+mayBeDone place = eqb place 41 || (eqb place 43 || (eqb place 44 || leb 45 place))
 
 unfoldable pub endsClause : ℕ → Bool
 endsClause class = eqb class caseWord || (eqb class defaultWord || eqb class closeBrace)
@@ -283,7 +283,7 @@ isDoneAt place setting class =
     cond (eqb place 41) (not (eqb class elseWord) || not (eqb setting 3))
     (cond (eqb place 43) (not (eqb class finallyWord))
     (cond (eqb place 44) true
-    (cond (eqb place 45) (endsClause class)
+    (cond (leb 45 place) (endsClause class)
     false)))
 
 abbrev pub isDone : code.Control → ℕ → Bool

@@ -5,10 +5,10 @@ use mathlib.Core.Path.{_≡_, refl, _∙_}
 use native.Mathlib.Omega.{arith}
 use borrow.Author.Needs.{needs}
 use lib.ListN.{length}
-use Rattle.controls.specs.Machinery.Numbers.{controlOf}
+use Rattle.controls.specs.Machinery.Numbers.{controlOf, insideBy}
 use Rattle.segments.specs.Machinery.Segments.{segment, countOf}
 use Rattle.levels.proofs.RunLaws.{Underway, somewhere, starts-underway, ran-to-closer}
-use Rattle.levels.proofs.StepLaws.{Arrival, fails, may-affect, affected, may-enter, entered, may-ask, asked, may-turn, turned, class-small, may-open, inner-dies, may-close, closed, open-any, may-run, fewer-inside, as-inside, begins-inside, statements-start, begins-scope, body-scope, body-inside, block-inside, ran-as}
+use Rattle.levels.proofs.StepLaws.{Arrival, fails, may-affect, affected, may-enter, entered, may-ask, asked, may-turn, turned, class-small, may-open, inner-dies, may-close, closed, open-any, may-run, fewer-inside, as-inside, body-scope, body-inside, block-inside, ran-as}
 use borrow.Fn.Kinds.{In}
 use borrow.Fn.PlainCycle.{Measures, is, falls, and}
 use Rattle.levels.proofs.expression.Reads as expression
@@ -28,7 +28,7 @@ use Rattle.levels.proofs.statements.Kinds as statements-kinds
 use Rattle.levels.proofs.+expression+function+group+level+statements.Lts-statements as statements-lts
 use Rattle.controls.proofs.inside_of.Reads as inside-of-reads
 use Rattle.rows.proofs.row.Reads as row-reads
-use Rattle.controls.proofs.stand.Reads as stand-reads
+use Rattle.controls.proofs.around.Reads as around-reads
 use Rattle.effects.proofs.affect.Reads as affect-reads
 use Rattle.groups.proofs.close.Reads as close-reads
 use Rattle.groups.proofs.closing_by.Reads as closing-by-reads
@@ -99,7 +99,7 @@ statements-below t =
     and 4 statements-kinds.ps (falls 4 statements-kinds.ps _<_ μ-statements t) statements.Pre
 
 abbrev expression-claims : ℕ → expression-lts.Claims
-expression-claims t = (inside-of-reads.Asked, inside-of-reads.Learnt, level-below t, level.Post)
+expression-claims t = (level-below t, level.Post)
 
 abbrev function-claims : ℕ → function-lts.Claims
 function-claims t = (statements-below t, statements.Post)
@@ -108,16 +108,13 @@ abbrev group-claims : ℕ → group-lts.Claims
 group-claims t = (inside-reads.Asked, inside-reads.Learnt, closer-at-reads.Asked, closer-at-reads.Learnt, statements-below t, statements.Post, function-below t, function.Post, expression-below t, expression.Post)
 
 abbrev level-claims : ℕ → level-lts.Claims
-level-claims t = (empty-reads.Asked, empty-reads.Learnt, class-at-reads.Asked, class-at-reads.Learnt, newline-at-reads.Asked, newline-at-reads.Learnt, ready-reads.Asked, ready-reads.Learnt, row-reads.Asked, row-reads.Learnt, place-at-reads.Asked, place-at-reads.Learnt, affect-reads.Asked, affect-reads.Learnt, entered-reads.Asked, entered-reads.Learnt, inside-entered-reads.Asked, inside-entered-reads.Learnt, asked-reads.Asked, asked-reads.Learnt, turned-reads.Asked, turned-reads.Learnt, group-below t, group.Post, closing-by-reads.Asked, closing-by-reads.Learnt, close-reads.Asked, close-reads.Learnt, size-at-reads.Asked, size-at-reads.Learnt, at-closer-reads.Asked, at-closer-reads.Learnt)
+level-claims t = (inside-of-reads.Asked, inside-of-reads.Learnt, empty-reads.Asked, empty-reads.Learnt, class-at-reads.Asked, class-at-reads.Learnt, newline-at-reads.Asked, newline-at-reads.Learnt, ready-reads.Asked, ready-reads.Learnt, row-reads.Asked, row-reads.Learnt, place-at-reads.Asked, place-at-reads.Learnt, affect-reads.Asked, affect-reads.Learnt, entered-reads.Asked, entered-reads.Learnt, inside-entered-reads.Asked, inside-entered-reads.Learnt, asked-reads.Asked, asked-reads.Learnt, turned-reads.Asked, turned-reads.Learnt, group-below t, group.Post, closing-by-reads.Asked, closing-by-reads.Learnt, close-reads.Asked, close-reads.Learnt, size-at-reads.Asked, size-at-reads.Learnt, at-closer-reads.Asked, at-closer-reads.Learnt)
 
 abbrev statements-claims : ℕ → statements-lts.Claims
-statements-claims t = (stand-reads.Asked, stand-reads.Learnt, level-below t, level.Post)
-
-expression-inside-of-requires : (t : ℕ) → expression-lts.Need-inside-of-requires (expression-claims t) (expression-at t) expression.Post
-expression-inside-of-requires t c κs = tt
+statements-claims t = (around-reads.Asked, around-reads.Learnt, level-below t, level.Post)
 
 expression-level-requires : (t : ℕ) → expression-lts.Need-level-requires (expression-claims t) (expression-at t) expression.Post
-expression-level-requires t c κs = (omega (arith, (c .before .before .before .before .before .before .before) .pre .0), ((c .before .before .before .before .before .before .before) .pre .1, begins-inside ((c .before .before .before .before .before .before .before) .args .closing) ((c .before .before .inside-of) .ensures)))
+expression-level-requires t c κs = let s = c .before .before .before .before .before .before in (omega (arith, s .pre .0), s .pre .1)
 
 expression-same-length : (t : ℕ) → expression-lts.Need-same-length (expression-claims t) (expression-at t) expression.Post
 expression-same-length t c = c .before .before .before .waiting .given
@@ -126,7 +123,7 @@ expression-same-length-2 : (t : ℕ) → expression-lts.Need-same-length-2 (expr
 expression-same-length-2 t c = c .before .syntax .given
 
 expression-returns : (t : ℕ) → expression-lts.Need-returns (expression-claims t) (expression-at t) expression.Post
-expression-returns t c = ran-as ((c .before .before .before .before .level) .ensures) ((c .before .before .before .before .before .before .before .inside-of) .ensures)
+expression-returns t c = (c .before .before .before .before .level) .ensures
 
 function-statements-requires : (t : ℕ) → function-lts.Need-statements-requires (function-claims t) (function-at t) function.Post
 function-statements-requires t c κs = let s = c .before .before .before .before .before .before in (omega (arith, s .pre .0), (s .pre .1, omega arith))
@@ -191,21 +188,21 @@ group-returns-3 : (t : ℕ) → group-lts.Need-returns-3 (group-claims t) (group
 group-returns-3 t c = as-inside ((c .before .before .before .before .before .before .before .before .before .before .before .before .before .before .before) .pre .1) ((c .before .before .before .before .before .before .before .before .before .before .inside) .ensures) ((c .before .before .before .before .before .before .before .before .before .closer-at) .ensures) ((c .before .before .before .before .expression) .ensures) refl
 
 abbrev level-Inv-loop : level-lts.InvT-loop
-level-Inv-loop text trees base close closer waiting₀ top syntax₀ count number control₀ l₀ at₀ waiting syntax control l at =
+level-Inv-loop text trees base close closer inside waiting₀ top syntax₀ count number control₀ l₀ at₀ waiting syntax control l at =
     (length syntax ≡ length syntax₀) × (length waiting ≡ length waiting₀)
-    × Underway (segment text trees base close) (controlOf control₀) count top syntax₀ waiting₀ (controlOf control) l at syntax waiting
+    × Underway (segment text trees base close) (insideBy inside) count top syntax₀ waiting₀ (controlOf control) l at syntax waiting
 
 abbrev level-μ-loop : level-lts.MeasureT-loop
-level-μ-loop text trees base close closer waiting₀ top syntax₀ count number control₀ l₀ at₀ waiting syntax control l at = number - at
+level-μ-loop text trees base close closer inside waiting₀ top syntax₀ count number control₀ l₀ at₀ waiting syntax control l at = number - at
 
 -- a turn of the loop, up to its step
 turn : (t : ℕ) (c : level-lts.After-row (level-claims t) (level-at t) level.Post level-Inv-loop level-μ-loop) → Arrival
-    (segment (c .before .before .before .before .before .before .before .before .before .before .before .before .before .before .before .before .before .args .text .now) (c .before .before .before .before .before .before .before .before .before .before .before .before .before .before .before .before .before .args .trees .now) (c .before .before .before .before .before .before .before .before .before .before .before .before .before .before .before .before .before .args .base) (c .before .before .before .before .before .before .before .before .before .before .before .before .before .before .before .before .before .args .close))
-    (controlOf (c .before .before .before .before .before .before .before .before .before .before .before .before .before .before .before .before .before .args .from)) (c .before .before .before .before .before .before .before .before .before .before .before .before .before .before .before .before .before .args .count) (c .before .before .before .before .before .before .before .before .before .before .before .before .before .before .before .before .before .args .top) (c .before .before .before .before .before .before .before .before .before .before .before .before .before .before .before .before .before .args .syntax .now) (c .before .before .before .before .before .before .before .before .before .before .before .before .before .before .before .before .before .args .waiting .now)
+    (segment (c .before .before .before .before .before .before .before .before .before .before .before .before .before .before .before .before .before .before .args .text .now) (c .before .before .before .before .before .before .before .before .before .before .before .before .before .before .before .before .before .before .args .trees .now) (c .before .before .before .before .before .before .before .before .before .before .before .before .before .before .before .before .before .before .args .base) (c .before .before .before .before .before .before .before .before .before .before .before .before .before .before .before .before .before .before .args .close))
+    (insideBy (c .before .before .before .before .before .before .before .before .before .before .before .before .before .before .before .before .before .before .args .inside)) (c .before .before .before .before .before .before .before .before .before .before .before .before .before .before .before .before .before .before .args .count) (c .before .before .before .before .before .before .before .before .before .before .before .before .before .before .before .before .before .before .args .top) (c .before .before .before .before .before .before .before .before .before .before .before .before .before .before .before .before .before .before .args .syntax .now) (c .before .before .before .before .before .before .before .before .before .before .before .before .before .before .before .before .before .before .args .waiting .now)
     (c .before .before .before .before .before .before .before .before .before .before .before .loop .control) (c .before .before .before .before .before .before .before .before .before .before .before .loop .l) (c .before .before .before .before .before .before .before .before .before .before .before .loop .at) (c .before .before .before .before .before .before .before .before .before .before .before .loop .syntax) (c .before .before .before .before .before .before .before .before .before .before .before .loop .waiting)
     (c .before .before .before .before .before .before .before .before .before .class-at .result) (c .before .before .before .before .before .before .before .before .newline-at .result) (c .before .before .before .before .before .ready .result) (c .before .before .before .before .before .ready .last .1 .1 .1 .0) (c .before .before .before .before .before .ready .last .1 .1 .1 .1 .0) (c .row .result)
 turn t c = record {
-  fine = c .before .before .before .before .before .before .before .before .before .before .before .before .before .before .before .before .before .pre .1 .0 .fine;
+  fine = c .before .before .before .before .before .before .before .before .before .before .before .before .before .before .before .before .before .before .pre .1 .fine;
   underway = c .before .before .before .before .before .before .before .before .before .before .before .loop .inv .2;
   here = c .before .before .before .before .before .before .before .before .before .before .loop-test .taken;
   is = c .before .before .before .before .before .before .before .before .before .class-at .ensures;
@@ -214,11 +211,14 @@ turn t c = record {
   steps = c .row .ensures;
 }
 
+level-inside-of-requires : (t : ℕ) → level-lts.Need-inside-of-requires (level-claims t) (level-at t) level.Post level-Inv-loop level-μ-loop
+level-inside-of-requires t c κs = tt
+
 level-empty-requires : (t : ℕ) → level-lts.Need-empty-requires (level-claims t) (level-at t) level.Post level-Inv-loop level-μ-loop
 level-empty-requires t c κs = tt
 
 level-loop-holds : (t : ℕ) → level-lts.Need-loop-holds (level-claims t) (level-at t) level.Post level-Inv-loop level-μ-loop
-level-loop-holds t c = (refl, refl, starts-underway ((c .before .before .before .before .before) .pre .1 .0) ((c .before .before .before .before .before) .pre .1 .1) ((c .empty) .ensures .0) ((c .empty) .ensures .1) ((c .empty) .ensures .2) ((c .empty) .ensures .3) ((c .empty) .ensures .4))
+level-loop-holds t c = let s = c .before .before .before .before .before .before in (refl, refl, rw ((c .before .inside-of) .ensures) (starts-underway (s .args .inside) (s .pre .1) ((c .empty) .ensures .0) ((c .empty) .ensures .1) ((c .empty) .ensures .2) ((c .empty) .ensures .3) ((c .empty) .ensures .4)))
 
 level-class-at-requires : (t : ℕ) → level-lts.Need-class-at-requires (level-claims t) (level-at t) level.Post level-Inv-loop level-μ-loop
 level-class-at-requires t c κs = tt
@@ -251,13 +251,13 @@ level-enum-known-step : (t : ℕ) → level-lts.Need-enum-known-step (level-clai
 level-enum-known-step t c = c .match .keys2
 
 level-add-affect : (t : ℕ) → level-lts.Need-add-affect (level-claims t) (level-at t) level.Post level-Inv-loop level-μ-loop
-level-add-affect t c = omega (arith, c .before .before .before .before .before .before .before .before .before .before .before .before .before .loop-test .taken, c .before .before .before .before .before .before .before .before .before .before .before .before .before .before .before .before .before .before .before .before .pre .1 .0 .fine .few)
+level-add-affect t c = omega (arith, c .before .before .before .before .before .before .before .before .before .before .before .before .before .loop-test .taken, c .before .before .before .before .before .before .before .before .before .before .before .before .before .before .before .before .before .before .before .before .before .pre .1 .fine .few)
 
 level-affect-requires : (t : ℕ) → level-lts.Need-affect-requires (level-claims t) (level-at t) level.Post level-Inv-loop level-μ-loop
 level-affect-requires t c κs = may-affect (turn t (c .before .before .before .before .before)) (c .before .before .before .step .given .1)
 
 level-add-at : (t : ℕ) → level-lts.Need-add-at (level-claims t) (level-at t) level.Post level-Inv-loop level-μ-loop
-level-add-at t c = omega (arith, c .before .before .before .before .before .before .before .before .before .before .before .before .before .before .before .before .before .before .before .before .loop-test .taken, c .before .before .before .before .before .before .before .before .before .before .before .before .before .before .before .before .before .before .before .before .before .before .before .before .before .before .before .pre .1 .0 .fine .few)
+level-add-at t c = omega (arith, c .before .before .before .before .before .before .before .before .before .before .before .before .before .before .before .before .before .before .before .before .loop-test .taken, c .before .before .before .before .before .before .before .before .before .before .before .before .before .before .before .before .before .before .before .before .before .before .before .before .before .before .before .before .pre .1 .fine .few)
 
 level-loop-less : (t : ℕ) → level-lts.Need-loop-less (level-claims t) (level-at t) level.Post level-Inv-loop level-μ-loop
 level-loop-less t c = omega (arith, c .before .before .before .before .before .before .before .before .before .before .before .before .before .before .before .before .before .before .before .before .loop-test .taken)
@@ -269,7 +269,7 @@ level-enum-known-step-2 : (t : ℕ) → level-lts.Need-enum-known-step-2 (level-
 level-enum-known-step-2 t c = c .match .keys3
 
 level-add-entered : (t : ℕ) → level-lts.Need-add-entered (level-claims t) (level-at t) level.Post level-Inv-loop level-μ-loop
-level-add-entered t c = omega (arith, c .before .before .before .before .before .before .before .before .before .before .before .before .before .loop-test .taken, c .before .before .before .before .before .before .before .before .before .before .before .before .before .before .before .before .before .before .before .before .pre .1 .0 .fine .few)
+level-add-entered t c = omega (arith, c .before .before .before .before .before .before .before .before .before .before .before .before .before .loop-test .taken, c .before .before .before .before .before .before .before .before .before .before .before .before .before .before .before .before .before .before .before .before .before .pre .1 .fine .few)
 
 level-entered-requires : (t : ℕ) → level-lts.Need-entered-requires (level-claims t) (level-at t) level.Post level-Inv-loop level-μ-loop
 level-entered-requires t c κs = may-enter (turn t (c .before .before .before .before .before)) (c .before .before .before .step2 .given .1)
@@ -278,7 +278,7 @@ level-entered-requires-2 : (t : ℕ) → level-lts.Need-entered-requires-2 (leve
 level-entered-requires-2 t c κs = tt
 
 level-add-at-2 : (t : ℕ) → level-lts.Need-add-at-2 (level-claims t) (level-at t) level.Post level-Inv-loop level-μ-loop
-level-add-at-2 t c = omega (arith, c .before .before .before .before .before .before .before .before .before .before .before .before .before .before .before .before .before .before .before .before .before .loop-test .taken, c .before .before .before .before .before .before .before .before .before .before .before .before .before .before .before .before .before .before .before .before .before .before .before .before .before .before .before .before .pre .1 .0 .fine .few)
+level-add-at-2 t c = omega (arith, c .before .before .before .before .before .before .before .before .before .before .before .before .before .before .before .before .before .before .before .before .before .loop-test .taken, c .before .before .before .before .before .before .before .before .before .before .before .before .before .before .before .before .before .before .before .before .before .before .before .before .before .before .before .before .before .pre .1 .fine .few)
 
 level-loop-less-2 : (t : ℕ) → level-lts.Need-loop-less-2 (level-claims t) (level-at t) level.Post level-Inv-loop level-μ-loop
 level-loop-less-2 t c = omega (arith, c .before .before .before .before .before .before .before .before .before .before .before .before .before .before .before .before .before .before .before .before .before .loop-test .taken)
@@ -290,13 +290,13 @@ level-enum-told-2 : (t : ℕ) → level-lts.Need-enum-told-2 (level-claims t) (l
 level-enum-told-2 t c = c .match .keys4
 
 level-add-asked : (t : ℕ) → level-lts.Need-add-asked (level-claims t) (level-at t) level.Post level-Inv-loop level-μ-loop
-level-add-asked t c = omega (arith, c .before .before .before .before .before .before .before .before .before .before .before .before .loop-test .taken, c .before .before .before .before .before .before .before .before .before .before .before .before .before .before .before .before .before .before .before .pre .1 .0 .fine .few)
+level-add-asked t c = omega (arith, c .before .before .before .before .before .before .before .before .before .before .before .before .loop-test .taken, c .before .before .before .before .before .before .before .before .before .before .before .before .before .before .before .before .before .before .before .before .pre .1 .fine .few)
 
 level-asked-requires : (t : ℕ) → level-lts.Need-asked-requires (level-claims t) (level-at t) level.Post level-Inv-loop level-μ-loop
 level-asked-requires t c κs = may-ask (turn t (c .before .before .before .before)) (c .before .before .enum-told2 .given .1)
 
 level-add-at-3 : (t : ℕ) → level-lts.Need-add-at-3 (level-claims t) (level-at t) level.Post level-Inv-loop level-μ-loop
-level-add-at-3 t c = omega (arith, c .before .before .before .before .before .before .before .before .before .before .before .before .before .before .before .before .before .before .before .before .before .loop-test .taken, c .before .before .before .before .before .before .before .before .before .before .before .before .before .before .before .before .before .before .before .before .before .before .before .before .before .before .before .before .pre .1 .0 .fine .few)
+level-add-at-3 t c = omega (arith, c .before .before .before .before .before .before .before .before .before .before .before .before .before .before .before .before .before .before .before .before .before .loop-test .taken, c .before .before .before .before .before .before .before .before .before .before .before .before .before .before .before .before .before .before .before .before .before .before .before .before .before .before .before .before .before .pre .1 .fine .few)
 
 level-loop-less-3 : (t : ℕ) → level-lts.Need-loop-less-3 (level-claims t) (level-at t) level.Post level-Inv-loop level-μ-loop
 level-loop-less-3 t c = omega (arith, c .before .before .before .before .before .before .before .before .before .before .before .before .before .before .before .before .before .before .before .before .before .loop-test .taken)
@@ -311,7 +311,7 @@ level-turned-requires : (t : ℕ) → level-lts.Need-turned-requires (level-clai
 level-turned-requires t c κs = may-turn (turn t (c .before .before .before .before)) (c .before .before .enum-told3 .given .1)
 
 level-add-at-4 : (t : ℕ) → level-lts.Need-add-at-4 (level-claims t) (level-at t) level.Post level-Inv-loop level-μ-loop
-level-add-at-4 t c = omega (arith, c .before .before .before .before .before .before .before .before .before .before .before .before .before .before .before .before .before .before .before .before .before .loop-test .taken, c .before .before .before .before .before .before .before .before .before .before .before .before .before .before .before .before .before .before .before .before .before .before .before .before .before .before .before .before .pre .1 .0 .fine .few)
+level-add-at-4 t c = omega (arith, c .before .before .before .before .before .before .before .before .before .before .before .before .before .before .before .before .before .before .before .before .before .loop-test .taken, c .before .before .before .before .before .before .before .before .before .before .before .before .before .before .before .before .before .before .before .before .before .before .before .before .before .before .before .before .before .pre .1 .fine .few)
 
 level-loop-less-4 : (t : ℕ) → level-lts.Need-loop-less-4 (level-claims t) (level-at t) level.Post level-Inv-loop level-μ-loop
 level-loop-less-4 t c = omega (arith, c .before .before .before .before .before .before .before .before .before .before .before .before .before .before .before .before .before .before .before .before .before .loop-test .taken)
@@ -326,7 +326,7 @@ level-add-group : (t : ℕ) → level-lts.Need-add-group (level-claims t) (level
 level-add-group t c = omega (arith, class-small (turn t (c .before .before .before)) (c .before .step3 .given .1))
 
 level-group-requires : (t : ℕ) → level-lts.Need-group-requires (level-claims t) (level-at t) level.Post level-Inv-loop level-μ-loop
-level-group-requires t c κs = (omega (arith, c .before .before .before .before .before .before .before .before .before .before .before .before .before .before .before .before .before .before .before .before .before .before .pre .0), open-any (may-open (turn t (c .before .before .before .before .before)) (c .before .before .before .step3 .given .1) refl refl))
+level-group-requires t c κs = (omega (arith, c .before .before .before .before .before .before .before .before .before .before .before .before .before .before .before .before .before .before .before .before .before .before .before .pre .0), open-any (may-open (turn t (c .before .before .before .before .before)) (c .before .before .before .step3 .given .1) refl refl))
 
 level-enum-known-inner : (t : ℕ) → level-lts.Need-enum-known-inner (level-claims t) (level-at t) level.Post level-Inv-loop level-μ-loop
 level-enum-known-inner t c = c .match2 .keys1
@@ -347,7 +347,7 @@ level-closing-by-requires : (t : ℕ) → level-lts.Need-closing-by-requires (le
 level-closing-by-requires t c κs = tt
 
 level-add-close : (t : ℕ) → level-lts.Need-add-close (level-claims t) (level-at t) level.Post level-Inv-loop level-μ-loop
-level-add-close t c = omega (arith, c .before .before .before .before .before .before .before .before .before .before .before .before .before .before .before .before .before .before .before .before .before .before .before .before .loop-test .taken, c .before .before .before .before .before .before .before .before .before .before .before .before .before .before .before .before .before .before .before .before .before .before .before .before .before .before .before .before .before .before .before .pre .1 .0 .fine .few)
+level-add-close t c = omega (arith, c .before .before .before .before .before .before .before .before .before .before .before .before .before .before .before .before .before .before .before .before .before .before .before .before .loop-test .taken, c .before .before .before .before .before .before .before .before .before .before .before .before .before .before .before .before .before .before .before .before .before .before .before .before .before .before .before .before .before .before .before .before .pre .1 .fine .few)
 
 level-close-requires : (t : ℕ) → level-lts.Need-close-requires (level-claims t) (level-at t) level.Post level-Inv-loop level-μ-loop
 level-close-requires t c κs = may-close (turn t (c .before .before .before .before .before .before .before .before .before .before .before .before .before .before .before .before)) (c .before .before .before .before .before .before .before .before .before .before .before .before .before .before .step3 .given .1) (c .before .before .before .before .before .before .before .before .before .before .group .ensures) (c .before .before .before .before .inner2 .given .1) (c .before .before .closing-by .result) (c .before .before .closing-by .ensures)
@@ -356,16 +356,16 @@ level-size-at-requires : (t : ℕ) → level-lts.Need-size-at-requires (level-cl
 level-size-at-requires t c κs = tt
 
 level-add-at-5 : (t : ℕ) → level-lts.Need-add-at-5 (level-claims t) (level-at t) level.Post level-Inv-loop level-μ-loop
-level-add-at-5 t c = let fine = c .before .before .before .before .before .before .before .before .before .before .before .before .before .before .before .before .before .before .before .before .before .before .before .before .before .before .before .before .before .before .before .before .before .before .before .before .before .before .before .pre .1 .0 .fine in omega (arith, c .size-at .ensures, fine .at (c .before .before .before .before .before .before .before .before .before .before .before .before .before .before .before .before .before .before .before .before .before .before .before .before .before .before .before .before .before .before .before .before .before .loop .at) (c .before .before .before .before .before .before .before .before .before .before .before .before .before .before .before .before .before .before .before .before .before .before .before .before .before .before .before .before .before .before .before .before .loop-test .taken) .fits, fine .few)
+level-add-at-5 t c = let fine = c .before .before .before .before .before .before .before .before .before .before .before .before .before .before .before .before .before .before .before .before .before .before .before .before .before .before .before .before .before .before .before .before .before .before .before .before .before .before .before .before .pre .1 .fine in omega (arith, c .size-at .ensures, fine .at (c .before .before .before .before .before .before .before .before .before .before .before .before .before .before .before .before .before .before .before .before .before .before .before .before .before .before .before .before .before .before .before .before .before .loop .at) (c .before .before .before .before .before .before .before .before .before .before .before .before .before .before .before .before .before .before .before .before .before .before .before .before .before .before .before .before .before .before .before .before .loop-test .taken) .fits, fine .few)
 
 level-loop-less-5 : (t : ℕ) → level-lts.Need-loop-less-5 (level-claims t) (level-at t) level.Post level-Inv-loop level-μ-loop
-level-loop-less-5 t c = omega (arith, c .before .before .before .before .before .before .before .before .before .before .before .before .before .before .before .before .before .before .before .before .before .before .before .before .before .before .before .before .before .before .before .before .loop-test .taken, c .size-at .ensures, c .before .before .before .before .before .before .before .before .before .before .before .before .before .before .before .before .before .before .before .before .before .before .before .before .before .before .before .before .before .before .before .before .before .before .before .before .before .before .before .pre .1 .0 .fine .at (c .before .before .before .before .before .before .before .before .before .before .before .before .before .before .before .before .before .before .before .before .before .before .before .before .before .before .before .before .before .before .before .before .before .loop .at) (c .before .before .before .before .before .before .before .before .before .before .before .before .before .before .before .before .before .before .before .before .before .before .before .before .before .before .before .before .before .before .before .before .loop-test .taken) .some)
+level-loop-less-5 t c = omega (arith, c .before .before .before .before .before .before .before .before .before .before .before .before .before .before .before .before .before .before .before .before .before .before .before .before .before .before .before .before .before .before .before .before .loop-test .taken, c .size-at .ensures, c .before .before .before .before .before .before .before .before .before .before .before .before .before .before .before .before .before .before .before .before .before .before .before .before .before .before .before .before .before .before .before .before .before .before .before .before .before .before .before .before .pre .1 .fine .at (c .before .before .before .before .before .before .before .before .before .before .before .before .before .before .before .before .before .before .before .before .before .before .before .before .before .before .before .before .before .before .before .before .before .loop .at) (c .before .before .before .before .before .before .before .before .before .before .before .before .before .before .before .before .before .before .before .before .before .before .before .before .before .before .before .before .before .before .before .before .loop-test .taken) .some)
 
 level-loop-again-5 : (t : ℕ) → level-lts.Need-loop-again-5 (level-claims t) (level-at t) level.Post level-Inv-loop level-μ-loop
 level-loop-again-5 t c = (c .before .before .syntax7 .given ∙ c .before .before .before .before .before .before .before .before .before .before .before .before .before .syntax6 .given ∙ c .before .before .before .before .before .before .before .before .before .before .before .before .before .before .before .before .before .before .before .before .before .before .before .before .syntax .given ∙ c .before .before .before .before .before .before .before .before .before .before .before .before .before .before .before .before .before .before .before .before .before .before .before .before .before .before .before .before .before .before .before .before .before .loop .inv .0, c .before .before .before .before .waiting7 .given ∙ c .before .before .before .before .before .before .before .before .before .before .before .before .before .before .before .waiting6 .given ∙ c .before .before .before .before .before .before .before .before .before .before .before .before .before .before .before .before .before .before .before .before .before .before .before .before .before .before .waiting .given ∙ c .before .before .before .before .before .before .before .before .before .before .before .before .before .before .before .before .before .before .before .before .before .before .before .before .before .before .before .before .before .before .before .before .before .loop .inv .1, rw (c .size-at .ensures) (closed (turn t (c .before .before .before .before .before .before .before .before .before .before .before .before .before .before .before .before .before .before .before .before .before .before)) (c .before .before .before .before .before .before .before .before .before .before .before .before .before .before .before .before .before .before .before .before .step3 .given .1) (c .before .before .before .before .before .before .before .before .before .before .before .before .before .before .before .before .group .ensures) (c .before .before .before .before .before .before .before .before .before .before .inner2 .given .1) (c .before .before .before .before .before .before .before .before .closing-by .result) (c .before .before .before .before .before .before .before .before .closing-by .ensures) (c .before .before .before .before .before .close .ensures) (c .before .before .before .before .waiting7 .given)))
 
 level-at-closer-requires : (t : ℕ) → level-lts.Need-at-closer-requires (level-claims t) (level-at t) level.Post level-Inv-loop level-μ-loop
-level-at-closer-requires t c κs = (somewhere (c .before .before .before .loop .inv .2), c .before .before .before .before .before .before .before .before .before .pre .1 .0 .closes)
+level-at-closer-requires t c κs = (somewhere (c .before .before .before .loop .inv .2), c .before .before .before .before .before .before .before .before .before .before .pre .1 .closes)
 
 level-same-length-5 : (t : ℕ) → level-lts.Need-same-length-5 (level-claims t) (level-at t) level.Post level-Inv-loop level-μ-loop
 level-same-length-5 t c = c .before .before .before .waiting8 .given ∙ c .before .before .before .before .before .before .before .before .loop .inv .1
@@ -374,13 +374,13 @@ level-same-length-6 : (t : ℕ) → level-lts.Need-same-length-6 (level-claims t
 level-same-length-6 t c = c .before .syntax8 .given ∙ c .before .before .before .before .before .before .before .before .loop .inv .0
 
 level-returns-3 : (t : ℕ) → level-lts.Need-returns-3 (level-claims t) (level-at t) level.Post level-Inv-loop level-μ-loop
-level-returns-3 t c = ran-to-closer (c .before .before .before .before .before .before .before .before .loop .control) (c .before .before .before .before .before .before .before .before .loop .inv .2) (c .before .before .before .before .before .before .before .loop-test .left) (c .before .before .before .before .before .before .before .before .before .before .before .before .before .before .args .closer) (c .before .before .before .before .at-closer .ensures)
+level-returns-3 t c = ran-to-closer (c .before .before .before .before .before .before .before .before .loop .control) (c .before .before .before .before .before .before .before .before .loop .inv .2) (c .before .before .before .before .before .before .before .loop-test .left) (c .before .before .before .before .before .before .before .before .before .before .before .before .before .before .before .args .closer) (c .before .before .before .before .at-closer .ensures)
 
-statements-stand-requires : (t : ℕ) → statements-lts.Need-stand-requires (statements-claims t) (statements-at t) statements.Post
-statements-stand-requires t c κs = tt
+statements-around-requires : (t : ℕ) → statements-lts.Need-around-requires (statements-claims t) (statements-at t) statements.Post
+statements-around-requires t c κs = tt
 
 statements-level-requires : (t : ℕ) → statements-lts.Need-level-requires (statements-claims t) (statements-at t) statements.Post
-statements-level-requires t c κs = (omega (arith, (c .before .before .before .before .before .before .before) .pre .0), ((c .before .before .before .before .before .before .before) .pre .1 .0, begins-scope ((c .before .before .before .before .before .before .before) .args .scope) ((c .before .before .before .before .before .before .before) .pre .1 .1) ((c .before .before .stand) .ensures)))
+statements-level-requires t c κs = let s = c .before .before .before .before .before .before .before in (omega (arith, s .pre .0), s .pre .1 .0)
 
 statements-same-length : (t : ℕ) → statements-lts.Need-same-length (statements-claims t) (statements-at t) statements.Post
 statements-same-length t c = c .before .before .before .waiting .given
@@ -389,19 +389,14 @@ statements-same-length-2 : (t : ℕ) → statements-lts.Need-same-length-2 (stat
 statements-same-length-2 t c = c .before .syntax .given
 
 statements-returns : (t : ℕ) → statements-lts.Need-returns (statements-claims t) (statements-at t) statements.Post
-statements-returns t c = ran-as ((c .before .before .before .before .level) .ensures) (statements-start ((c .before .before .before .before .before .before .before .before .before .before .before .before) .args .scope) ((c .before .before .before .before .before .before .before .before .before .before .before .before) .pre .1 .1) ((c .before .before .before .before .before .before .before .stand) .ensures))
+statements-returns t c = ran-as ((c .before .before .before .before .level) .ensures) ((c .before .before .before .before .before .before .before .around) .ensures ((c .before .before .before .before .before .before .before .before .before .before .before .before) .pre .1 .1))
 
 pub +expression+function+group+level+statements-spec : {M : Type 1} → statement M
 +expression+function+group+level+statements-spec =
-    close μ-expression μ-function μ-group μ-level μ-statements (λ t. expression-lts.spec (
-      inside-of-reads.Asked,
-      inside-of-reads.Learnt,
-      level-below t,
-      level.Post,
-    )
+    close μ-expression μ-function μ-group μ-level μ-statements (λ t. expression-lts.spec
+    (level-below t, level.Post)
     (expression-at t)
     expression.Post
-    (expression-inside-of-requires t)
     (expression-level-requires t)
     (expression-same-length t)
     (expression-same-length-2 t)
@@ -445,6 +440,8 @@ pub +expression+function+group+level+statements-spec : {M : Type 1} → statemen
     (group-same-length-6 t)
     (group-returns-3 t))
     (λ t. level-lts.spec (
+      inside-of-reads.Asked,
+      inside-of-reads.Learnt,
       empty-reads.Asked,
       empty-reads.Learnt,
       class-at-reads.Asked,
@@ -482,6 +479,7 @@ pub +expression+function+group+level+statements-spec : {M : Type 1} → statemen
     level.Post
     level-Inv-loop
     level-μ-loop
+    (level-inside-of-requires t)
     (level-empty-requires t)
     (level-loop-holds t)
     (level-class-at-requires t)
@@ -537,10 +535,10 @@ pub +expression+function+group+level+statements-spec : {M : Type 1} → statemen
     (level-same-length-6 t)
     (level-returns-3 t))
     λ t. statements-lts.spec
-    (stand-reads.Asked, stand-reads.Learnt, level-below t, level.Post)
+    (around-reads.Asked, around-reads.Learnt, level-below t, level.Post)
     (statements-at t)
     statements.Post
-    (statements-stand-requires t)
+    (statements-around-requires t)
     (statements-level-requires t)
     (statements-same-length t)
     (statements-same-length-2 t)

@@ -7,8 +7,8 @@ use lib.Dec.{T}
 use lib.ListN.{length}
 use Rattle.machine.specs.Tokens.{Token}
 use Rattle.machine.specs.Syntax.{Syntax, nil, size}
-use Rattle.machine.specs.Scopes.{Items, Scope, body}
-use Rattle.machine.specs.Machinery.Machine.{empty, among, someTarget, byParen, byBracket, Control, statementDue, startDue, clauseDue, catchDue, operandDue, itemDue, parameterDue, Open, dead, live, run}
+use Rattle.machine.specs.Scopes.{body}
+use Rattle.machine.specs.Machinery.Machine.{empty, among, Control, statementDue, Open, dead, live, run}
 use Rattle.controls.specs.Machinery.Numbers.{settingBy, insideBy}
 use Rattle.machine.specs.Machinery.Classes.{isEnd}
 use Rattle.controls.specs.Machinery.Written.{putSyntax}
@@ -41,17 +41,6 @@ pub data Ran (class : ℕ) (p : Segment) (c : Control) (count top : ℕ) (table 
   ran-through : {n : ℕ} {within : Bool} {cells stack : List ℕ} → Through class p c count top table before n within cells stack
       → Ran class p c count top table before (Done n within) cells stack
   ran-dead : {place : ℕ} {cells stack : List ℕ} → Dies class p c place → Ran class p c count top table before (Bad place) cells stack
-
--- where a level may begin
-pub data Begins : Control → Type 0 where
-  begins-statements : {scope : Scope} → Begins (statementDue false (among scope))
-  begins-expression : Begins (operandDue byParen someTarget)
-  begins-index : Begins (operandDue byBracket someTarget)
-  begins-items : {items : Items} → Begins (itemDue items)
-  begins-parameter : Begins (parameterDue false)
-  begins-head : Begins startDue
-  begins-clauses : Begins (clauseDue false)
-  begins-caught : Begins catchDue
 
 -- a level may be run: its records are fine, no more records and waiting parts are before it than tree records, and the stack has
 -- room for one part for each tree record

@@ -9,7 +9,7 @@ returns : tie.Need-returns
 returns c = rw (c .if1 .taken)
 
 returns-2 : tie.Need-returns-2
-returns-2 c = rw (ne-eqb (c .before .args .place) 45 (c .if1 .left))
+returns-2 c = rw (ne-eqb (c .before .args .place) 0 (c .if1 .left))
 
 pub statement-setting-spec : {M : Type 1} → statement M
 statement-setting-spec = tie.close (tie.spec returns returns-2)

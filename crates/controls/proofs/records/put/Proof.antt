@@ -1,6 +1,7 @@
 -- Three stores are one record.
 use borrow.Author.Needs.{needs}
 use mathlib.Core.Path.{refl}
+use Prim.Native.Nat.{ℕ, _+_, _*_, _/_, _≤_, _<_}
 use native.Mathlib.Omega.{arith}
 use borrow.Author.Tests.{lt-ltb, le-ltb}
 use lib.ListN.{length-set}
@@ -8,15 +9,24 @@ use Rattle.controls.specs.Machinery.Written.{putRecord}
 use Rattle.controls.proofs.records.put.Statement.{statement}
 use Rattle.controls.proofs.records.put.Tie as tie
 
+no-room : (number count : ℕ) → number < count * 3 + 3 → number / 3 ≤ count
+no-room number count short = omega arith
+
+room : (number count : ℕ) → count * 3 + 3 ≤ number → count < number / 3
+room number count long = omega arith
+
+mul-at : tie.Need-mul-at
+mul-at c = search needs
+
+add-if1 : tie.Need-add-if1
+add-if1 c = search needs
+
 add-result : tie.Need-add-result
 add-result c = search needs
 
 returns : tie.Need-returns
 unfolding putRecord
-returns c = (refl, simp (le-ltb _ _ (c .if1 .taken)))
-
-mul-at : tie.Need-mul-at
-mul-at c = search needs
+returns c = (refl, simp (le-ltb _ _ (no-room _ _ (c .if1 .taken))))
 
 mul-syntax : tie.Need-mul-syntax
 mul-syntax c = search needs
@@ -62,15 +72,16 @@ same-length c = search needs
 
 returns-2 : tie.Need-returns-2
 unfolding putRecord
-returns-2 c = (refl, simp (lt-ltb _ _ (c .if1 .left)))
+returns-2 c = (refl, simp (lt-ltb _ _ (room _ _ (c .if1 .left))))
 
 pub put-spec : {M : Type 1} → statement M
 put-spec =
     tie.close
     (tie.spec
+    mul-at
+    add-if1
     add-result
     returns
-    mul-at
     mul-syntax
     slice-write-syntax
     cast-syntax
