@@ -21,8 +21,8 @@ use Rattle.derivations.specs.Tokens.{tokenOf, tokensFrom, openBrace, col
 use Rattle.derivations.specs.Senses.{Sense, objectAt, blockAt, beforeAt, afterAt, answerAt}
 use Rattle.derivations.specs.Shown.{placesOf, isSensed, sensedIn}
 use Rattle.machine.specs.Machinery.Machine.{State, dead, live, consume, asksIn}
-use Rattle.derivations.proofs.Classes.{isUpdate, fails}
-use Rattle.derivations.proofs.Related.{kinds, isLast}
+use Rattle.agreement.proofs.TreeClasses.{isUpdate, fails}
+use Rattle.agreement.proofs.Related.{kinds, isLast}
 use Rattle.derivations.proofs.MachineSenses.{braceBehind, updateBehind, senseAt, sensesFrom}
 
 -- the classes of `{`, `++` and `--`

@@ -12,7 +12,8 @@ use Rattle.rule.specs.Levels.{Levels, inside, braceOpens, onTop}
 use Rattle.prefix.specs.Reading.{Limits, more, openGroup, step}
 use Rattle.derivations.specs.Cuts.{isCloser, recorded}
 use Rattle.machine.specs.Machinery.Machine.{endOfText}
-use Rattle.derivations.proofs.Classes.{Told, told-leaf, told-open-paren, told-close-paren, told-open-brace, told-close-brace, told-open-bracket, told-close-bracket, told-nothing, no-leaf, holds, opensGroup, openedKind, closesGroup, closesKind}
+use Rattle.agreement.proofs.TreeClasses.{no-leaf, holds, opensGroup, openedKind, closesGroup, closesKind}
+use Rattle.derivations.proofs.Classes.{Told, told-leaf, told-open-paren, told-close-paren, told-open-brace, told-close-brace, told-open-bracket, told-close-bracket, told-nothing}
 
 module _ (limits : Limits) (e : Element) where
   pub opener-step : (levels : Levels) {class : ℕ} → Told e class → T (opensGroup class)

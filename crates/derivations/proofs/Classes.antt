@@ -1,14 +1,14 @@
 -- What the class of an element tells of it.
 use mathlib.Core.Path.{_≡_, refl, sym, ap, subst, _∙_}
 use mathlib.Core.Bool.{Bool, true, false, false≢true, not, cond, _&&_, _||_}
-use mathlib.Core.List.{List, [], _∷_, _++_}
+use mathlib.Core.List.{[], _∷_}
 use Prim.Native.Nat.{ℕ}
 use native.Mathlib.Omega.{arith}
 use borrow.Author.Tests.{eqb-true}
-use lib.Dec.{T, T-not, eqb, ltb}
+use lib.Dec.{T, eqb, ltb}
 use Rattle.text.specs.Runs.{same}
 use Rattle.text.proofs.Range.{and-left, and-right}
-use Rattle.text.proofs.Members.{allIn, at, isIn, found}
+use Rattle.text.proofs.Members.{isIn}
 use Rattle.vocabulary.specs.Vocabulary.{Row, words, signs, ruleClass, tokenClass, rowAt}
 use Rattle.vocabulary.proofs.RowLaws.{at-row, at-other}
 use Rattle.vocabulary.proofs.ClassLaws.{isClass, is-class}
@@ -16,74 +16,11 @@ use Rattle.signs.specs.Signs.{longestSign, longestOf}
 use Rattle.elements.specs.Elements.{nameKind, wordKind, numberKind, stringKind, patternKind, signKind, delimiterKind, delimiter, parenOpener, parenCloser, braceOpener, braceCloser, bracketOpener, bracketCloser}
 use Rattle.elements.specs.declared.Element.{Element}
 use Rattle.elements.proofs.Choices.{cond-both, cond-known}
-use Rattle.rule.specs.Trees.{parenKind, objectKind, blockKind, bracketKind, beforeKind, afterKind, answerKind}
+use Rattle.rule.specs.Trees.{beforeKind, afterKind, answerKind}
 use Rattle.rule.specs.Rule.{Class, elementClass, unanswered, backwards, settledKind}
 use Rattle.rule.specs.Levels.{Levels, isExpression, kindOf, treesOf, slashOpens, settledIn}
-use Rattle.machine.specs.Operators.{postfixOperators, isAmong}
+use Rattle.agreement.proofs.TreeClasses.{isLeaf, treeClass, isUpdate, settledClass}
 use Rattle.derivations.specs.Tokens.{name, number, string, pattern, colon, openParen, closeParen, openBrace, closeBrace, openBracket, closeBracket, wordName, nameClass, wordClass, signClass, delimiterClass, classOf}
-
--- a test that passes
-pub holds : (b : Bool) → T b → b ≡ true
-holds true t = refl
-holds false t = absurd t
-
--- a test that fails
-pub fails : (b : Bool) → T (not b) → b ≡ false
-fails true t = absurd t
-fails false t = refl
-
--- a class of tokens that are trees by themselves, and the class of these trees
-pub data TreeRow : Type 0 where
-  is : ℕ → Class → TreeRow
-
--- delimiters by their classes
-abbrev pub opensGroup : ℕ → Bool
-opensGroup class = eqb class openParen || eqb class openBracket || eqb class openBrace
-
-abbrev pub closesGroup : ℕ → Bool
-closesGroup class = eqb class closeParen || eqb class closeBracket || eqb class closeBrace
-
--- words and signs by their rows; a delimiter is no tree by itself
-abbrev withRow : ℕ → Class → List TreeRow → List TreeRow
-withRow class tree rest = cond (eqb class 0 || (opensGroup class || closesGroup class)) rest (is class tree ∷ rest)
-
-abbrev treeRows : List Row → List TreeRow
-treeRows [] = []
-treeRows (row ∷ rows) = withRow (tokenClass row) (ruleClass row) (treeRows rows)
-
-abbrev leaves : List TreeRow
-leaves =
-    is name Class.name
-    ∷ is number Class.literal
-    ∷ is string Class.literal
-    ∷ is pattern Class.literal
-    ∷ is wordName Class.name
-    ∷ treeRows (words ++ signs)
-
-abbrev classesOf : List TreeRow → List ℕ
-classesOf [] = []
-classesOf (is x tree ∷ rows) = x ∷ classesOf rows
-
-abbrev treeIn : List TreeRow → ℕ → Class
-treeIn [] class = Class.other
-treeIn (is x tree ∷ rows) class = cond (eqb class x) tree (treeIn rows class)
-
-unfoldable pub isLeaf : ℕ → Bool
-isLeaf class = isIn (classesOf leaves) class
-
-unfoldable pub treeClass : ℕ → Class
-treeClass class = treeIn leaves class
-
--- the kind of the group that an opener opens, by whether a brace opens an object there
-abbrev pub openedKind : Bool → ℕ → ℕ
-openedKind object class = cond (eqb class openParen) parenKind (cond (eqb class openBracket) bracketKind (cond object objectKind blockKind))
-
--- whether a closer closes a group of a kind
-abbrev pub closesKind : ℕ → ℕ → Bool
-closesKind class kind =
-    cond (eqb class closeParen) (eqb kind parenKind)
-    (cond (eqb class closeBracket) (eqb kind bracketKind)
-    (eqb kind objectKind || eqb kind blockKind))
 
 -- an element that is no delimiter, with the class of its tree; a delimiter, by its sign; or what is no element that is found
 pub data Told (e : Element) : ℕ → Type 0 where
@@ -169,16 +106,6 @@ module _ (e : Element) where
       by : (kind : ℕ) {x y : ℕ} → (e .kind ≡ kind → Told e x) → (eqb (e .kind) kind ≡ false → Told e y) → Told e (cond (eqb (e .kind) kind) x y)
       by kind same other = cond-known (Told e) (eqb (e .kind) kind) (λ q. same (eqb-true (e .kind) kind q)) other
 
--- what each leaf's class passes
-pub each-leaf : (test : ℕ → Bool) → T (allIn test (classesOf leaves)) → (class : ℕ) → T (isLeaf class) → T (test class)
-unfolding isLeaf
-each-leaf test all class l = at test (found (classesOf leaves) class l) all
-
--- a class that passes a test which no leaf's class passes is no leaf's
-pub no-leaf : (test : ℕ → Bool) → T (allIn (λ class. not (test class)) (classesOf leaves)) → (class : ℕ) → T (isLeaf class) → T (test class) → ⊥
-unfolding isLeaf
-no-leaf test none class l t = T-not (test class) (at (λ class. not (test class)) (found (classesOf leaves) class l) none) t
-
 -- what the class of a leaf tells
 pub leaf-told : (e : Element) {class : ℕ} → Told e class → T (isLeaf class) → (e .kind ≡ 0 → ⊥) × (elementClass e ≡ treeClass class)
 unfolding isLeaf
@@ -191,20 +118,9 @@ leaf-told e (told-open-bracket k w) t = absurd t
 leaf-told e (told-close-bracket k w) t = absurd t
 leaf-told e told-nothing t = absurd t
 
--- `++` and `--`, whose trees the rule tells apart by what stands before them
-abbrev pub isUpdate : ℕ → Bool
-isUpdate class = isAmong postfixOperators class
-
--- The kind of the tree that a token of a class and kind makes, and the class of that tree, by whether `++` or `--` there stands before its operand, and
--- whether a `?` is open there.
+-- the kind of the tree that a token of a class and kind makes, by whether `++` or `--` there stands before its operand, and whether a `?` is open there
 abbrev pub kindBy : Bool → Bool → ℕ → ℕ → ℕ
 kindBy before asked class kind = cond (isUpdate class) (cond before beforeKind afterKind) (cond (eqb class colon && asked) answerKind kind)
-
-unfoldable pub settledClass : Bool → Bool → ℕ → Class
-settledClass before asked class =
-    cond (isUpdate class) (cond before Class.operator Class.literal)
-    (cond (eqb class colon && asked) Class.answer
-    (treeClass class))
 
 -- the unanswered `?`s of the innermost level
 unfoldable pub questionsOf : Levels → ℕ

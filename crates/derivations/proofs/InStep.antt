@@ -12,7 +12,7 @@ use Rattle.derivations.specs.Tokens.{Token, token}
 use Rattle.machine.specs.Machinery.Machine.{endOfText, Frame, Ending, Control, someTarget, operandDue, Closing, Open, grouped, nested, asking, State, dead, live, start, asks}
 use Rattle.machine.proofs.Ran.{ran, ran-is-run, stays-dead, anywhere, isLive}
 use Rattle.derivations.proofs.Classes.{questionsOf}
-use Rattle.derivations.proofs.Related.{related, takesOver}
+use Rattle.agreement.proofs.Related.{related, takesOver}
 use Rattle.derivations.proofs.LevelSummary.{summaryOf, summaryWith, kind-on-top}
 
 -- the `?`s that the machine has open on the innermost level

@@ -61,10 +61,11 @@ use Rattle.machine.specs.Machinery.Machine.{
   asks,
   asksIn,
 }
-use Rattle.derivations.proofs.Classes.{isLeaf, treeClass, told, leaf-told, opensGroup, openedKind, closesGroup, closesKind, holds, fails, settledClass, settled-there, questionsOf}
+use Rattle.agreement.proofs.TreeClasses.{isLeaf, treeClass, opensGroup, openedKind, closesGroup, closesKind, holds, fails, settledClass}
+use Rattle.derivations.proofs.Classes.{told, leaf-told, settled-there, questionsOf}
 use Rattle.derivations.proofs.ClassSteps.{opener-step, closer-step, leaf-no-closer, opener-no-closer, closer-closer, newline-kept, no-end}
-use Rattle.derivations.proofs.Related.{related, on-kind, settled, takes-over}
-use Rattle.derivations.proofs.Agreement.{wordClasses, takenRight, addToken, updatesRight, allows, OpensRight, opens-right, GoesRight, goto-allowed, push-allowed, enter-allowed, leave-allowed, pop-allowed, pop-in-allowed, AsksRight, ask-allowed, turn-allowed, finish-allowed, rule, questions-kept, both}
+use Rattle.agreement.proofs.Related.{related, on-kind, settled, takes-over}
+use Rattle.agreement.proofs.Agreement.{wordClasses, takenRight, addToken, updatesRight, allows, OpensRight, opens-right, GoesRight, goto-allowed, push-allowed, enter-allowed, leave-allowed, pop-allowed, pop-in-allowed, AsksRight, ask-allowed, turn-allowed, finish-allowed, rule, questions-kept, both}
 use Rattle.derivations.proofs.LevelSummary.{summaryOf, summaryWith, slash-summary, name-summary, brace-summary, summary-leaf, summary-group, questions-leaf, questions-group}
 use Rattle.derivations.proofs.MachineSenses.{senseAt}
 use Rattle.derivations.proofs.ReadSenses.{sensesSoFar, leaf-senses, opener-senses, closer-senses}

@@ -13,8 +13,6 @@ pub mod CompletedTexts
 pub mod Begins
 pub mod Classes
 pub mod ClassSteps
-pub mod Related
-pub mod Agreement
 pub mod LevelSummary
 pub mod Kept
 pub mod TokenLaws

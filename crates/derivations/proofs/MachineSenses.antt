@@ -9,8 +9,8 @@ use Rattle.rule.specs.Machinery.Summary.{operand}
 use Rattle.derivations.specs.Tokens.{Token, token, openBrace, colon}
 use Rattle.derivations.specs.Senses.{Sense, objectAt, blockAt, beforeAt, afterAt, answerAt}
 use Rattle.machine.specs.Machinery.Machine.{State, dead, live, consume, asksIn}
-use Rattle.derivations.proofs.Classes.{isUpdate}
-use Rattle.derivations.proofs.Related.{kinds, isLast}
+use Rattle.agreement.proofs.TreeClasses.{isUpdate}
+use Rattle.agreement.proofs.Related.{kinds, isLast}
 
 -- a brace, by the control behind it: an object, if that may stand inside one; and `++` or `--`: after its operand, if that stands behind one
 abbrev pub braceBehind : State → ℕ → Sense

@@ -38,7 +38,7 @@ use Rattle.derivations.proofs.MachineSenses.{senseAt, sensesFrom}
 use Rattle.derivations.proofs.ReadSenses.{treeSenses, sensesSoFar}
 use Rattle.derivations.proofs.SoFar.{elementsSoFar, step-elements}
 use Rattle.derivations.proofs.InStep.{InStep, start-in-step, ran-live}
-use Rattle.derivations.proofs.Agreement.{wordClasses}
+use Rattle.agreement.proofs.Agreement.{wordClasses}
 use Rattle.derivations.proofs.Kept.{Kept, kept, Stepped, stepped, Outermost, outermost, outermost-at-end}
 use Rattle.machine.proofs.Ran.{ran, anywhere}
 

@@ -65,7 +65,7 @@ use Rattle.machine.specs.Machinery.Machine.{
   start,
 }
 use Rattle.derivations.proofs.LevelSummary.{summaryOf, name-summary}
-use Rattle.derivations.proofs.Related.{mayName, word-named}
+use Rattle.agreement.proofs.Related.{mayName, word-named}
 use Rattle.derivations.proofs.InStep.{InStep, stopped, in-step, start-in-step}
 use Rattle.derivations.proofs.Kept.{Outcome, went-on, too-deep, too-many, kept}
 use Rattle.derivations.proofs.SoFar.{elementsSoFar, step-elements}

@@ -16,9 +16,10 @@ use Rattle.rule.specs.Machinery.Summary.{operand}
 use Rattle.derivations.specs.Tokens.{classOf, increment, decrement, colon, openParen, openBracket, openBrace}
 use Rattle.derivations.specs.Senses.{Sense, beforeAt, afterAt, answerAt, senseOf}
 use Rattle.machine.specs.Machinery.Machine.{Control, Frame, Open, State, live}
-use Rattle.derivations.proofs.Classes.{isLeaf, no-leaf, opensGroup, openedKind, closesGroup, holds, fails, isUpdate, settled-kind, questionsOf}
-use Rattle.derivations.proofs.Related.{kinds, isLast, implies}
-use Rattle.derivations.proofs.Agreement.{oneSided}
+use Rattle.agreement.proofs.TreeClasses.{isLeaf, no-leaf, opensGroup, openedKind, closesGroup, holds, fails, isUpdate}
+use Rattle.derivations.proofs.Classes.{settled-kind, questionsOf}
+use Rattle.agreement.proofs.Related.{kinds, isLast, implies}
+use Rattle.agreement.proofs.Agreement.{oneSided}
 use Rattle.derivations.proofs.MachineSenses.{senseAt}
 
 -- the senses of trees, in text order, and of levels

@@ -5,8 +5,8 @@ use mathlib.Core.List.{List, [], _∷_, _++_, append-assoc, append-nil}
 use Prim.Native.Nat.{ℕ}
 use lib.Dec.{T, eqb}
 use Rattle.rule.specs.Machinery.Summary.{operand}
-use Rattle.derivations.specs.Tokens.{Token, token, Spot, openParen, closeParen, openBrace, comma, colon, ifWord}
-use Rattle.machine.specs.Tokens.{newWord, inWord, question, semicolon, varWord, elseWord, doWord, whileWord, forWord, continueWord, breakWord, withWord, switchWord, caseWord, defaultWord, tryWord, catchWord, finallyWord}
+use Rattle.derivations.specs.Tokens.{Token, token, Spot, openParen, closeParen, openBrace, comma, colon}
+use Rattle.machine.specs.Tokens.{newWord, inWord, question, semicolon, varWord, elseWord, forWord, continueWord, breakWord, defaultWord, catchWord, finallyWord}
 use Rattle.machine.specs.Syntax.{Syntax}
 use Rattle.grammar.specs.Grammar.{
   assignmentOperators,
@@ -128,12 +128,12 @@ use Rattle.grammar.specs.Grammar.{
   add-declaration,
   Program,
 }
-use Rattle.derivations.specs.Senses.{Sense, objectAt, blockAt, beforeAt, afterAt, answerAt}
+use Rattle.derivations.specs.Senses.{Sense, beforeAt, afterAt, answerAt}
 use Rattle.derivations.specs.Shown.{sensesOf}
-use Rattle.machine.specs.Machinery.Machine.{Frame, empty, reduced, Effect, affect, holdWord, takePrefix, takeElse, startStatement, endValue, endHead, Value, doneValue, listValue, statementValue, expressionValue, valueOf, Target, noTarget, someTarget, loneTarget, isTarget, allowsIn, Ending, byStatement, byReturn, byVariable, byStart, byTest, byStep, byObject, byCase, byParen, byBracket, byColon, byItem, Role, declared, operandIn, ifNest, elseNest, doNest, Setting, among, inClause, inNest, Variables, inStatement, inHead, laterVariables, behindVariables, Control, statementDue, statementDone, clauseDue, tryFirst, tryDone, catchPast, catchDone, finallyFirst, tryEnded, switchPast, testDue, stepDue, variableDue, variableNamed, bodyDone, testFirst, semicolonDue, behindStatement, operandDue, operandDone, postfixDone, functionFirst, functionNamed, parameterPast, itemDue, parameterDue, parameterNamed, listCloser, Action, goto, push, leave, otherwise, look, row, Closing, toParameter, toStatement, toBlock, toFor, toForIn, toTest, toBody, toTry, close, Open, grouped, nested, asking, State, live, act, consume, start, asks, asksIn}
+use Rattle.machine.specs.Machinery.Machine.{Frame, empty, reduced, Effect, affect, holdWord, takePrefix, takeElse, startStatement, endValue, endHead, Value, doneValue, listValue, statementValue, valueOf, Target, noTarget, someTarget, loneTarget, isTarget, allowsIn, Ending, byStatement, byReturn, byVariable, byStart, byTest, byStep, byObject, byCase, byParen, byBracket, byColon, byItem, Role, declared, operandIn, ifNest, elseNest, doNest, Setting, among, inClause, inNest, Variables, inStatement, inHead, laterVariables, behindVariables, Control, statementDue, statementDone, clauseDue, tryFirst, tryDone, catchPast, catchDone, finallyFirst, tryEnded, switchPast, testDue, stepDue, variableDue, variableNamed, bodyDone, testFirst, semicolonDue, behindStatement, operandDue, operandDone, postfixDone, functionFirst, functionNamed, parameterPast, itemDue, parameterDue, parameterNamed, listCloser, Action, goto, push, leave, otherwise, look, row, Closing, toParameter, toStatement, toBlock, toFor, toForIn, toTest, toBody, toTry, close, Open, grouped, nested, asking, State, live, act, consume, start, asks, asksIn}
 use Rattle.machine.specs.Machinery.Classes.{isSensed}
-use Rattle.derivations.proofs.Classes.{isUpdate, holds, fails}
-use Rattle.derivations.proofs.Related.{isLast}
+use Rattle.agreement.proofs.TreeClasses.{isUpdate, holds, fails}
+use Rattle.agreement.proofs.Related.{isLast}
 use Rattle.derivations.proofs.MachineSenses.{braceBehind, updateBehind, senseAt, sensesFrom}
 use Rattle.grammar.proofs.TableLaws.{at-class, at-leaf, binary-by, look-past}
 use Rattle.grammar.proofs.Beginnings.{noColon, Sees, widened, target-begins, assign-begins, expression-begins, betweenItems, betweenVariables, HeadPart, start-part, test-part, step-part, look-leaf, look-prefix, expression-is-taken, target-is-taken, value-is-returned, value-is-thrown, label-is-taken, item-is-taken, part-is-taken}
@@ -166,33 +166,67 @@ senses-see = record {
         ap (λ (a : Bool). senseAt a (consume state (token class spot)) class (spot .first) ++ sensesFrom (consume state (token class spot)) ts) asked
         ∙ ap (λ (s : State). senseAt (asksIn other) s class (spot .first) ++ sensesFrom s ts) same
 
--- From a state and the tokens before, the machine comes past these senses to a control, with these groups open, at the tokens after. Its frame
--- there is no matter: what a token is taken for is up to the controls.
-record Past (from : State) (before : List Token) (senses : List Sense) (control : Control) (around : List Open) (after : List Token) : Type 0 where
+-- From a state and the tokens before, the machine comes past these senses to one of some controls, with these groups open, at the tokens after. Its
+-- frame there is no matter: what a token is taken for is up to the controls.
+record PastTo (from : State) (before : List Token) (senses : List Sense) {A : Type 0} (control : A → Control) (around : List Open) (after : List Token) : Type 0 where
+  which : A
   f : Frame
-  passes : sensesFrom from before ≡ senses ++ sensesFrom (live control f around) after
+  passes : sensesFrom from before ≡ senses ++ sensesFrom (live (control which) f around) after
 
--- the same, and the control is one behind a Unary
+-- to one control
+abbrev only : Control → Unit {0} → Control
+only control u = control
+
+abbrev Past : State → List Token → List Sense → Control → List Open → List Token → Type 0
+Past from before senses control around after = PastTo from before senses (only control) around after
+
+-- to one that stands somewhere, as behind a Unary
+abbrev controlOf : (stands : Control → Type 0) → (control : Control) × stands control → Control
+controlOf stands s = s .0
+
+abbrev PastWhere : State → List Token → List Sense → (Control → Type 0) → List Open → List Token → Type 0
+PastWhere from before senses stands around after = PastTo from before senses (controlOf stands) around after
+
 abbrev PastUnary : State → List Token → List Sense → Ending → List Open → List Token → Type 0
-PastUnary from before senses ending around after = (control : Control) × UnaryDone ending control × Past from before senses control around after
+PastUnary from before senses ending around after = PastWhere from before senses (UnaryDone ending) around after
 
-module _ {from : State} {before middle : List Token} {first : List Sense} {control : Control} {around : List Open} where
-  -- the same from another state, if its senses are the same
-  led-by : {state : State} {tokens : List Token} → sensesFrom state tokens ≡ sensesFrom from before → Past from before first control around middle
-      → Past state tokens first control around middle
-  led-by same p = record { f = p .f; passes = same ∙ p .passes }
+module _ {from : State} {before middle : List Token} {first : List Sense} {A : Type 0} {control : A → Control} {around : List Open} where
+  -- the same from another state, if its senses are the same, or one more
+  led-by : {state : State} {tokens : List Token} → sensesFrom state tokens ≡ sensesFrom from before → PastTo from before first control around middle
+      → PastTo state tokens first control around middle
+  led-by same p = record { which = p .which; f = p .f; passes = same ∙ p .passes }
 
-  -- and more senses behind them, or none
-  and-then : {after : List Token} {second : List Sense} {next : Control} {groups : List Open} (p : Past from before first control around middle)
-      → Past (live control (p .f) around) middle second next groups after → Past from before (first ++ second) next groups after
-  and-then {after} {second} {next} {groups} p q = record {
-    f = q .f;
-    passes = p .passes ∙ ap (λ (ss : List Sense). first ++ ss) (q .passes) ∙ sym (append-assoc first second (sensesFrom (live next (q .f) groups) after));
-  }
+  sensed : {state : State} {tokens : List Token} {sense : Sense} → sensesFrom state tokens ≡ sense ∷ sensesFrom from before
+      → PastTo from before first control around middle → PastTo state tokens (sense ∷ first) control around middle
+  sensed {sense = sense} same p = record { which = p .which; f = p .f; passes = same ∙ ap (λ (ss : List Sense). sense ∷ ss) (p .passes) }
 
-  and-on : {after : List Token} {next : Control} {groups : List Open} (p : Past from before first control around middle)
-      → Past (live control (p .f) around) middle [] next groups after → Past from before first next groups after
-  and-on p q = record { f = q .f; passes = p .passes ∙ ap (λ (ss : List Sense). first ++ ss) (q .passes) }
+  -- And more senses behind them, or none. What follows is said of any frame, so that no type in it holds a proof of what came before: that would make
+  -- the check many times longer.
+  and-then : {after : List Token} {second : List Sense} {B : Type 0} {next : B → Control} {groups : List Open} → PastTo from before first control around middle
+      → ((x : A) (f : Frame) → PastTo (live (control x) f around) middle second next groups after) → PastTo from before (first ++ second) next groups after
+  and-then {after} {second} {next = next} {groups = groups} p rest =
+      let q = rest (p .which) (p .f) in
+      record {
+        which = q .which;
+        f = q .f;
+        passes = p .passes ∙ ap (λ (ss : List Sense). first ++ ss) (q .passes) ∙ sym (append-assoc first second (sensesFrom (live (next (q .which)) (q .f) groups) after));
+      }
+
+  and-on : {after : List Token} {B : Type 0} {next : B → Control} {groups : List Open} → PastTo from before first control around middle
+      → ((x : A) (f : Frame) → PastTo (live (control x) f around) middle [] next groups after) → PastTo from before first next groups after
+  and-on p rest =
+      let q = rest (p .which) (p .f) in
+      record { which = q .which; f = q .f; passes = p .passes ∙ ap (λ (ss : List Sense). first ++ ss) (q .passes) }
+
+module _ {from : State} {before after : List Token} {control : Control} {around : List Open} where
+  -- past no sense
+  straight : (f : Frame) → sensesFrom from before ≡ sensesFrom (live control f around) after → Past from before [] control around after
+  straight f same = record { which = tt; f = f; passes = same }
+
+  -- where the control stands
+  standing : {senses : List Sense} {stands : Control → Type 0} → stands control → Past from before senses control around after
+      → PastWhere from before senses stands around after
+  standing s p = record { which = (control, s); f = p .f; passes = p .passes }
 
 -- a token that the machine goes on with, by its sense, and one that has none
 step-past : {control next : Control} {effect : Effect} {senses : List Sense} (class : ℕ) (spot : Spot) (after : List Token) (f : Frame) (around : List Open)
@@ -202,6 +236,7 @@ step-past : {control next : Control} {effect : Effect} {senses : List Sense} (cl
 step-past {control} {next} {effect} class spot after f around looked sense =
     let g = affect effect (spot .mark) f in
     record {
+      which = tt;
       f = g;
       passes = ap
           (λ (z : Action). senseAt (asks control) (act z class spot f around) class (spot .first) ++ sensesFrom (act z class spot f around) after) looked
@@ -300,7 +335,7 @@ behind-unary : {from : State} {before after : List Token} {senses : List Sense} 
     → T (isAmong (behindUnary ending) class) → PastUnary from before senses ending around (token class spot ∷ after)
     → Past from before senses (postfixDone ending) around (token class spot ∷ after)
 behind-unary {after = after} {around = around} {class = class} {spot = spot} follows p =
-    and-on (p .2) (record { f = p .2 .f; passes = unary-done class spot after (p .2 .f) around follows (p .1) })
+    and-on p λ s f. straight f (unary-done class spot after f around follows (s .1))
 
 -- a nest that is complete is left before these tokens, if any come
 abbrev Left : Control → Value → List Token → Type 0
@@ -311,15 +346,11 @@ Left control value (token class spot ∷ after) = look class (row control (spot 
 nest-left : {control behind : Control} (value : Value) (closing : Closing) (mark : ℕ) (g f : Frame) (around : List Open) (after : List Token)
     → asks control ≡ asks behind → Left control value after
     → Past (live control g (nested behind closing mark f ∷ around)) after [] behind around after
-nest-left value closing mark g f around [] asked left = record { f = f; passes = refl }
+nest-left value closing mark g f around [] asked left = straight f refl
 nest-left {control} {behind} value closing mark g f around (token class spot ∷ after) asked left =
     let nests = nested behind closing mark f ∷ around in
     let h = close closing mark (valueOf value g) f in
-    record {
-      f = h;
-      passes = senses-see .by-take (live control g nests) (live behind h around) (token class spot) after asked
-          (ap (λ (z : Action). act z class spot g nests) left);
-    }
+    straight h (senses-see .by-take (live control g nests) (live behind h around) (token class spot) after asked (ap (λ (z : Action). act z class spot g nests) left))
 
 unasked : (setting : Setting) → false ≡ asks (behindStatement setting)
 unasked (among scope) = refl
@@ -354,15 +385,14 @@ unnamed-past ending target f around (function-all parameters statements) = refl
 -- no parameter has a sense
 names-past : {before after : List Token} (f : Frame) (around : List Open) → Names before after
     → Past (live (parameterDue false) f around) before [] parameterNamed around after
-names-past f around one-name = record { f = f; passes = refl }
-names-past f around (more-names names) = and-on (names-past f around names) (record { f = _; passes = refl })
+names-past f around one-name = straight f refl
+names-past f around (more-names names) = and-on (names-past f around names) λ u g. straight _ refl
 
 parameters-past : {before after : List Token} {closer : Spot} (f : Frame) (behind : Control) (mark : ℕ) (g : Frame) (around : List Open)
     → Parameters before (token closeParen closer ∷ after)
     → Past (live (parameterDue false) f (grouped behind toParameter mark g ∷ around)) before [] behind around after
-parameters-past f behind mark g around no-parameters = record { f = _; passes = refl }
-parameters-past f behind mark g around (some-parameters names) =
-    and-on (names-past f (grouped behind toParameter mark g ∷ around) names) (record { f = _; passes = refl })
+parameters-past f behind mark g around no-parameters = straight _ refl
+parameters-past f behind mark g around (some-parameters names) = and-on (names-past f (grouped behind toParameter mark g ∷ around) names) λ u h. straight _ refl
 
 -- where a list may be closed: behind an item, where no argument has come, and behind a `,` that may be the last
 data MayClose : Items → Control → Type 0 where
@@ -373,9 +403,9 @@ data MayClose : Items → Control → Type 0 where
 item-closed : (items : Items) (f : Frame) (behind : Control) (closing : Closing) (mark : ℕ) (g : Frame) (around : List Open) (closer : Spot) (after : List Token)
     → T (isAmong (behindUnary (byItem items)) (listCloser items))
     × Past (live (postfixDone (byItem items)) f (grouped behind closing mark g ∷ around)) (token (listCloser items) closer ∷ after) [] behind around after
-item-closed callArguments f behind closing mark g around closer after = (tt, record { f = _; passes = refl })
-item-closed arrayElements f behind closing mark g around closer after = (tt, record { f = _; passes = refl })
-item-closed objectProperties f behind closing mark g around closer after = (tt, record { f = _; passes = refl })
+item-closed callArguments f behind closing mark g around closer after = (tt, straight _ refl)
+item-closed arrayElements f behind closing mark g around closer after = (tt, straight _ refl)
+item-closed objectProperties f behind closing mark g around closer after = (tt, straight _ refl)
 
 closer-past : {items : Items} {control : Control} (f : Frame) (behind : Control) (closing : Closing) (mark : ℕ) (g : Frame) (around : List Open) (closer : Spot)
     (after : List Token) → MayClose items control
@@ -383,28 +413,27 @@ closer-past : {items : Items} {control : Control} (f : Frame) (behind : Control)
 closer-past f behind closing mark g around closer after (behind-item {items = items} ends) =
     let closed = item-closed items f behind closing mark g around closer after in
     led-by (unary-done (listCloser items) closer after f (grouped behind closing mark g ∷ around) (closed .0) ends) (closed .1)
-closer-past f behind closing mark g around closer after no-argument = record { f = _; passes = refl }
+closer-past f behind closing mark g around closer after no-argument = straight _ refl
 closer-past f behind closing mark g around closer after (behind-comma {items = callArguments} first allowed) = absurd allowed
-closer-past f behind closing mark g around closer after (behind-comma {items = arrayElements} true allowed) = record { f = _; passes = refl }
-closer-past f behind closing mark g around closer after (behind-comma {items = arrayElements} false allowed) = record { f = _; passes = refl }
-closer-past f behind closing mark g around closer after (behind-comma {items = objectProperties} true allowed) = record { f = _; passes = refl }
-closer-past f behind closing mark g around closer after (behind-comma {items = objectProperties} false allowed) = record { f = _; passes = refl }
+closer-past f behind closing mark g around closer after (behind-comma {items = arrayElements} true allowed) = straight _ refl
+closer-past f behind closing mark g around closer after (behind-comma {items = arrayElements} false allowed) = straight _ refl
+closer-past f behind closing mark g around closer after (behind-comma {items = objectProperties} true allowed) = straight _ refl
+closer-past f behind closing mark g around closer after (behind-comma {items = objectProperties} false allowed) = straight _ refl
 
 abbrev PastList : Items → Frame → List Open → List Token → List Sense → List Token → Type 0
-PastList items f around before senses after =
-    (control : Control) × MayClose items control × Past (live (itemDue items) f around) before senses control around after
+PastList items f around before senses after = PastWhere (live (itemDue items) f around) before senses (MayClose items) around after
 
 list-past : {items : Items} {f : Frame} {behind : Control} {closing : Closing} {mark : ℕ} {g : Frame} {around : List Open} {closer : Spot}
     {before after : List Token} {senses : List Sense}
     → PastList items f (grouped behind closing mark g ∷ around) before senses (token (listCloser items) closer ∷ after)
     → Past (live (itemDue items) f (grouped behind closing mark g ∷ around)) before senses behind around after
 list-past {behind = behind} {closing = closing} {mark = mark} {g = g} {around = around} {closer = closer} {after = after} p =
-    and-on (p .2) (closer-past (p .2 .f) behind closing mark g around closer after (p .1))
+    and-on p λ s h. closer-past h behind closing mark g around closer after (s .1)
 
 hole-past : (first : Bool) (f : Frame) (around : List Open) (sign : Spot) (after : List Token)
-    → Past (live (betweenItems arrayElements first) f around) (token comma sign ∷ after) [] (itemDue arrayElements) around after
-hole-past true f around sign after = record { f = _; passes = refl }
-hole-past false f around sign after = record { f = _; passes = refl }
+    → PastTo (live (betweenItems arrayElements first) f around) (token comma sign ∷ after) [] (betweenItems arrayElements) around after
+hole-past true f around sign after = record { which = true; f = _; passes = refl }
+hole-past false f around sign after = record { which = true; f = _; passes = refl }
 
 -- a variable is complete behind its name, or behind its initialiser
 data VariableDone : Variables → Control → Type 0 where
@@ -413,20 +442,32 @@ data VariableDone : Variables → Control → Type 0 where
 
 next-variable : {place : Variables} {control : Control} (f : Frame) (around : List Open) (sign : Spot) (after : List Token) → VariableDone place control
     → Past (live control f around) (token comma sign ∷ after) [] (variableDue (laterVariables place)) around after
-next-variable f around sign after bare-done = record { f = _; passes = refl }
+next-variable f around sign after bare-done = straight _ refl
 next-variable f around sign after (value-done ends) = plain-past comma sign after f around (look-end ends (sign .newline) comma tt) tt
+
+-- behind a `,` another may come
+another-variable : (place : Variables) (first : Bool) {control : Control} (f : Frame) (around : List Open) (sign : Spot) (after : List Token)
+    → VariableDone (betweenVariables place first) control
+    → PastTo (live control f around) (token comma sign ∷ after) [] (λ (first : Bool). variableDue (betweenVariables place first)) around after
+another-variable place first {control} f around sign after done =
+    let p = next-variable f around sign after done in
+    record {
+      which = false;
+      f = p .f;
+      passes = subst (λ (z : Variables). sensesFrom (live control f around) (token comma sign ∷ after) ≡ sensesFrom (live (variableDue z) (p .f) around) after)
+          (later-between place first) (p .passes);
+    }
 
 variables-end : {place : Variables} {control : Control} (f : Frame) (around : List Open) (end : Spot) (after : List Token) → VariableDone place control
     → Past (live control f around) (token semicolon end ∷ after) [] (behindVariables place) around after
-variables-end f around end after bare-done = record { f = affect endValue (end .mark) f; passes = refl }
+variables-end f around end after bare-done = straight (affect endValue (end .mark) f) refl
 variables-end f around end after (value-done ends) = plain-past semicolon end after f around (look-end ends (end .newline) semicolon tt) tt
 
 -- behind the one variable of a `for` stands `in`
 only-variable : {control : Control} (f : Frame) (around : List Open) (sign : Spot) (after : List Token) → VariableDone (inHead true) control
     → Past (live control f around) (token inWord sign ∷ after) [] (operandDue byObject someTarget) around after
-only-variable f around sign after bare-done = record { f = affect endValue (sign .mark) f; passes = refl }
-only-variable f around sign after (value-done ends) =
-    record { f = affect endValue (sign .mark) f; passes = unary-done inWord sign after f around tt ends }
+only-variable f around sign after bare-done = straight (affect endValue (sign .mark) f) refl
+only-variable f around sign after (value-done ends) = straight (affect endValue (sign .mark) f) (unary-done inWord sign after f around tt ends)
 
 -- a part of the head of a `for` is complete where it may begin, or behind its value
 data PartDone : Control → Ending → Control → Type 0 where
@@ -434,8 +475,7 @@ data PartDone : Control → Ending → Control → Type 0 where
   some-done : {due : Control} {ending : Ending} {control : Control} → UnaryDone ending control → PartDone due ending control
 
 abbrev PastPart : Control → Ending → Frame → List Open → List Token → List Sense → List Token → Type 0
-PastPart due ending f around before senses after =
-    (control : Control) × PartDone due ending control × Past (live due f around) before senses control around after
+PastPart due ending f around before senses after = PastWhere (live due f around) before senses (PartDone due ending) around after
 
 -- what ends it is taken alike there
 part-done : {due control : Control} {ending : Ending} {target : Target} {class : ℕ} (spot : Spot) (after : List Token) (f : Frame) (around : List Open)
@@ -451,8 +491,7 @@ part-done spot after f around step-part (some-done ends) = unary-done closeParen
 behind-part : {due : Control} {ending : Ending} {target : Target} {class : ℕ} {f : Frame} {around : List Open} {before after : List Token}
     {senses : List Sense} {spot : Spot} → HeadPart due ending target class → PastPart due ending f around before senses (token class spot ∷ after)
     → Past (live due f around) before senses (postfixDone ending) around (token class spot ∷ after)
-behind-part {around = around} {after = after} {spot = spot} part p =
-    and-on (p .2) (record { f = p .2 .f; passes = part-done spot after (p .2 .f) around part (p .1) })
+behind-part {around = around} {after = after} {spot = spot} part p = and-on p λ s f. straight f (part-done spot after f around part (s .1))
 
 -- the head of a `for` from its first `;` on, or from its `in` on, and the statement behind it
 module _ {setting : Setting} {mark : ℕ} {g : Frame} {around : List Open} {f : Frame} {closer : Spot} {before middle after : List Token} where
@@ -461,25 +500,22 @@ module _ {setting : Setting} {mark : ℕ} {g : Frame} {around : List Open} {f : 
       → ((f : Frame) → PastPart stepDue byStep f groups update second (token closeParen closer ∷ middle))
       → ((f : Frame) → Past (live (statementDue true setting) f around) middle third (behindStatement setting) around after)
       → Past (live testDue f groups) before (first ++ (second ++ third)) (behindStatement setting) around after)
-  parts-past {end} {update} {second = second} test step inner =
-      let groups = grouped (statementDue true setting) toFor mark g ∷ around in
-      let t = behind-part test-part test in
-      let s : Past (live (postfixDone byTest) (t .f) groups) (token semicolon end ∷ update) second (postfixDone byStep) groups (token closeParen closer ∷ middle) =
-      led-by refl (behind-part step-part (step (affect endValue (end .mark) (t .f)))) in
-      let h : Past (live (postfixDone byTest) (t .f) groups) (token semicolon end ∷ update) second (statementDue true setting) around middle =
-      and-on s (record { f = close toFor mark (valueOf listValue (s .f)) g; passes = refl }) in
-      and-then t (and-then h (inner (h .f)))
+  parts-past {end} test step inner =
+      and-then (behind-part test-part test) λ u t.
+      and-then
+      (and-on (led-by refl (behind-part step-part (step (affect endValue (end .mark) t)))) λ u s.
+      straight {after = middle} {control = statementDue true setting} {around = around} (close toFor mark (valueOf listValue s) g) refl) λ u h.
+      inner h
 
   object-past : {first second : List Sense} → (let groups = grouped (statementDue true setting) toFor mark g ∷ around in
       PastUnary (live (operandDue byObject someTarget) f groups) before first byObject groups (token closeParen closer ∷ middle)
       → ((f : Frame) → Past (live (statementDue true setting) f around) middle second (behindStatement setting) around after)
       → Past (live (operandDue byObject someTarget) f groups) before (first ++ second) (behindStatement setting) around after)
-  object-past {first} object inner =
-      let groups = grouped (statementDue true setting) toFor mark g ∷ around in
-      let o = behind-unary tt object in
-      let h : Past (live (operandDue byObject someTarget) f groups) before first (statementDue true setting) around middle =
-      and-on o (record { f = close toForIn mark (valueOf listValue (o .f)) g; passes = refl }) in
-      and-then h (inner (h .f))
+  object-past object inner =
+      and-then
+      (and-on (behind-unary tt object) λ u o.
+      straight {after = middle} {control = statementDue true setting} {around = around} (close toForIn mark (valueOf listValue o) g) refl) λ u h.
+      inner h
 
 -- what the machine makes of the senses of a form, wherever it stands
 abbrev PastForm : Form → List Token → List Sense → List Token → Type 0
@@ -520,10 +556,10 @@ PastForm (clausesForm seen) before senses after =
     → Past (live (clauseDue false) f around) before senses (clauseDue seen) around after
 PastForm (variablesForm within) before senses after =
     (place : Variables) (f : Frame) (around : List Open) → within ≡ allowsIn (byVariable place)
-    → (first : Bool) × Past (live (variableDue (betweenVariables place true)) f around) before senses (variableDue (betweenVariables place first)) around after
+    → PastTo (live (variableDue (betweenVariables place true)) f around) before senses (λ (first : Bool). variableDue (betweenVariables place first)) around after
 PastForm (variableForm within) before senses after =
     (place : Variables) (f : Frame) (around : List Open) → within ≡ allowsIn (byVariable place)
-    → (control : Control) × VariableDone place control × Past (live (variableDue place) f around) before senses control around after
+    → PastWhere (live (variableDue place) f around) before senses (VariableDone place) around after
 PastForm (optionalForm within) before senses after =
     (due : Control) (ending : Ending) (target : Target) (class : ℕ) (f : Frame) (around : List Open) → HeadPart due ending target class
     → within ≡ allowsIn ending → T (isTarget target) → T (takesComma ending) → T (noColon after) → PastPart due ending f around before senses after
@@ -532,333 +568,270 @@ PastForm (statementsForm scope) before senses after =
     (setting : Setting) (f : Frame) (around : List Open) → behindStatement setting ≡ statementDue false setting → (scope ≡ body → setting ≡ among body)
     → Past (live (statementDue false setting) f around) before senses (statementDue false setting) around after
 PastForm (itemsForm items) before senses after =
-    (f : Frame) (around : List Open) → (first : Bool) × Past (live (itemDue items) f around) before senses (betweenItems items first) around after
+    (f : Frame) (around : List Open) → PastTo (live (itemDue items) f around) before senses (betweenItems items) around after
 PastForm (listForm items) before senses after = (f : Frame) (around : List Open) → T (noColon after) → PastList items f around before senses after
+
+-- an Expression in `( )`
+parens-past : {closer : Spot} {inside after : List Token} {senses : List Sense} → PastForm (expressionForm true) inside senses (token closeParen closer ∷ after)
+    → (behind : Control) (closing : Closing) (mark : ℕ) (f : Frame) (around : List Open)
+    → Past (live (operandDue byParen someTarget) empty (grouped behind closing mark f ∷ around)) inside senses behind around after
+parens-past value behind closing mark f around =
+    and-on (behind-unary tt (value byParen someTarget empty (grouped behind closing mark f ∷ around) refl tt tt)) λ u g. straight _ refl
 
 past : {form : Form} {before after : List Token} {value : Syntax} (d : Derives form before after value) → PastForm form before (sensesOf d) after
 unfolding sensesOf
 past (chain-leaf {spot = spot} {after = after} leaf) = λ ending target f around. leaf-past spot after ending target f around leaf
 past (chain-array values) = λ ending target f around. led-by refl (list-past (past values empty _ tt))
-past (chain-object {opener = opener} values) =
-    λ ending target f around.
-    record { f = _; passes = ap (λ (ss : List Sense). objectAt (opener .first) ∷ ss) (list-past (past values empty _ tt) .passes) }
-past (chain-parens value) =
-    λ ending target f around. and-on (led-by refl (behind-unary tt (past value byParen someTarget empty _ refl tt tt))) (record { f = _; passes = refl })
+past (chain-object values) = λ ending target f around. sensed refl (list-past (past values empty _ tt))
+past (chain-parens value) = λ ending target f around. led-by refl (parens-past (past value) _ _ _ _ _)
 past (chain-function function) = λ ending target f around. led-by refl (past function (operandIn ending target) _ around)
 past (chain-unnamed {word = word} function) =
     λ ending target f around.
     led-by (unnamed-past ending target (affect holdWord (word .mark) f) around function) (past function (operandIn ending target) _ around)
 past (chain-index object value) =
     λ ending target f around.
-    and-then (past object ending target f around)
-    (and-on (led-by refl (behind-unary tt (past value byBracket someTarget empty _ refl tt tt))) (record { f = _; passes = refl }))
-past (chain-member identifier object) =
-    λ ending target f around. and-on (past object ending target f around) (record { f = _; passes = refl })
-past (chain-member reserved-word object) =
-    λ ending target f around. and-on (past object ending target f around) (record { f = _; passes = refl })
+    and-then (past object ending target f around) λ u g.
+    and-on (led-by refl (behind-unary tt (past value byBracket someTarget empty _ refl tt tt))) λ u h.
+    straight _ refl
+past (chain-member identifier object) = λ ending target f around. and-on (past object ending target f around) λ u g. straight _ refl
+past (chain-member reserved-word object) = λ ending target f around. and-on (past object ending target f around) λ u g. straight _ refl
 past (chain-call callee values) =
-    λ ending target f around.
-    and-then (past callee ending target f around) (led-by refl (list-past (past values empty _ tt)))
+    λ ending target f around. and-then (past callee ending target f around) λ u g. led-by refl (list-past (past values empty _ tt))
 past (chain-new {word = word} callee values) =
     λ ending target f around.
     let g = affect (takePrefix newWord) (word .mark) f in
-    and-then (led-by (target-is-taken senses-see ending target g around (target-begins (target-chain callee))) (past callee ending target g around))
-    (led-by refl (list-past (past values empty _ tt)))
+    and-then (led-by (target-is-taken senses-see ending target g around (target-begins (target-chain callee))) (past callee ending target g around)) λ u h.
+    led-by refl (list-past (past values empty _ tt))
 past (target-chain chain) = past chain
 past (target-new {word = word} callee) =
     λ ending target f around.
     let g = affect (takePrefix newWord) (word .mark) f in
     led-by (target-is-taken senses-see ending target g around (target-begins callee)) (past callee ending target g around)
-past (unary-target target) =
-    λ ending assignable f around. (operandDone ending assignable, past-operand, past target ending assignable f around)
+past (unary-target target) = λ ending assignable f around. standing past-operand (past target ending assignable f around)
 past (unary-prefix {class = class} {sign = sign} {middle = middle} op value) =
-    λ ending target f around.
-    let p = prefix-past class sign middle ending target f around op in
-    let v = past value ending noTarget (p .f) around in
-    (v .0, v .1, and-then p (v .2))
+    λ ending target f around. and-then (prefix-past class sign middle ending target f around op) λ u g. past value ending noTarget g around
 past (unary-postfix {class = class} {sign = sign} {after = after} op same value) =
     λ ending target f around.
-    let p = past value ending target f around in
-    (postfixDone ending, past-postfix, and-then p (postfix-past class sign after ending target (p .f) around op same))
+    standing past-postfix (and-then (past value ending target f around) λ u g. postfix-past class sign after ending target g around op same)
 past (binary-unary unary) = λ ending target f around allowed. past unary ending target f around
 past (binary-operator {class = class} {sign = sign} {middle = middle} op tight left right) =
     λ ending target f around allowed.
-    let l = past left ending target f around allowed in
     let among = subst (λ (b : Bool). T (isAmong (binaryOperatorsBy b) class)) allowed op in
-    let p = and-on (l .2) (binary-past class sign middle (l .2 .f) around among (l .1)) in
-    let r = past right ending noTarget (p .f) around allowed in
-    (r .0, r .1, and-then p (r .2))
+    and-then (and-on (past left ending target f around allowed) λ s g. binary-past class sign middle g around among (s .1)) λ u g.
+    past right ending noTarget g around allowed
 past (assign-binary binary) = λ ending target f around allowed may. past binary ending target f around allowed
 past (assign-to {class = class} {sign = sign} {middle = middle} op target value) =
     λ ending assignable f around allowed may.
-    let l = past target ending assignable f around in
-    let p = and-on l (assignment-past class sign middle ending assignable (l .f) around may op) in
-    let r = past value ending someTarget (p .f) around allowed tt in
-    (r .0, r .1, and-then p (r .2))
-past (assign-conditional {sign = sign} {answer = answer} {inside = inside} condition first second) =
+    and-then (and-on (past target ending assignable f around) λ u g. assignment-past class sign middle ending assignable g around may op) λ u g.
+    past value ending someTarget g around allowed tt
+past (assign-conditional {sign = sign} {inside = inside} condition first second) =
     λ ending target f around allowed may.
-    let c = past condition ending target f around allowed in
-    let t = behind-unary tt (past first byColon someTarget empty (asking ending (sign .mark) (reduced leastBinary (c .2 .f)) ∷ around) refl tt) in
-    let e = past second ending someTarget _ around allowed tt in (
-      e .0,
-      e .1,
-      and-then (c .2) (led-by (question-past sign inside (c .2 .f) around (c .1)) (and-then {second = answerAt (answer .first) ∷ sensesOf second} t (record {
-        f = _;
-        passes = ap (λ (ss : List Sense). answerAt (answer .first) ∷ ss) (e .2 .passes);
-      }))),
-    )
+    and-then (past condition ending target f around allowed) λ s g.
+    led-by (question-past sign inside g around (s .1))
+    (and-then (behind-unary tt (past first byColon someTarget empty (asking ending (sign .mark) (reduced leastBinary g) ∷ around) refl tt)) λ u h.
+    sensed refl (past second ending someTarget _ around allowed tt))
 past (expression-assign value) = λ ending target f around allowed may takes. past value ending target f around allowed may
 past (expression-comma {sign = sign} {middle = middle} left right) =
     λ ending target f around allowed may takes.
-    let l = past left ending target f around allowed may takes in
-    let p = and-on (l .2) (comma-past sign middle (l .2 .f) around takes (l .1)) in
-    let r = past right ending someTarget (p .f) around allowed tt in
-    (r .0, r .1, and-then p (r .2))
-past (function-all {opener = opener} {openBody = openBody} {named = named} {inside = inside} parameters statements) =
+    and-then (and-on (past left ending target f around allowed may takes) λ s g. comma-past sign middle g around takes (s .1)) λ u g.
+    past right ending someTarget g around allowed tt
+past (function-all {opener = opener} parameters statements) =
     λ role f around.
-    let p : Past (live (functionNamed role) f around) (token openParen opener ∷ named) [] (parameterPast role) around (token openBrace openBody ∷ inside) =
-    led-by refl (parameters-past empty (parameterPast role) (opener .mark) f around parameters) in
-    and-then {second = blockAt (openBody .first) ∷ sensesOf statements} p (elim role [
-      | declared ↦ record {
-        f = _;
-        passes = ap (λ (ss : List Sense). blockAt (openBody .first) ∷ ss) (past statements (among body) empty _ refl (λ same. refl) .passes);
-      }
-      | operandIn ending target ↦ record {
-        f = _;
-        passes = ap (λ (ss : List Sense). blockAt (openBody .first) ∷ ss) (past statements (among body) empty _ refl (λ same. refl) .passes);
-      }
-    ])
+    and-then (led-by refl (parameters-past empty (parameterPast role) (opener .mark) f around parameters)) λ u g.
+    elim role [
+      | declared ↦ sensed refl (and-on (past statements (among body) empty _ refl (λ same. refl)) λ u h. straight _ refl)
+      | operandIn ending target ↦ sensed refl (and-on (past statements (among body) empty _ refl (λ same. refl)) λ u h. straight _ refl)
+    ]
 past (block-all {opener = opener} {inside = inside} statements) =
     λ control behind f around opens.
-    let groups = grouped behind toBlock (opener .mark) f ∷ around in
-    let p = past statements (among block) empty groups refl (ap among) in
-    record {
-      f = close toBlock (opener .mark) (valueOf doneValue (p .f)) f;
-      passes = ap (λ (z : Action). senseAt (asks control) (act z openBrace opener f around) openBrace (opener .first)
-          ++ sensesFrom (act z openBrace opener f around) inside) (opens (opener .newline))
-          ∙ ap (λ (ss : List Sense). blockAt (opener .first) ∷ ss) (p .passes);
-    }
+    sensed
+    (ap (λ (z : Action). senseAt (asks control) (act z openBrace opener f around) openBrace (opener .first)
+    ++ sensesFrom (act z openBrace opener f around) inside) (opens (opener .newline)))
+    (and-on (past statements (among block) empty (grouped behind toBlock (opener .mark) f ∷ around) refl (ap among)) λ u g. straight _ refl)
 past (statement-block inner) = λ must setting f around. past inner (statementDue must setting) (behindStatement setting) f around (λ newline. refl)
 past (statement-expression allowed value) =
     λ must setting f around.
     and-on
     (led-by (expression-is-taken senses-see must setting f around (expression-begins value tt) allowed)
-    (behind-unary tt (past value (byStatement setting) someTarget f around refl tt tt)))
-    (record { f = _; passes = refl })
-past (statement-if {word = word} {opener = opener} {inside = inside} {middle = middle} {after = after} alone condition inner) =
+    (behind-unary tt (past value (byStatement setting) someTarget f around refl tt tt))) λ u g.
+    straight _ refl
+past (statement-if {word = word} {after = after} alone condition inner) =
     λ must setting f around.
     let groups = nested (behindStatement setting) toStatement (word .mark) f ∷ around in
-    let c : Past (live (statementDue must setting) f around) (token ifWord word ∷ token openParen opener ∷ inside) (sensesOf condition)
-    (statementDue true (inNest ifNest)) groups middle =
-    and-on (led-by refl (behind-unary tt (past condition byParen someTarget empty _ refl tt tt))) (record { f = _; passes = refl }) in
-    let i = past inner true (inNest ifNest) (c .f) groups in
-    and-then c (and-on i (nest-left statementValue toStatement (word .mark) (i .f) f around after (unasked setting) (if-left after alone)))
-past (statement-else {word = word} {opener = opener} {other = other} {inside = inside} {middle = middle} {rest = rest} {after = after} condition first second) =
+    and-then (led-by refl (parens-past (past condition) (statementDue true (inNest ifNest)) _ _ _ groups)) λ u g.
+    and-on (past inner true (inNest ifNest) g groups) λ u h.
+    nest-left statementValue toStatement (word .mark) h f around after (unasked setting) (if-left after alone)
+past (statement-else {word = word} {rest = rest} {after = after} condition first second) =
     λ must setting f around.
     let groups = nested (behindStatement setting) toStatement (word .mark) f ∷ around in
-    let c : Past (live (statementDue must setting) f around) (token ifWord word ∷ token openParen opener ∷ inside) (sensesOf condition)
-    (statementDue true (inNest ifNest)) groups middle =
-    and-on (led-by refl (behind-unary tt (past condition byParen someTarget empty _ refl tt tt))) (record { f = _; passes = refl }) in
-    let i = past first true (inNest ifNest) (c .f) groups in
-    let e : Past (live (statementDone ifNest) (i .f) groups) (token elseWord other ∷ rest) [] (statementDue true (inNest elseNest)) groups rest =
-    record { f = _; passes = refl } in
-    let p = and-on i e in
-    let o = past second true (inNest elseNest) (p .f) groups in
-    and-then c (and-then p (and-on o (nest-left statementValue toStatement (word .mark) (o .f) f around after (unasked setting) (else-left after))))
-past (statement-do {word = word} {other = other} {opener = opener} {closer = closer} {end = end} {before = before} {inside = inside} {after = after} inner condition) =
+    and-then (led-by refl (parens-past (past condition) (statementDue true (inNest ifNest)) _ _ _ groups)) λ u g.
+    and-then
+    (and-on (past first true (inNest ifNest) g groups) λ u h. straight {after = rest} {control = statementDue true (inNest elseNest)} {around = groups} _ refl) λ u h.
+    and-on (past second true (inNest elseNest) h groups) λ u k.
+    nest-left statementValue toStatement (word .mark) k f around after (unasked setting) (else-left after)
+past (statement-do {word = word} {opener = opener} {end = end} {inside = inside} inner condition) =
     λ must setting f around.
-    let groups = nested (bodyDone setting) toBody (word .mark) f ∷ around in
-    let i = past inner true (inNest doNest) empty groups in
-    let w : Past (live (statementDone doNest) (i .f) groups) (token whileWord other ∷ token openParen opener ∷ inside) [] (testFirst setting) around
-    (token openParen opener ∷ inside) = record { f = _; passes = refl } in
-    let p : Past (live (statementDue must setting) f around) (token doWord word ∷ before) (sensesOf inner) (testFirst setting) around
-    (token openParen opener ∷ inside) = led-by refl (and-on i w) in
-    let c : Past (live (testFirst setting) (p .f) around) (token openParen opener ∷ inside) (sensesOf condition) (postfixDone byParen)
-    (grouped (semicolonDue setting) toTest (opener .mark) (p .f) ∷ around) (token closeParen closer ∷ token semicolon end ∷ after) =
-    led-by refl (behind-unary tt (past condition byParen someTarget empty _ refl tt tt)) in
-    let tested = close toTest (opener .mark) (valueOf expressionValue (c .f)) (p .f) in
-    and-then p (and-on c (record { f = affect endValue (end .mark) tested; passes = refl }))
-past (statement-head {word = word} {opener = opener} {inside = inside} {middle = middle} while-word head inner) =
+    and-then
+    (led-by refl
+    (and-on (past inner true (inNest doNest) empty (nested (bodyDone setting) toBody (word .mark) f ∷ around)) λ u g.
+    straight {after = token openParen opener ∷ inside} {control = testFirst setting} {around = around} _ refl)) λ u g.
+    and-on (led-by refl (parens-past (past condition) (semicolonDue setting) toTest (opener .mark) g around)) λ u h.
+    straight (affect endValue (end .mark) h) refl
+past (statement-head while-word head inner) =
     λ must setting f around.
-    let h : Past (live (statementDue must setting) f around) (token whileWord word ∷ token openParen opener ∷ inside) (sensesOf head)
-    (statementDue true setting) around middle =
-    and-on (led-by refl (behind-unary tt (past head byParen someTarget empty _ refl tt tt))) (record { f = _; passes = refl }) in
-    and-then h (past inner true setting (h .f) around)
-past (statement-head {word = word} {opener = opener} {inside = inside} {middle = middle} with-word head inner) =
+    and-then (led-by refl (parens-past (past head) (statementDue true setting) _ _ _ around)) λ u g.
+    past inner true setting g around
+past (statement-head with-word head inner) =
     λ must setting f around.
-    let h : Past (live (statementDue must setting) f around) (token withWord word ∷ token openParen opener ∷ inside) (sensesOf head)
-    (statementDue true setting) around middle =
-    and-on (led-by refl (behind-unary tt (past head byParen someTarget empty _ refl tt tt))) (record { f = _; passes = refl }) in
-    and-then h (past inner true setting (h .f) around)
-past (statement-for {word = word} {opener = opener} {first = end} {inside = inside} {test = test} first condition step inner) =
+    and-then (led-by refl (parens-past (past head) (statementDue true setting) _ _ _ around)) λ u g.
+    past inner true setting g around
+past (statement-for {word = word} {opener = opener} {first = end} {test = test} first condition step inner) =
     λ must setting f around.
     let groups = grouped (statementDue true setting) toFor (opener .mark) (affect (startStatement forWord) (word .mark) f) ∷ around in
-    let s = behind-part start-part (past first _ _ _ _ empty groups start-part refl tt tt tt) in
-    let p : Past (live (statementDue must setting) f around) (token forWord word ∷ token openParen opener ∷ inside) (sensesOf first) testDue groups test =
-    led-by refl (and-on s (record { f = affect endValue (end .mark) (s .f); passes = refl })) in
-    and-then p
-    (parts-past (past condition _ _ _ _ (p .f) groups test-part refl tt tt tt) (λ f. past step _ _ _ _ f groups step-part refl tt tt tt)
-    (λ f. past inner true setting f around))
-past (statement-for-var {word = word} {opener = opener} {declared = var} {first = end} {inside = inside} {named = named} {test = test}
-    variables last condition step inner) =
+    and-then
+    (led-by refl
+    (and-on (behind-part start-part (past first _ _ _ _ empty groups start-part refl tt tt tt)) λ u g.
+    straight {after = test} {control = testDue} {around = groups} (affect endValue (end .mark) g) refl)) λ u g.
+    parts-past (past condition _ _ _ _ g groups test-part refl tt tt tt) (λ f. past step _ _ _ _ f groups step-part refl tt tt tt)
+    (λ f. past inner true setting f around)
+past (statement-for-var {word = word} {opener = opener} {declared = var} {first = end} {test = test} variables last condition step inner) =
     λ must setting f around.
     let groups = grouped (statementDue true setting) toFor (opener .mark) (affect (startStatement forWord) (word .mark) f) ∷ around in
-    let v = past variables (inHead true) (affect (startStatement varWord) (var .mark) empty) groups refl in
-    let p : Past (live (statementDue must setting) f around) (token forWord word ∷ token openParen opener ∷ token varWord var ∷ inside) (sensesOf variables)
-    (variableDue (inHead (v .0))) groups named = led-by refl (v .1) in
-    let l = past last (inHead (v .0)) (p .f) groups refl in
-    let s = and-on (l .2) (variables-end (l .2 .f) groups end test (l .1)) in
-    and-then p
-    (and-then s
-    (parts-past (past condition _ _ _ _ (s .f) groups test-part refl tt tt tt) (λ f. past step _ _ _ _ f groups step-part refl tt tt tt)
-    (λ f. past inner true setting f around)))
-past left-out = λ due ending target class f around part allowed may takes next. (due, none-done, record { f = f; passes = refl })
+    and-then (led-by refl (past variables (inHead true) (affect (startStatement varWord) (var .mark) empty) groups refl)) λ one g.
+    and-then (and-on (past last (inHead one) g groups refl) λ s h. variables-end h groups end test (s .1)) λ u g.
+    parts-past (past condition _ _ _ _ g groups test-part refl tt tt tt) (λ f. past step _ _ _ _ f groups step-part refl tt tt tt)
+    (λ f. past inner true setting f around)
+past left-out = λ due ending target class f around part allowed may takes next. standing none-done (straight f refl)
 past (not-left-out {before = before} value) =
     λ due ending target class f around part allowed may takes next.
-    let v = past value ending target f around allowed may takes in
-    (v .0, some-done (v .1), led-by (part-is-taken senses-see part f around before (expression-begins value next)) (v .2))
+    led-by (part-is-taken senses-see part f around before (expression-begins value next))
+    (and-on (past value ending target f around allowed may takes) λ s g. standing (some-done (s .1)) (straight g refl))
 past (statement-for-in {word = word} {opener = opener} {sign = sign} {inside = inside} {rest = rest} target object inner) =
     λ must setting f around.
     let groups = grouped (statementDue true setting) toFor (opener .mark) (affect (startStatement forWord) (word .mark) f) ∷ around in
-    let t = past target byStart loneTarget empty groups in
-    let p : Past (live (statementDue must setting) f around) (token forWord word ∷ token openParen opener ∷ inside) (sensesOf target)
-    (operandDue byObject someTarget) groups rest =
-    led-by (part-is-taken senses-see start-part empty groups inside (widened (target-begins target)))
-    (and-on t (record { f = affect endValue (sign .mark) (t .f); passes = refl })) in
-    and-then p (object-past (past object byObject someTarget (p .f) groups refl tt tt) (λ f. past inner true setting f around))
-past (statement-for-var-in {word = word} {opener = opener} {declared = var} {sign = sign} {inside = inside} {rest = rest} variable object inner) =
+    and-then
+    (led-by (part-is-taken senses-see start-part empty groups inside (widened (target-begins target)))
+    (and-on (past target byStart loneTarget empty groups) λ u g.
+    straight {after = rest} {control = operandDue byObject someTarget} {around = groups} (affect endValue (sign .mark) g) refl)) λ u g.
+    object-past (past object byObject someTarget g groups refl tt tt) (λ f. past inner true setting f around)
+past (statement-for-var-in {word = word} {opener = opener} {declared = var} {sign = sign} {rest = rest} variable object inner) =
     λ must setting f around.
     let groups = grouped (statementDue true setting) toFor (opener .mark) (affect (startStatement forWord) (word .mark) f) ∷ around in
-    let v = past variable (inHead true) (affect (startStatement varWord) (var .mark) empty) groups refl in
-    let p : Past (live (statementDue must setting) f around) (token forWord word ∷ token openParen opener ∷ token varWord var ∷ inside) (sensesOf variable)
-    (operandDue byObject someTarget) groups rest = led-by refl (and-on (v .2) (only-variable (v .2 .f) groups sign rest (v .1))) in
-    and-then p (object-past (past object byObject someTarget (p .f) groups refl tt tt) (λ f. past inner true setting f around))
-past (statement-var {word = word} {end = end} {before = before} {middle = middle} {after = after} variables last) =
+    and-then
+    (led-by refl
+    (and-on (past variable (inHead true) (affect (startStatement varWord) (var .mark) empty) groups refl) λ s g. only-variable g groups sign rest (s .1))) λ u g.
+    object-past (past object byObject someTarget g groups refl tt tt) (λ f. past inner true setting f around)
+past (statement-var {word = word} {end = end} {after = after} variables last) =
     λ must setting f around.
-    let v : Past (live (statementDue must setting) f around) (token varWord word ∷ before) (sensesOf variables) (variableDue (inStatement setting)) around middle =
-    led-by refl (past variables (inStatement setting) (affect (startStatement varWord) (word .mark) f) around refl .1) in
-    let l = past last (inStatement setting) (v .f) around refl in
-    and-then v (and-on (l .2) (variables-end (l .2 .f) around end after (l .1)))
-past no-variables = λ place f around allowed. (true, record { f = f; passes = refl })
-past (add-variable {sign = sign} {before = before} {after = after} variables last) =
+    and-then (led-by refl (past variables (inStatement setting) (affect (startStatement varWord) (word .mark) f) around refl)) λ one g.
+    and-on (past last (inStatement setting) g around refl) λ s h.
+    variables-end h around end after (s .1)
+past no-variables = λ place f around allowed. record { which = true; f = f; passes = refl }
+past (add-variable {sign = sign} {after = after} variables last) =
     λ place f around allowed.
-    let v = past variables place f around allowed in
-    let l = past last (betweenVariables place (v .0)) (v .1 .f) around (allowed ∙ sym (between-allows place (v .0))) in (
-      false,
-      subst (λ (z : Variables). Past (live (variableDue (betweenVariables place true)) f around) before (sensesOf variables ++ sensesOf last) (variableDue z) around after)
-          (later-between place (v .0)) (and-then (v .1) (and-on (l .2) (next-variable (l .2 .f) around sign after (l .1)))),
-    )
-past variable-bare = λ place f around allowed. (variableNamed place, bare-done, record { f = _; passes = refl })
+    and-then (past variables place f around allowed) λ one g.
+    and-on (past last (betweenVariables place one) g around (allowed ∙ sym (between-allows place one))) λ s h.
+    another-variable place one h around sign after (s .1)
+past variable-bare = λ place f around allowed. standing bare-done (straight _ refl)
 past (variable-initialised value) =
-    λ place f around allowed. let v = past value (byVariable place) someTarget _ around allowed tt in (v .0, value-done (v .1), led-by refl (v .2))
-past statement-empty = λ must setting f around. record { f = _; passes = refl }
-past (statement-bare-jump continue-word) = λ must setting f around. record { f = _; passes = refl }
-past (statement-bare-jump break-word) = λ must setting f around. record { f = _; passes = refl }
+    λ place f around allowed.
+    led-by refl (and-on (past value (byVariable place) someTarget _ around allowed tt) λ s g. standing (value-done (s .1)) (straight g refl))
+past statement-empty = λ must setting f around. straight _ refl
+past (statement-bare-jump continue-word) = λ must setting f around. straight _ refl
+past (statement-bare-jump break-word) = λ must setting f around. straight _ refl
 past (statement-jump {word = word} {label = label} {end = end} {after = after} continue-word same) =
     λ must setting f around.
-    record { f = _; passes = label-is-taken senses-see setting (affect (startStatement continueWord) (word .mark) f) around label (token semicolon end ∷ after) same }
+    straight _ (label-is-taken senses-see setting (affect (startStatement continueWord) (word .mark) f) around label (token semicolon end ∷ after) same)
 past (statement-jump {word = word} {label = label} {end = end} {after = after} break-word same) =
     λ must setting f around.
-    record { f = _; passes = label-is-taken senses-see setting (affect (startStatement breakWord) (word .mark) f) around label (token semicolon end ∷ after) same }
-past (statement-switch {word = word} {openHead = openHead} {opener = opener} {inside = inside} {clauses = rest} subject clauses) =
+    straight _ (label-is-taken senses-see setting (affect (startStatement breakWord) (word .mark) f) around label (token semicolon end ∷ after) same)
+past (statement-switch {opener = opener} subject clauses) =
     λ must setting f around.
-    let s : Past (live (statementDue must setting) f around) (token switchWord word ∷ token openParen openHead ∷ inside) (sensesOf subject)
-    (switchPast setting) around (token openBrace opener ∷ rest) =
-    and-on (led-by refl (behind-unary tt (past subject byParen someTarget empty _ refl tt tt))) (record { f = _; passes = refl }) in
-    let c = past clauses empty (grouped (behindStatement setting) toStatement (opener .mark) (s .f) ∷ around) refl in
-    and-then {second = blockAt (opener .first) ∷ sensesOf clauses} s (record {
-      f = close toStatement (opener .mark) (valueOf doneValue (c .f)) (s .f);
-      passes = ap (λ (ss : List Sense). blockAt (opener .first) ∷ ss) (c .passes);
-    })
-past no-clauses = λ f around left. record { f = f; passes = refl }
-past (add-case {seen = seen} {word = word} {sign = sign} {value = value} {inside = inside} {after = after} clauses test statements) =
+    and-then (led-by refl (parens-past (past subject) (switchPast setting) _ _ _ around)) λ u g.
+    sensed refl (and-on (past clauses empty (grouped (behindStatement setting) toStatement (opener .mark) g ∷ around) refl) λ u h. straight _ refl)
+past no-clauses = λ f around left. straight f refl
+past (add-case {seen = seen} {sign = sign} {after = after} clauses test statements) =
     λ f around left.
-    let c = past clauses f around refl in
-    let t : Past (live (clauseDue seen) (c .f) around) (token caseWord word ∷ value) (sensesOf test) (postfixDone (byCase seen)) around
-    (token colon sign ∷ inside) = led-by refl (behind-unary tt (past test (byCase seen) someTarget _ around refl tt tt)) in
-    let g = affect endHead (sign .mark) (t .f) in
-    let s = past statements inClause empty (nested (clauseDue seen) toStatement (sign .mark) g ∷ around) refl (λ same. cc) in
-    and-then c (and-then t (led-by refl (and-on s (nest-left doneValue toStatement (sign .mark) (s .f) g around after refl left))))
+    and-then (past clauses f around refl) λ u g.
+    and-then (led-by refl (behind-unary tt (past test (byCase seen) someTarget _ around refl tt tt))) λ u h.
+    let ended = affect endHead (sign .mark) h in
+    led-by refl
+    (and-on (past statements inClause empty (nested (clauseDue seen) toStatement (sign .mark) ended ∷ around) refl (λ same. cc)) λ u k.
+    nest-left doneValue toStatement (sign .mark) k ended around after refl left)
 past (add-default {word = word} {sign = sign} {after = after} clauses statements) =
     λ f around left.
-    let c = past clauses f around refl in
-    let g = affect endHead (sign .mark) (affect (startStatement defaultWord) (word .mark) (c .f)) in
-    let s = past statements inClause empty (nested (clauseDue true) toStatement (sign .mark) g ∷ around) refl (λ same. cc) in
-    and-then c (led-by refl (and-on s (nest-left doneValue toStatement (sign .mark) (s .f) g around after refl left)))
+    and-then (past clauses f around refl) λ u g.
+    let ended = affect endHead (sign .mark) (affect (startStatement defaultWord) (word .mark) g) in
+    led-by refl
+    (and-on (past statements inClause empty (nested (clauseDue true) toStatement (sign .mark) ended ∷ around) refl (λ same. cc)) λ u k.
+    nest-left doneValue toStatement (sign .mark) k ended around after refl left)
 past (statement-throw {before = before} same value) =
     λ must setting f around.
     and-on
     (led-by (value-is-thrown senses-see setting _ around before (expression-begins value tt) same)
-    (behind-unary tt (past value (byReturn setting) someTarget _ around refl tt tt)))
-    (record { f = _; passes = refl })
-past (statement-try {word = word} {before = before} {middle = middle} {after = after} alone inner handler) =
+    (behind-unary tt (past value (byReturn setting) someTarget _ around refl tt tt))) λ u g.
+    straight _ refl
+past (statement-try {word = word} {after = after} alone inner handler) =
     λ must setting f around.
     let groups = nested (behindStatement setting) toTry (word .mark) f ∷ around in
-    let i : Past (live (statementDue must setting) f around) (token tryWord word ∷ before) (sensesOf inner) tryDone groups middle =
-    led-by refl (past inner tryFirst tryDone empty groups (λ newline. refl)) in
-    let h = past handler (i .f) groups in
-    and-then i (and-on h (nest-left doneValue toTry (word .mark) (h .f) f around after (unasked setting) (catch-left after alone)))
-past (statement-try-finally {word = word} {before = before} {middle = middle} {after = after} inner last) =
+    and-then (led-by refl (past inner tryFirst tryDone empty groups (λ newline. refl))) λ u g.
+    and-on (past handler g groups) λ u h.
+    nest-left doneValue toTry (word .mark) h f around after (unasked setting) (catch-left after alone)
+past (statement-try-finally {word = word} {after = after} inner last) =
     λ must setting f around.
     let groups = nested (behindStatement setting) toTry (word .mark) f ∷ around in
-    let i : Past (live (statementDue must setting) f around) (token tryWord word ∷ before) (sensesOf inner) tryDone groups middle =
-    led-by refl (past inner tryFirst tryDone empty groups (λ newline. refl)) in
-    let l = past last tryDone (i .f) groups (λ newline. refl) in
-    and-then i (and-on l (nest-left doneValue toTry (word .mark) (l .f) f around after (unasked setting) (finally-left after)))
-past (statement-try-all {word = word} {before = before} {middle = middle} {after = after} inner handler last) =
+    and-then (led-by refl (past inner tryFirst tryDone empty groups (λ newline. refl))) λ u g.
+    and-on (past last tryDone g groups (λ newline. refl)) λ u h.
+    nest-left doneValue toTry (word .mark) h f around after (unasked setting) (finally-left after)
+past (statement-try-all {word = word} {after = after} inner handler last) =
     λ must setting f around.
     let groups = nested (behindStatement setting) toTry (word .mark) f ∷ around in
-    let i : Past (live (statementDue must setting) f around) (token tryWord word ∷ before) (sensesOf inner) tryDone groups middle =
-    led-by refl (past inner tryFirst tryDone empty groups (λ newline. refl)) in
-    let h = past handler (i .f) groups in
-    let l = past last catchDone (h .f) groups (λ newline. refl) in
-    and-then i (and-then h (and-on l (nest-left doneValue toTry (word .mark) (l .f) f around after (unasked setting) (finally-left after))))
+    and-then (led-by refl (past inner tryFirst tryDone empty groups (λ newline. refl))) λ u g.
+    and-then (past handler g groups) λ u h.
+    and-on (past last catchDone h groups (λ newline. refl)) λ u k.
+    nest-left doneValue toTry (word .mark) k f around after (unasked setting) (finally-left after)
 past (catch-all {word = word} inner) =
     λ f around. led-by refl (past inner catchPast catchDone (affect (startStatement catchWord) (word .mark) f) around (λ newline. refl))
 past (finally-all {word = word} {inside = inside} inner) =
     λ control f around starts.
-    let w = plain-past {control = control} finallyWord word inside f around (starts (word .newline)) tt in
-    and-then w (past inner finallyFirst tryEnded (w .f) around (λ newline. refl))
-past statement-debugger = λ must setting f around. record { f = _; passes = refl }
-past statement-bare-return = λ must setting f around. record { f = _; passes = refl }
+    and-then (plain-past {control = control} finallyWord word inside f around (starts (word .newline)) tt) λ u g.
+    past inner finallyFirst tryEnded g around (λ newline. refl)
+past statement-debugger = λ must setting f around. straight _ refl
+past statement-bare-return = λ must setting f around. straight _ refl
 past (statement-full-return {before = before} same value) =
     λ must setting f around.
     and-on
     (led-by (value-is-returned senses-see setting _ around before (expression-begins value tt) same)
-    (behind-unary tt (past value (byReturn setting) someTarget _ around refl tt tt)))
-    (record { f = _; passes = refl })
+    (behind-unary tt (past value (byReturn setting) someTarget _ around refl tt tt))) λ u g.
+    straight _ refl
 past (statement-label inner) = λ must setting f around. led-by refl (past inner true setting _ around)
-past no-statements = λ setting f around another level. record { f = f; passes = refl }
+past no-statements = λ setting f around another level. straight f refl
 past (add-statement {before = before} {after = after} statements last) =
     λ setting f around another level.
-    let p = past statements setting f around another level in
     subst (λ (z : Control). Past (live (statementDue false setting) f around) before (sensesOf statements ++ sensesOf last) z around after) another
-    (and-then p (past last false setting (p .f) around))
+    (and-then (past statements setting f around another level) λ u g. past last false setting g around)
 past (add-declaration {word = word} statements function) =
     λ setting f around another level.
     rw (level refl)
-    (let p = past statements (among body) f around refl (λ same. refl) in
-    and-then p (led-by refl (past function declared (affect holdWord (word .mark) (p .f)) around)))
-past no-items = λ f around. (true, record { f = f; passes = refl })
+    (and-then (past statements (among body) f around refl (λ same. refl)) λ u g. led-by refl (past function declared (affect holdWord (word .mark) g) around))
+past no-items = λ f around. record { which = true; f = f; passes = refl }
 past (add-item {items = items} values starts last) =
     λ f around.
-    let v = past values f around in
-    let l = behind-unary tt (past last (byItem items) someTarget (v .1 .f) around refl tt) in
-    let p = and-then (v .1) (led-by (item-is-taken senses-see items (v .0) (v .1 .f) around starts (assign-begins last tt)) l) in
-    (false, and-on p (record { f = _; passes = refl }))
+    and-then (past values f around) λ one g.
+    and-on
+    (led-by (item-is-taken senses-see items one g around starts (assign-begins last tt))
+    (behind-unary tt (past last (byItem items) someTarget g around refl tt))) λ u h.
+    record { which = false; f = _; passes = refl }
 past (add-hole {sign = sign} {after = after} values) =
-    λ f around. let v = past values f around in (true, and-on (v .1) (hole-past (v .0) (v .1 .f) around sign after))
-past list-empty = λ f around next. (itemDue callArguments, no-argument, record { f = f; passes = refl })
-past (list-items {items = items} allowed values) =
-    λ f around next. let v = past values f around in (betweenItems items (v .0), behind-comma (v .0) allowed, v .1)
+    λ f around. and-on (past values f around) λ one g. hole-past one g around sign after
+past list-empty = λ f around next. standing no-argument (straight f refl)
+past (list-items allowed values) =
+    λ f around next. and-on (past values f around) λ one g. standing (behind-comma one allowed) (straight g refl)
 past (list-last {items = items} values starts last) =
     λ f around next.
-    let v = past values f around in
-    let l = past last (byItem items) someTarget (v .1 .f) around refl tt in (
-      l .0,
-      behind-item (l .1),
-      and-then (v .1) (led-by (item-is-taken senses-see items (v .0) (v .1 .f) around starts (assign-begins last next)) (l .2)),
-    )
+    and-then (past values f around) λ one g.
+    led-by (item-is-taken senses-see items one g around starts (assign-begins last next))
+    (and-on (past last (byItem items) someTarget g around refl tt) λ s h. standing (behind-item (s .1)) (straight h refl))
 
 -- so it does along a program
 pub senses-taken : {all : List Token} {parts : Syntax} (program : Program all parts) → sensesFrom start all ≡ sensesOf program

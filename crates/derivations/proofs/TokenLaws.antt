@@ -34,7 +34,7 @@ use Rattle.derivations.specs.Tokens.{
 use Rattle.machine.specs.Syntax.{Syntax}
 use Rattle.grammar.specs.Grammar.{Program}
 use Rattle.machine.specs.Machinery.Machine.{endOfText}
-use Rattle.derivations.proofs.Classes.{fails}
+use Rattle.agreement.proofs.TreeClasses.{fails}
 use Rattle.grammar.proofs.Counts.{isClosing, countTreeTokens}
 use Rattle.grammar.proofs.Counting.{Counting, counting-none, counting-closer, counting-mark}
 use Rattle.grammar.proofs.OwnMarks.{OwnMarks, own-marks}

@@ -13,7 +13,7 @@ use Rattle.rule.specs.Levels.{isExpression}
 use Rattle.rule.specs.Machinery.Summary.{Summary, nothing, operand, afterOperator, braceBy, slashBy, nameBy, add}
 use Rattle.vocabulary.specs.Vocabulary.{Row, words, tokenClass}
 use Rattle.rule.proofs.Finite.{bothBools, at-bool, allSummaries, at-summary}
-use Rattle.derivations.specs.Tokens.{pattern, divide, divideAssign, question, colon, semicolon, wordName}
+use Rattle.machine.specs.Tokens.{pattern, divide, divideAssign, question, colon, semicolon, wordName}
 use Rattle.machine.specs.Scopes.{body, block, callArguments, arrayElements, objectProperties}
 use Rattle.machine.specs.Machinery.Machine.{
   ifNest,
@@ -43,6 +43,7 @@ use Rattle.machine.specs.Machinery.Machine.{
   byBracket,
   byColon,
   byItem,
+  Role,
   declared,
   operandIn,
   Control,
@@ -112,8 +113,8 @@ use Rattle.machine.specs.Machinery.Machine.{
   asks,
 }
 use Rattle.text.proofs.Members.{Has, here, there, allIn, at, isIn, found}
-use Rattle.derivations.proofs.Classes.{isLeaf, treeClass, each-leaf, isUpdate, settledClass, opensGroup, openedKind, closesGroup, closesKind, fails}
-use Rattle.derivations.proofs.Related.{kinds, isLast, related, on-kind, settled, implies, implied, takesOver}
+use Rattle.agreement.proofs.TreeClasses.{isLeaf, treeClass, each-leaf, isUpdate, settledClass, opensGroup, openedKind, closesGroup, closesKind, fails}
+use Rattle.agreement.proofs.Related.{kinds, isLast, related, on-kind, settled, implies, implied, takesOver}
 
 -- the classes of the reserved words that are taken as words
 abbrev withClass : ℕ → List ℕ → List ℕ
@@ -426,61 +427,60 @@ each-ending : (control : Ending → Target → Control) → T (allIn (λ ending.
 each-ending control t ending target =
     at-target (λ target. test (control ending target)) (at (λ ending. allTargets λ target. test (control ending target)) (an-ending ending) t) target
 
+each-role : (control : Role → Control) → T (test (control declared))
+    → T (allIn (λ ending. allTargets λ target. test (control (operandIn ending target))) endings) → (role : Role) → T (test (control role))
+each-role control d t declared = d
+each-role control d t (operandIn ending target) = each-ending (λ ending target. control (operandIn ending target)) t ending target
+
+-- by `elim`: a clause is read twice, and what it computes is computed twice
 passed : (control : Control) → T (test control)
 unfolding test passes related allows opensRight takenRight isLeaf treeClass settledClass groupClass takesOver
-passed (statementDue true setting) = each-setting (statementDue true) tt setting
-passed (statementDue false setting) = each-setting (statementDue false) tt setting
-passed (statementDone ifNest) = tt
-passed (statementDone elseNest) = tt
-passed (statementDone doNest) = tt
-passed (nameFirst setting) = each-setting nameFirst tt setting
-passed (returnFirst setting) = each-setting returnFirst tt setting
-passed (throwFirst setting) = each-setting throwFirst tt setting
-passed (jumpFirst setting) = each-setting jumpFirst tt setting
-passed (headFirst setting) = each-setting headFirst tt setting
-passed (variableDue place) = each-variables variableDue tt place
-passed (variableNamed place) = each-variables variableNamed tt place
-passed (forFirst setting) = each-setting forFirst tt setting
-passed startDue = tt
-passed testDue = tt
-passed stepDue = tt
-passed (switchFirst setting) = each-setting switchFirst tt setting
-passed (switchPast setting) = each-setting switchPast tt setting
-passed (clauseDue true) = tt
-passed (clauseDue false) = tt
-passed defaultFirst = tt
-passed tryFirst = tt
-passed tryDone = tt
-passed catchFirst = tt
-passed catchDue = tt
-passed catchNamed = tt
-passed catchPast = tt
-passed catchDone = tt
-passed finallyFirst = tt
-passed tryEnded = tt
-passed (bodyDone setting) = each-setting bodyDone tt setting
-passed (testFirst setting) = each-setting testFirst tt setting
-passed (semicolonDue setting) = each-setting semicolonDue tt setting
-passed ifFirst = tt
-passed (operandDue ending target) = each-ending operandDue tt ending target
-passed (memberDue ending target) = each-ending memberDue tt ending target
-passed (operandDone ending target) = each-ending operandDone tt ending target
-passed (postfixDone ending) = each-ending (λ ending target. postfixDone ending) tt ending someTarget
-passed (dotLast ending target) = each-ending dotLast tt ending target
-passed (functionFirst declared) = tt
-passed (functionFirst (operandIn ending target)) = each-ending (λ ending target. functionFirst (operandIn ending target)) tt ending target
-passed (functionNamed declared) = tt
-passed (functionNamed (operandIn ending target)) = each-ending (λ ending target. functionNamed (operandIn ending target)) tt ending target
-passed (parameterPast declared) = tt
-passed (parameterPast (operandIn ending target)) = each-ending (λ ending target. parameterPast (operandIn ending target)) tt ending target
-passed (itemDue callArguments) = tt
-passed (itemDue arrayElements) = tt
-passed (itemDue objectProperties) = tt
-passed propertyNamed = tt
-passed (parameterDue true) = tt
-passed (parameterDue false) = tt
-passed parameterNamed = tt
-passed finished = tt
+passed control =
+    elim control [
+      | statementDue must setting ↦ elim must [ true ↦ each-setting (statementDue true) tt setting | false ↦ each-setting (statementDue false) tt setting ]
+      | statementDone nest ↦ elim nest [ ifNest ↦ tt | elseNest ↦ tt | doNest ↦ tt ]
+      | nameFirst setting ↦ each-setting nameFirst tt setting
+      | returnFirst setting ↦ each-setting returnFirst tt setting
+      | throwFirst setting ↦ each-setting throwFirst tt setting
+      | jumpFirst setting ↦ each-setting jumpFirst tt setting
+      | headFirst setting ↦ each-setting headFirst tt setting
+      | variableDue place ↦ each-variables variableDue tt place
+      | variableNamed place ↦ each-variables variableNamed tt place
+      | forFirst setting ↦ each-setting forFirst tt setting
+      | startDue ↦ tt
+      | testDue ↦ tt
+      | stepDue ↦ tt
+      | switchFirst setting ↦ each-setting switchFirst tt setting
+      | switchPast setting ↦ each-setting switchPast tt setting
+      | clauseDue seen ↦ elim seen [ true ↦ tt | false ↦ tt ]
+      | defaultFirst ↦ tt
+      | tryFirst ↦ tt
+      | tryDone ↦ tt
+      | catchFirst ↦ tt
+      | catchDue ↦ tt
+      | catchNamed ↦ tt
+      | catchPast ↦ tt
+      | catchDone ↦ tt
+      | finallyFirst ↦ tt
+      | tryEnded ↦ tt
+      | bodyDone setting ↦ each-setting bodyDone tt setting
+      | testFirst setting ↦ each-setting testFirst tt setting
+      | semicolonDue setting ↦ each-setting semicolonDue tt setting
+      | ifFirst ↦ tt
+      | operandDue ending target ↦ each-ending operandDue tt ending target
+      | memberDue ending target ↦ each-ending memberDue tt ending target
+      | operandDone ending target ↦ each-ending operandDone tt ending target
+      | postfixDone ending ↦ at (λ ending. test (postfixDone ending)) (an-ending ending) tt
+      | dotLast ending target ↦ each-ending dotLast tt ending target
+      | functionFirst role ↦ each-role functionFirst tt tt role
+      | functionNamed role ↦ each-role functionNamed tt tt role
+      | parameterPast role ↦ each-role parameterPast tt tt role
+      | itemDue items ↦ elim items [ callArguments ↦ tt | arrayElements ↦ tt | objectProperties ↦ tt ]
+      | propertyNamed ↦ tt
+      | parameterDue must ↦ elim must [ true ↦ tt | false ↦ tt ]
+      | parameterNamed ↦ tt
+      | finished ↦ tt
+    ]
 
 -- the entry of a class, if each entry of the row is as asked
 looked : (kind : ℕ) (s : Summary) (newline asked : Bool) (entries : List Entry) (class : ℕ) → T (allIn (allowsEntry kind s newline asked) entries)

@@ -95,7 +95,7 @@ use Rattle.machine.specs.Machinery.Machine.{
 }
 use Rattle.text.proofs.Members.{allIn, at, isIn, found}
 use Rattle.text.proofs.Range.{and-left, and-right}
-use Rattle.derivations.proofs.Classes.{holds}
+use Rattle.agreement.proofs.TreeClasses.{holds}
 use Rattle.rule.proofs.Finite.{allSummaries, at-summary}
 use borrow.Author.Tests.{eqb-true}
 use lib.Dec.{T, eqb}

@@ -1,0 +1,3 @@
+pub mod TreeClasses
+pub mod Related
+pub mod Agreement
