@@ -1,5 +1,6 @@
 -- Demand 3: what its statements over derivations say (`derivations/proofs/Theorems.antt`). Document 02, U2: "The agreement of reading and derivation then
--- reaches programs with lists.", and U4: "Derivations range over this grammar too": derivations have both (Grammar.antt).
+-- reaches programs with lists.", U4: "Derivations range over this grammar too", and U6:
+-- "The agreement covers these too.": derivations have all of them (Grammar.antt).
 use Prim.Native.Nat.{ℕ, _+_, _≤_, _<_}
 use mathlib.Core.Path.{_≡_}
 use mathlib.Core.Bool.{Bool, true, false, not, cond, _&&_, _||_}

@@ -126,8 +126,10 @@ pub data Parameters : List Token → List Token → Type 0 where
 
 -- What is derived: the statements of a scope, a statement, a block, a `catch`, a `finally`, the clauses of a `switch`, of which one is a `default` or none, variables as far as each
 -- has a `,` behind it, a variable, what may be left out of the head of a `for`, a Function behind its word and its name, if it has one, an Expression, an
--- Assign, a Binary by operators of at least a precedence, each with `in` among its operators or without (12.6: NoIn), a Unary, a Target (ES5.1 11.2: LeftHandSideExpression or, with no calls, NewExpression), a Chain
--- (CallExpression or MemberExpression or, with no calls, MemberExpression), the items of a list as far as each has a `,` behind it, and a whole list
+-- Assign, a Binary by operators of at least a precedence, a Unary, a Target (ES5.1 11.2: LeftHandSideExpression or, with no calls, NewExpression), a Chain
+-- (CallExpression or MemberExpression or, with no calls, MemberExpression), the items of a list as far as each has a `,` behind it, and a whole list. The Boolean
+-- of clauses says that one is a `default`; that of variables to a Binary that `in` is among the operators (12.6: false for NoIn); that of a Target and a Chain
+-- that it may have calls
 pub data Form : Type 0 where
   statementsForm : Scope → Form
   statementForm blockForm catchForm finallyForm functionForm : Form

@@ -180,7 +180,7 @@ pub fn statements(
     )
 }
 
-// An expression, or what else stands inside parentheses, brackets or an object.
+// An expression, or what else stands inside parentheses, brackets, an object or the braces of a `switch`, whose clauses hold statements.
 fn expression(
     text: &[u8],
     trees: &[u32],

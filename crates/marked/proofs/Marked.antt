@@ -1,4 +1,5 @@
--- The readings that document 01 marks (M), those of document 02, U1, six with lists and twelve with operators and numbers hold of the definitions.
+-- The readings that document 01 marks (M), those of document 02, U1, six with lists, twelve with operators and numbers and eighteen with statements hold of
+-- the definitions.
 use lib.Dec.{T}
 use Rattle.text.specs.Bytes.{blank, lineEnd, illegal, letter, digit, nameByte}
 use Rattle.text.specs.Runs

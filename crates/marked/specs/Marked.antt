@@ -1,4 +1,4 @@
--- Document 01, Readings: those marked (M), as one table, with the two of document 02, U1, six with lists (U2), twelve with operators and numbers (U4) and fourteen with statements (U6). Each has its text, and what reading, parsing and
+-- Document 01, Readings: those marked (M), as one table, with the two of document 02, U1, six with lists (U2), twelve with operators and numbers (U4) and eighteen with statements (U6). Each has its text, and what reading, parsing and
 -- respacing give.
 use Prim.Native.Nat.{ℕ}
 use Prim.Native.String.{String}
@@ -215,4 +215,16 @@ readings =
     marked "try{}catch(a){}/b/;" (hasTrees (tree 2 0 3 1 0 ∷ tree 9 3 5 1 0 ∷ tree 2 5 10 1 0 ∷ tree 7 10 13 2 0 ∷ tree 1 11 12 1 0 ∷ tree 9 13 15 1 0 ∷ tree 5 15 18 1 0 ∷ tree 6 18 19 1 0 ∷ []))
     (hasParts (part 16 1 1 ∷ part 16 5 1 ∷ part 92 2 2 ∷ part 91 0 4 ∷ part 4 6 1 ∷ part 13 7 2 ∷ part 20 8 7 ∷ []))
     (writes "try { } catch ( a ) { } /b/ ;\n") ∷
+    marked "for(var a=b in c);" (hasTrees (tree 2 0 3 1 0 ∷ tree 7 3 17 7 0 ∷ tree 2 4 7 1 0 ∷ tree 1 8 9 1 0 ∷ tree 6 9 10 1 0 ∷ tree 1 10 11 1 0 ∷ tree 2 12 14 1 0 ∷ tree 1 15 16 1 0 ∷ tree 6 17 18 1 0 ∷ []))
+    (hasParts (part 1 5 1 ∷ part 75 3 2 ∷ part 74 2 3 ∷ part 1 7 1 ∷ part 76 8 1 ∷ part 81 0 6 ∷ part 20 9 7 ∷ []))
+    (writes "for ( var a = b in c ) ;\n") ∷
+    marked "do;while(a);try{}finally{}" (hasTrees (tree 2 0 2 1 0 ∷ tree 6 2 3 1 0 ∷ tree 2 3 8 1 0 ∷ tree 7 8 11 2 0 ∷ tree 1 9 10 1 0 ∷ tree 6 11 12 1 0 ∷ tree 2 12 15 1 0 ∷ tree 9 15 17 1 0 ∷ tree 2 17 24 1 0 ∷ tree 9 24 26 1 0 ∷ []))
+    (hasParts (part 76 1 1 ∷ part 1 4 1 ∷ part 78 0 3 ∷ part 16 7 1 ∷ part 16 9 1 ∷ part 93 8 2 ∷ part 91 6 4 ∷ part 20 10 8 ∷ []))
+    (writes "do ; while ( a ) ; try { } finally { }\n") ∷
+    marked "with(a)for(;;){break;continue;continue b;debugger;}" (hasTrees (tree 2 0 4 1 0 ∷ tree 7 4 7 2 0 ∷ tree 1 5 6 1 0 ∷ tree 2 7 10 1 0 ∷ tree 7 10 14 3 0 ∷ tree 6 11 12 1 0 ∷ tree 6 12 13 1 0 ∷ tree 9 14 51 10 0 ∷ tree 2 15 20 1 0 ∷ tree 6 20 21 1 0 ∷ tree 2 21 29 1 0 ∷ tree 6 29 30 1 0 ∷ tree 2 30 38 1 0 ∷ tree 1 39 40 1 0 ∷ tree 6 40 41 1 0 ∷ tree 2 41 49 1 0 ∷ tree 6 49 50 1 0 ∷ []))
+    (hasParts (part 1 2 1 ∷ part 84 8 1 ∷ part 82 10 1 ∷ part 83 12 1 ∷ part 94 15 1 ∷ part 16 7 5 ∷ part 80 3 6 ∷ part 86 0 8 ∷ part 20 17 9 ∷ []))
+    (writes "with ( a ) for ( ; ; ) { break ; continue ; continue b ; debugger ; }\n") ∷
+    marked "switch(a){default:break c;}" (hasTrees (tree 2 0 6 1 0 ∷ tree 7 6 9 2 0 ∷ tree 1 7 8 1 0 ∷ tree 9 9 27 6 0 ∷ tree 2 10 17 1 0 ∷ tree 6 17 18 1 0 ∷ tree 2 18 23 1 0 ∷ tree 1 24 25 1 0 ∷ tree 6 25 26 1 0 ∷ []))
+    (hasParts (part 1 2 1 ∷ part 85 6 1 ∷ part 89 4 2 ∷ part 87 0 4 ∷ part 20 9 5 ∷ []))
+    (writes "switch ( a ) { default : break c ; }\n") ∷
     []
