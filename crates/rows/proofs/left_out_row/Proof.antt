@@ -12,7 +12,7 @@ use Rattle.rows.proofs.left_out_row.Statement.{statement}
 use Rattle.rows.proofs.left_out_row.Tie as tie
 use Rattle.rows.proofs.left_out_row.Reads as reads
 use Rattle.rows.proofs.left_out_row.Lts as lts
-use Rattle.rows.proofs.end_statement.Reads as end-statement-reads
+use Rattle.operators.proofs.end_statement.Reads as end-statement-reads
 
 end-statement-requires : tie.Need-end-statement-requires
 end-statement-requires c κs = search needs

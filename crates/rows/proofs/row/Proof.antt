@@ -20,7 +20,7 @@ use Rattle.rows.proofs.row.Reads as reads
 use Rattle.rows.proofs.row.Lts as lts
 use Rattle.rows.proofs.due_row.Reads as due-row-reads
 use Rattle.rows.proofs.jump_row.Reads as jump-row-reads
-use Rattle.rows.proofs.operator_row.Reads as operator-row-reads
+use Rattle.operators.proofs.operator_row.Reads as operator-row-reads
 use Rattle.rows.proofs.semicolon_due.Reads as semicolon-due-reads
 use Rattle.rows.proofs.is_in_form.Reads as is-in-form-reads
 use Rattle.rows.proofs.statement_row.Reads as statement-row-reads

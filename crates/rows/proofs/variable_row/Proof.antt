@@ -7,7 +7,7 @@ use Rattle.machine.specs.Machinery.Machine.{someTarget, behindVariables, byVari
 use mathlib.Core.List.{[]}
 use Rattle.controls.specs.Machinery.Numbers.{variablesBy, controlBy, effectBy}
 use Rattle.controls.specs.Machinery.Steps.{Goes, ended-bare, before-variable, to-initialiser, to-next-variable, to-variables-end, to-object, means-fail}
-use Rattle.rows.proofs.RowLaws.{variable-ending, some-target, not-first, no-in-entry}
+use Rattle.operators.proofs.EndingLaws.{variable-ending, some-target, not-first, no-in-entry}
 use Rattle.rows.proofs.variable_row.Statement.{statement}
 use Rattle.rows.proofs.variable_row.Tie as tie
 

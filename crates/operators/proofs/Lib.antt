@@ -1,0 +1,2 @@
+mod ChainLaws
+pub mod EndingLaws
