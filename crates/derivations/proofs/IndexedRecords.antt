@@ -29,7 +29,7 @@ use Rattle.derivations.proofs.TreeSizes.{opener-counts, closer-closes, 
 abbrev KindOf : ℕ → Element → Type 0
 KindOf kind e = (e .kind ≡ delimiterKind → e .which ≡ parenOpener → kind ≡ parenKind) × (e .kind ≡ delimiterKind → e .which ≡ bracketOpener → kind ≡ bracketKind)
 
-data RecordsOf : List Element → List ℕ → Type 0 where
+pub data RecordsOf : List Element → List ℕ → Type 0 where
   no-records : RecordsOf [] []
   closer-none : {e : Element} {es : List Element} {cells : List ℕ} → isCloser e ≡ true → RecordsOf es cells → RecordsOf (e ∷ es) cells
   a-record : {e : Element} {es : List Element} {cells : List ℕ} (kind end number : ℕ) → isCloser e ≡ false
@@ -111,10 +111,13 @@ record-at (a-record {e = f} {cells = cells} kind end number k own opened r) (b �
     let s : isCloser b ≡ false = let t : f ≡ b = cc in ap isCloser (sym t) ∙ k in
     rw s (past-record kind (f .first) end number (f .newline) cells (countTrees before) e (record-at r before e after (cc) c))
 
+pub records-of : (trees : Trees) → Formed trees → RecordsOf (elementsOf trees) (records trees)
+records-of trees f =
+    subst (λ (es : List Element). RecordsOf es (records trees)) (append-nil (elementsOf trees))
+    (subst (λ (cells : List ℕ). RecordsOf (elementsOf trees ++ []) cells) (append-nil (records trees)) (tree-records trees f no-records))
+
 pub records-indexed : (trees : Trees) → Formed trees → Indexed (elementsOf trees) (records trees)
-records-indexed trees f =
-    record-at (subst (λ (es : List Element). RecordsOf es (records trees)) (append-nil (elementsOf trees))
-    (subst (λ (cells : List ℕ). RecordsOf (elementsOf trees ++ []) cells) (append-nil (records trees)) (tree-records trees f no-records)))
+records-indexed trees f = record-at (records-of trees f)
 
 -- the token of an element is marked by the number of tree records before it
 pub token-at : (n : ℕ) (before : List Element) (e : Element) (after : List Element)

@@ -22,5 +22,6 @@ pub mod AllSenses
 pub mod Answers
 pub mod ShownRecords
 pub mod IndexedRecords
+pub mod UpdateRecords
 pub mod FirstRefused
 pub mod Theorems

@@ -1,7 +1,7 @@
 -- The theorems of derivations.
 use mathlib.Core.Path.{_≡_, sym, ap, subst, _∙_}
 use mathlib.Core.Bool.{_||_}
-use mathlib.Core.List.{List, [], _∷_, _++_, map, append-assoc}
+use mathlib.Core.List.{List, [], _∷_, _++_, List·Memᴰ, map, append-assoc}
 use Prim.Native.Nat.{ℕ, _*_}
 use native.Mathlib.Nat.{zero-add}
 use native.Mathlib.Omega.{arith}
@@ -23,8 +23,9 @@ use Rattle.reading.proofs.Theorems.{count-of-records}
 use Rattle.derivations.specs.Cuts.{CutsInto}
 use Rattle.derivations.specs.Tokens.{Token, assign, varWord, elseWord, doWord, whileWord, forWord, continueWord, breakWord, withWord, switchWord, caseWord, defaultWord, throwWord, tryWord, catchWord, finallyWord, debuggerWord, comma, colon, semicolon, dot, openParen, closeParen, openBrace, closeBrace, openBracket, closeBracket, returnWord, functionWord, ifWord, classOf, tokenOf, tokens}
 use Rattle.machine.specs.Tokens.{inWord}
+use Rattle.machine.specs.Syntax.{Syntax, variableSyntax, forInSyntax}
 use Rattle.grammar.specs.Grammar.{Program, isAmong}
-use Rattle.grammar.specs.Recorded.{isRecorded, partsOf, Makes, Assigns, Relates}
+use Rattle.grammar.specs.Recorded.{isRecorded, part, partsOf, Makes, Assigns, Relates, Variable, ForIn}
 use Rattle.derivations.specs.Derivations.{Derivation, countTrees, BeginsProgram}
 use Rattle.derivations.specs.TreeElements.{elementsOf}
 use Rattle.machine.specs.Machinery.Machine.{frame, start}
@@ -35,17 +36,20 @@ use Rattle.derivations.proofs.ReadCuts.{reading-cuts}
 use Rattle.derivations.proofs.SameChoice.{same-choice}
 use Rattle.grammar.proofs.Counts.{few-parts}
 use Rattle.grammar.proofs.TableLaws.{eachClass}
+use Rattle.grammar.proofs.Unmarked.{variable-signed, for-in-signed}
 use Rattle.grammar.proofs.Recorded.{token-recorded, assign-recorded, in-recorded}
 use Rattle.derivations.specs.Demand3.{answersOf, ReadAs, OneDerivation, FewParts, RuleTakes}
 use Rattle.derivations.proofs.TokenLaws.{elements-counting, element-marks}
 use Rattle.derivations.proofs.CountTrees.{count-tokens, program-distinct}
 use Rattle.derivations.proofs.Answers.{choice-answers, among, cut-patterns, cut-words}
-use Rattle.derivations.specs.Shown.{Shown, Indexed, patternOf, wordOf, sensesOf, placesOf, sensedIn}
+use Rattle.derivations.specs.Senses.{senseOf}
+use Rattle.derivations.specs.Shown.{Shown, Indexed, shownIn, patternOf, wordOf, sensesOf, placesOf, sensedIn}
 use Rattle.derivations.proofs.TakenSenses.{senses-taken}
 use Rattle.derivations.proofs.ReadSenses.{treeSenses}
 use Rattle.derivations.proofs.AllSenses.{places-from}
 use Rattle.derivations.proofs.ShownRecords.{records-senses, records-patterns, records-words}
-use Rattle.derivations.proofs.IndexedRecords.{records-indexed, token-at}
+use Rattle.derivations.proofs.IndexedRecords.{RecordsOf, records-of, records-indexed, token-at}
+use Rattle.derivations.proofs.UpdateRecords.{after-marked, before-marked}
 use Rattle.derivations.proofs.Begins.{same-split}
 
 -- Demand 3: "the prefix rule takes each slash of a program as its derivation does". The reading of a program without limits is
@@ -78,17 +82,23 @@ answers-by-kind text d = choice-answers text (d .cut)
 
 -- Demand 3, of tree records: those of every accepted reading of a text with a derivation, whatever the limits, show its regular expressions,
 -- its words, its objects and, at all its other braces, blocks, which `++` and `--` stand before and after their operands, and which `:` are its
--- conditionals'; and each element but a closer has its record at its index.
+-- conditionals'; each element but a closer has its record at its index, and a part of `++` or `--` its mark at one of the kind that KINDS.md has for it.
 pub records-shown : (text : List ℕ) (limits : Limits) (trees : Trees) → reading text limits ≡ accepted trees → (d : Derivation text) → Shown d (records trees)
 records-shown text limits trees a d =
     let r = program-read text (d .cut) (frame (d .parts) [] [] _, complete anywhere (d .steps)) in
     let same : trees ≡ r .0 = cc (accepted-unlimited text limits trees a) in
     let formed : Formed trees = rw a at (reading-formed text limits) in
+    let elements : elementsOf trees ≡ d .elements = ap elementsOf same ∙ r .2 in
+    let senses : shownIn senseOf (records trees) ≡ sensesOf (d .steps) =
+    records-senses trees formed ∙ ap treeSenses same ∙ r .3 ∙ senses-taken (d .steps) in
+    let each : RecordsOf (d .elements) (records trees) = subst (λ (es : List Element). RecordsOf es (records trees)) elements (records-of trees formed) in
     record {
-      patterns = records-patterns trees formed ∙ ap (among patternOf) (ap elementsOf same ∙ r .2) ∙ cut-patterns (d .cut);
-      words = records-words trees formed ∙ ap (among wordOf) (ap elementsOf same ∙ r .2) ∙ cut-words (d .cut);
-      senses = records-senses trees formed ∙ ap treeSenses same ∙ r .3 ∙ senses-taken (d .steps);
-      indices = subst (λ (es : List Element). Indexed es (records trees)) (ap elementsOf same ∙ r .2) (records-indexed trees formed);
+      patterns = records-patterns trees formed ∙ ap (among patternOf) elements ∙ cut-patterns (d .cut);
+      words = records-words trees formed ∙ ap (among wordOf) elements ∙ cut-words (d .cut);
+      senses = senses;
+      indices = subst (λ (es : List Element). Indexed es (records trees)) elements (records-indexed trees formed);
+      afters = after-marked (d .elements) (d .steps) (d .cut) each senses;
+      befores = before-marked (d .elements) (d .steps) (d .cut) each senses;
     }
 
 -- Of any accepted reading: each element but a closer has its record at its index, of its own kind unless it opens a group or the rule settles a sign's.
@@ -151,7 +161,7 @@ operators-recorded text d before e after split h =
     token-recorded (elements-counting (d .elements)) (d .steps) (tokens before) (classOf e)
     (record { newline = e .newline; mark = countTrees before; first = e .first }) (t .0) (ap tokens split ∙ t .1) h
 
--- a `=` does so too, but where a variable's name stands before it
+-- a `=` does so too, but where a variable's name stands before it: there it makes none
 pub assignments-recorded : (text : List ℕ) (d : Derivation text) (before : List Element) (e : Element) (after : List Element)
     → d .elements ≡ before ++ (e ∷ after) → classOf e ≡ assign → Assigns (countTrees before) (partsOf (d .parts))
 assignments-recorded text d before e after split h =
@@ -159,13 +169,22 @@ assignments-recorded text d before e after split h =
     assign-recorded (elements-counting (d .elements)) (d .steps) (tokens before)
     (record { newline = e .newline; mark = countTrees before; first = e .first }) (t .0) (rw h at (ap tokens split ∙ t .1))
 
--- and so does `in`, but where it is that of a `for`, between its target or variable and its object
+-- and so does `in`, but where it is that of a `for`, between its target or variable and its object: that makes none
 pub relations-recorded : (text : List ℕ) (d : Derivation text) (before : List Element) (e : Element) (after : List Element)
     → d .elements ≡ before ++ (e ∷ after) → classOf e ≡ inWord → Relates (countTrees before) (partsOf (d .parts))
 relations-recorded text d before e after split h =
     let t = token-marked before e after in
     in-recorded (elements-counting (d .elements)) (d .steps) (tokens before)
     (record { newline = e .newline; mark = countTrees before; first = e .first }) (t .0) (rw h at (ap tokens split ∙ t .1))
+
+-- The other way round: each record of a variable that is not bare has its `=` among the tokens, and each of a `for` with an `in` that `in`; they make no record.
+pub variables-signed : (text : List ℕ) (d : Derivation text) (called : ℕ) (inside : Syntax)
+    → List·Memᴰ (part variableSyntax called inside) (partsOf (d .parts)) → Variable (tokens (d .elements)) (partsOf (d .parts)) called inside
+variables-signed text d = variable-signed (elements-counting (d .elements)) (d .steps)
+
+pub for-ins-signed : (text : List ℕ) (d : Derivation text) (word : ℕ) (inside : Syntax)
+    → List·Memᴰ (part forInSyntax word inside) (partsOf (d .parts)) → ForIn (tokens (d .elements)) (partsOf (d .parts)) word inside
+for-ins-signed text d = for-in-signed (elements-counting (d .elements)) (d .steps)
 
 -- Of the words and signs these are all but those that no program takes, those of statements and functions, delimiters, `;`, `.`, `:`, `,`, `=` and `in`.
 abbrev otherClasses : List ℕ

@@ -1,7 +1,7 @@
 -- The tokens of elements: which of them are closers, and that they count their tree records.
 use mathlib.Core.Path.{_≡_, refl, sym, subst, _∙_}
 use mathlib.Core.Bool.{Bool, true, false, false≢true, not, cond, _&&_, _||_}
-use mathlib.Core.List.{List, [], _∷_}
+use mathlib.Core.List.{List, [], _∷_, List·Memᴰ, List·Memᴰ·head, List·Memᴰ·tail}
 use Prim.Native.Nat.{ℕ, _+_}
 use native.Mathlib.Omega.{arith}
 use borrow.Author.Tests.{eqb-true, eqb-false}
@@ -116,25 +116,25 @@ passed : (b : Bool) (n k total : ℕ) → n + (cond b 0 1 + k) ≡ total → con
 passed true n k total e = omega arith
 passed false n k total e = omega arith
 
-counted-token : (b : Bool) (total class : ℕ) (spot : Spot) (rest : List Token) → isClosing class ≡ b
-    → Counting total (cond b (spot .mark) (spot .mark + 1)) rest → Counting total (spot .mark) (token class spot ∷ rest)
-counted-token true total class spot rest is counting = counting-closer (subst (λ (b : Bool). T b) (sym is) tt) counting
-counted-token false total class spot rest is counting = counting-mark (subst (λ (b : Bool). T (not b)) (sym is) tt) refl counting
+counted-token : {all : List Token} (b : Bool) (total class : ℕ) (spot : Spot) (rest : List Token) → isClosing class ≡ b → List·Memᴰ (token class spot) all
+    → Counting all total (cond b (spot .mark) (spot .mark + 1)) rest → Counting all total (spot .mark) (token class spot ∷ rest)
+counted-token true total class spot rest is among counting = counting-closer (subst (λ (b : Bool). T b) (sym is) tt) counting
+counted-token false total class spot rest is among counting = counting-mark (subst (λ (b : Bool). T (not b)) (sym is) tt) among refl counting
 
 -- "Its tree records, for the marks, are its elements other than closers": tokens count them
-tokens-counting : (total before : ℕ) (es : List Element) → before + countTreeTokens (tokensFrom before es) ≡ total
-    → Counting total before (tokensFrom before es)
+tokens-counting : {all : List Token} (total before : ℕ) (es : List Element) → before + countTreeTokens (tokensFrom before es) ≡ total
+    → ((t : Token) → List·Memᴰ t (tokensFrom before es) → List·Memᴰ t all) → Counting all total before (tokensFrom before es)
 unfolding tokensFrom
-tokens-counting total before [] e = let end : before ≡ total = omega arith in rw end counting-none
-tokens-counting total before (x ∷ es) e =
+tokens-counting total before [] e among = let end : before ≡ total = omega arith in rw end counting-none
+tokens-counting total before (x ∷ es) e among =
     counted-token (isCloser x) total (classOf x) (record { newline = x .newline; mark = before; first = x .first })
-    (tokensFrom (cond (isCloser x) before (before + 1)) es) (closing-class x)
+    (tokensFrom (cond (isCloser x) before (before + 1)) es) (closing-class x) (among _ (List·Memᴰ·head refl))
     (tokens-counting total (cond (isCloser x) before (before + 1)) es
     (passed (isCloser x) before (countTreeTokens (tokensFrom (cond (isCloser x) before (before + 1)) es)) total
-    (rw (closing-class x) at e)))
+    (rw (closing-class x) at e)) λ t member. among t (List·Memᴰ·tail member))
 
-pub elements-counting : (es : List Element) → Counting (countTreeTokens (tokens es)) 0 (tokens es)
-elements-counting es = tokens-counting (countTreeTokens (tokens es)) 0 es (omega arith)
+pub elements-counting : (es : List Element) → Counting (tokens es) (countTreeTokens (tokens es)) 0 (tokens es)
+elements-counting es = tokens-counting (countTreeTokens (tokens es)) 0 es (omega arith) λ t member. member
 
 -- so each part of a program of elements has a mark of its own
 pub element-marks : (es : List Element) {parts : Syntax} → Program (tokens es) parts

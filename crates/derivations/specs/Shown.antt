@@ -2,16 +2,16 @@
 use Prim.Native.Nat.{ℕ, _+_, _*_, _≤_}
 use mathlib.Core.Path.{_≡_}
 use mathlib.Core.Bool.{Bool, false, cond, _&&_, _||_}
-use mathlib.Core.List.{List, [], _∷_, _++_}
-use lib.Dec.{eqb}
+use mathlib.Core.List.{List, [], _∷_, _++_, List·Memᴰ}
+use lib.Dec.{T, eqb}
 use lib.ListN.{length, getD}
 use Rattle.elements.specs.Elements.{wordKind, patternKind, signKind, delimiterKind, parenOpener, braceOpener, bracketOpener}
 use Rattle.elements.specs.declared.Element.{Element}
-use Rattle.rule.specs.Trees.{parenKind, bracketKind}
+use Rattle.rule.specs.Trees.{parenKind, bracketKind, beforeKind, afterKind}
 use Rattle.rule.specs.Rule.{incrementSign, decrementSign}
 use Rattle.tables.specs.Records.{treeWidth}
-use Rattle.derivations.specs.Tokens.{Token}
-use Rattle.machine.specs.Syntax.{Syntax}
+use Rattle.derivations.specs.Tokens.{Token, increment, decrement}
+use Rattle.machine.specs.Syntax.{Syntax, incrementedSyntax, decrementedSyntax}
 use Rattle.derivations.specs.Cuts.{isCloser, Cuts, cut-end, cut-element, cut-slash, cut-word}
 use Rattle.grammar.specs.Grammar.{
   Form,
@@ -86,6 +86,7 @@ use Rattle.grammar.specs.Grammar.{
   list-items,
   list-last,
 }
+use Rattle.grammar.specs.Recorded.{part, partsOf}
 use Rattle.derivations.specs.Derivations.{Derivation, countTrees}
 use Rattle.derivations.specs.TreeElements.{unsettledKind}
 use Rattle.derivations.specs.Senses.{Sense, objectAt, blockAt, beforeAt, afterAt, answerAt, senseOf}
@@ -213,15 +214,23 @@ abbrev pub Indexed : List Element → List ℕ → Type 0
 Indexed es cells =
     (before : List Element) (e : Element) (after : List Element) → es ≡ before ++ (e ∷ after) → isCloser e ≡ false → RecordOf cells (countTrees before) e
 
+-- each part of one of these syntax kinds is marked by a record of this tree kind
+abbrev pub MarkedBy : List ℕ → ℕ → Syntax → List ℕ → Type 0
+MarkedBy kinds tree parts cells =
+    (kind mark : ℕ) (inside : Syntax) → List·Memᴰ (part kind mark inside) (partsOf parts) → T (isAmong kinds kind) → getD cells (treeWidth * mark) 0 ≡ tree
+
 -- Demand 3, of tree records in cells: those of kind 5 stand at exactly the slashes that the derivation takes as regular expressions; those of
 -- kind 2 at exactly the reserved words that it takes as words; those of kind 8 at its objects, and those of kind 9 at all its other braces; those of kind
--- 11 and 12 at the `++` and `--` that stand before and after their operands in it, and those of kind 13 at the `:` of its conditionals; and each element
--- but a closer has its record at its index
+-- 11 and 12 at the `++` and `--` that stand before and after their operands in it, and those of kind 13 at the `:` of its conditionals; each element
+-- but a closer has its record at its index; and a part of `++` or `--` is marked by a record of kind 12 if it is of kind 29 or 30, and by one of kind 11 if
+-- its kind is their class, 34 or 35
 pub record Shown {text : List ℕ} (d : Derivation text) (cells : List ℕ) : Type 0 where
   pub patterns : shownIn patternOf cells ≡ patternsOf (d .cut)
   pub words : shownIn wordOf cells ≡ wordsOf (d .cut)
   pub senses : shownIn senseOf cells ≡ sensesOf (d .steps)
   pub indices : Indexed (d .elements) cells
+  pub afters : MarkedBy (incrementedSyntax ∷ decrementedSyntax ∷ []) afterKind (d .parts) cells
+  pub befores : MarkedBy (increment ∷ decrement ∷ []) beforeKind (d .parts) cells
 
 -- the first bytes of what has a sense, but for answers; and of the elements that are a `{`, `++` or `--`
 unfoldable pub placesOf : List Sense → List ℕ

@@ -1,16 +1,27 @@
 -- Where tokens count their tree records, each part of a program has a mark of its own, and it is that of a token that is no
 -- closer.
 use mathlib.Core.Path.{_≡_, refl, subst}
-use mathlib.Core.List.{List, [], List·Memᴰ}
+use mathlib.Core.Bool.{Bool, true, false, not}
+use mathlib.Core.List.{List, [], _∷_, List·Memᴰ}
 use Prim.Native.Nat.{ℕ, _+_, _≤_, _<_}
 use native.Mathlib.Omega.{arith}
-use Rattle.machine.specs.Tokens.{Token, name, newWord, assign, question, varWord, elseWord, doWord, whileWord, forWord, inWord, switchWord, caseWord, defaultWord, throwWord, tryWord, catchWord, finallyWord, debuggerWord, colon, semicolon, dot, openParen, closeParen, openBracket, closeBracket, openBrace, closeBrace, comma, returnWord, functionWord, ifWord}
-use Rattle.machine.specs.Syntax.{Syntax, nil, node, snoc, marksOf, Distinct}
+use lib.Dec.{T}
+use Rattle.machine.specs.Tokens.{Token, token, name, newWord, assign, question, varWord, elseWord, doWord, whileWord, forWord, inWord, switchWord, caseWord, defaultWord, throwWord, tryWord, catchWord, finallyWord, debuggerWord, colon, semicolon, dot, openParen, closeParen, openBracket, closeBracket, openBrace, closeBrace, comma, returnWord, functionWord, ifWord}
+use Rattle.machine.specs.Syntax.{Syntax, nil, node, snoc, variableSyntax, marksOf, Distinct}
 use Rattle.grammar.specs.Grammar.{
   assignmentOperators,
   binaryOperators,
   prefixOperators,
+  prefixKind,
   postfixOperators,
+  postfixKind,
+  isAmong,
+  HeadWord,
+  while-word,
+  with-word,
+  JumpWord,
+  continue-word,
+  break-word,
   Items,
   ItemStart,
   at-argument,
@@ -23,6 +34,24 @@ use Rattle.grammar.specs.Grammar.{
   no-parameters,
   some-parameters,
   Form,
+  variableForm,
+  statementsForm,
+  statementForm,
+  blockForm,
+  catchForm,
+  finallyForm,
+  functionForm,
+  clausesForm,
+  variablesForm,
+  optionalForm,
+  expressionForm,
+  assignForm,
+  binaryForm,
+  unaryForm,
+  targetForm,
+  chainForm,
+  itemsForm,
+  listForm,
   Derives,
   chain-leaf,
   chain-array,
@@ -93,35 +122,98 @@ use Rattle.grammar.specs.Grammar.{
   add-declaration,
   Program,
 }
-use Rattle.grammar.proofs.TableLaws.{binary-by}
-use Rattle.grammar.proofs.Counts.{leaf-open, operator-open, name-open, head-open, jump-open}
-use Rattle.grammar.proofs.Ranges.{Marks, marks-both, from-lower, to-higher, no-marks, before-parts, between-parts, behind-part, inside-parts, range-size, Within, within, distinct}
+use Rattle.grammar.specs.Recorded.{Initialises, Iterates, behindBare}
+use Rattle.grammar.proofs.TableLaws.{at-class, at-leaf, binary-by}
+use Rattle.grammar.proofs.Counts.{isClosing, leaf-open, operator-open, name-open, head-open, jump-open}
+use Rattle.grammar.proofs.Ranges.{isPlain, plain, bare, initialised, iterated, Fits, Marks, marks-both, from-lower, to-higher, no-marks, before-parts, between-parts, behind-part, inside-parts, Within, within, distinct}
+use Rattle.grammar.proofs.Firsts.{MarkIn, own-first, target-first, expression-first}
 use Rattle.grammar.proofs.Counting.{Counting, counting-none, past-closer, at-mark, MarkOf, mark-of}
 
 -- a part's marks are those from the next mark before it to the next mark behind it
-pub record MarksTo (total low : ℕ) (after : List Token) (value : Syntax) : Type 0 where
+pub record MarksTo (all : List Token) (total low : ℕ) (after : List Token) (value : Syntax) : Type 0 where
   pub high : ℕ
-  pub rest : Counting total high after
-  pub marks : Marks low high value
+  pub rest : Counting all total high after
+  pub marks : Marks all low high value
 
-leaf-marks : {low kind mark : ℕ} → mark ≡ low → Marks low (low + 1) (node kind mark nil nil)
-leaf-marks {low} own = let passed : low < low + 1 = omega arith in before-parts own passed (no-marks (low + 1)) (no-marks (low + 1))
+leaf-marks : {low kind mark : ℕ} {all : List Token} → Fits all kind mark nil nil → mark ≡ low → Marks all low (low + 1) (node kind mark nil nil)
+leaf-marks {low} fits own = let passed : low < low + 1 = omega arith in before-parts fits own passed (no-marks (low + 1)) (no-marks (low + 1))
 
 -- a part with a sign behind it that makes none
-signed : {low middle high : ℕ} {before last : Syntax} → Marks low middle before → Marks middle high last → Marks low (high + 1) (snoc before last)
+signed : {low middle high : ℕ} {before last : Syntax} {all : List Token} → Marks all low middle before → Marks all middle high last → Marks all low (high + 1) (snoc before last)
 signed {high = high} before last = let up : high ≤ high + 1 = omega arith in to-higher up (marks-both before last)
 
+head-plain : {class : ℕ} → HeadWord class → T (isPlain class)
+head-plain while-word = tt
+head-plain with-word = tt
+
+jump-plain : {class bare : ℕ} → JumpWord class bare → T (isPlain class)
+jump-plain continue-word = tt
+jump-plain break-word = tt
+
+bare-plain : {class bare : ℕ} → JumpWord class bare → T (isPlain bare)
+bare-plain continue-word = tt
+bare-plain break-word = tt
+
+-- the `=` between a variable's name and value, and the `in` between the start and the object of a `for`
+pub initialising : {low high called mark : ℕ} {value : Syntax} {all : List Token} → called ≡ low → mark ≡ low + 1 → MarkIn (low + 1 + 1) value
+    → Marks all (low + 1 + 1) high value → Initialises called mark value
+initialising {low} {called = called} {mark = mark} {value = value} own sign first marks =
+    let value-at : low + 1 + 1 ≡ mark + 1 = omega arith in
+    record {
+      beside = omega arith;
+      next = subst (λ (x : ℕ). List·Memᴰ x (marksOf value)) value-at (first .member);
+      behind = λ x member. omega (arith, within marks x member);
+    }
+
+pub iterating : {low high middle end word mark : ℕ} {start object inner : Syntax} {all : List Token} → word ≡ low → MarkIn (low + 1 + 1) start
+    → Marks all (low + 1 + 1) high start → mark ≡ high → MarkIn (high + 1) object → Marks all (high + 1) middle object → Marks all middle end inner
+    → Iterates word mark start object inner
+iterating {low} {high} {word = word} {mark = mark} {start = start} {object = object} own begun before sign first object-marks inner-marks =
+    let start-at : low + 1 + 1 ≡ word + 2 = omega arith in
+    let object-at : high + 1 ≡ mark + 1 = omega arith in
+    record {
+      begins = subst (λ (x : ℕ). List·Memᴰ x (marksOf start)) start-at (begun .member);
+      before = λ x member. omega (arith, within before x member);
+      next = subst (λ (x : ℕ). List·Memᴰ x (marksOf object)) object-at (first .member);
+      behind = λ x member. omega (arith, within (marks-both object-marks inner-marks) x member);
+    }
+
+-- behind a variable stands what may stand behind a bare one; behind other forms, anything
+abbrev endsBare : List Token → Bool
+endsBare [] = false
+endsBare (token class spot ∷ rest) = isAmong behindBare class
+
+abbrev ends : Form → List Token → Bool
+ends (variableForm more) after = endsBare after
+ends (statementsForm scope) after = true
+ends statementForm after = true
+ends blockForm after = true
+ends catchForm after = true
+ends finallyForm after = true
+ends functionForm after = true
+ends (clausesForm more) after = true
+ends (variablesForm more) after = true
+ends (optionalForm more) after = true
+ends (expressionForm more) after = true
+ends (assignForm more) after = true
+ends (binaryForm more least) after = true
+ends unaryForm after = true
+ends (targetForm calls) after = true
+ends (chainForm calls) after = true
+ends (itemsForm items) after = true
+ends (listForm items) after = true
+
 -- tokens are passed, with or without parts that they make: the next mark behind them
-record Skips (total low : ℕ) (after : List Token) : Type 0 where
+record Skips (all : List Token) (total low : ℕ) (after : List Token) : Type 0 where
   high : ℕ
-  rest : Counting total high after
+  rest : Counting all total high after
   up : low ≤ high
 
-module _ {total : ℕ} where
-  skips-none : {low : ℕ} {here : List Token} → Counting total low here → Skips total low here
+module _ {all : List Token} {total : ℕ} where
+  skips-none : {low : ℕ} {here : List Token} → Counting all total low here → Skips all total low here
   skips-none {low} counting = record { high = low; rest = counting; up = omega arith }
 
-  item-skips : {low : ℕ} {items : Items} {before after : List Token} → ItemStart items before after → Counting total low before → Skips total low after
+  item-skips : {low : ℕ} {items : Items} {before after : List Token} → ItemStart items before after → Counting all total low before → Skips all total low after
   item-skips at-argument counting = skips-none counting
   item-skips at-element counting = skips-none counting
   item-skips {low} (at-property {class = class} identified) counting =
@@ -129,7 +221,7 @@ module _ {total : ℕ} where
       let s = at-mark colon tt (n .then) in
       record { high = low + 1 + 1; rest = s .then; up = omega arith }
 
-  names-skip : {low : ℕ} {before after : List Token} → Names before after → Counting total low before → Skips total low after
+  names-skip : {low : ℕ} {before after : List Token} → Names before after → Counting all total low before → Skips all total low after
   names-skip {low} one-name counting = let n = at-mark name tt counting in record { high = low + 1; rest = n .then; up = omega arith }
   names-skip (more-names names) counting =
       let b = names-skip names counting in
@@ -137,351 +229,363 @@ module _ {total : ℕ} where
       let n = at-mark name tt (s .then) in
       record { high = b .high + 1 + 1; rest = n .then; up = omega arith }
 
-  parameters-skip : {low : ℕ} {before after : List Token} → Parameters before after → Counting total low before → Skips total low after
+  parameters-skip : {low : ℕ} {before after : List Token} → Parameters before after → Counting all total low before → Skips all total low after
   parameters-skip no-parameters counting = skips-none counting
   parameters-skip (some-parameters names) counting = names-skip names counting
 
-  pub marked : {low : ℕ} {form : Form} {before after : List Token} {value : Syntax} → Derives form before after value → Counting total low before
-      → MarksTo total low after value
-  marked {low} (chain-leaf {class = class} leaf) counting =
+  bare-fits : {called next : ℕ} (after : List Token) → T (endsBare after) → called + 1 ≡ next
+      → Counting all total next after → Fits all variableSyntax called nil nil
+  bare-fits [] ended behind counting = absurd ended
+  bare-fits {called} (token class spot ∷ rest) ended behind counting =
+      let n = at-mark class (at-class (λ x. not (isClosing x)) behindBare class ended tt) counting in
+      let next : called + 1 ≡ spot .mark = omega (arith, n .own) in
+      bare (n .among) ended next
+
+  pub marked : {low : ℕ} {form : Form} {before after : List Token} {value : Syntax} → Derives form before after value → T (ends form after)
+      → Counting all total low before → MarksTo all total low after value
+  marked {low} (chain-leaf {class = class} leaf) ended counting =
       let m = at-mark class (leaf-open leaf) counting in
-      record { high = low + 1; rest = m .then; marks = leaf-marks (m .own) }
-  marked {low} (chain-array values) counting =
+      record { high = low + 1; rest = m .then; marks = leaf-marks (plain (at-leaf isPlain tt leaf)) (m .own) }
+  marked {low} (chain-array values) ended counting =
       let m = at-mark openBracket tt counting in
-      let v = marked values (m .then) in
-      record { high = v .high; rest = past-closer closeBracket tt (v .rest); marks = before-parts (m .own) (omega arith) (v .marks) (no-marks (v .high)) }
-  marked {low} (chain-object values) counting =
+      let v = marked values tt (m .then) in
+      record { high = v .high; rest = past-closer closeBracket tt (v .rest); marks = before-parts (plain tt) (m .own) (omega arith) (v .marks) (no-marks (v .high)) }
+  marked {low} (chain-object values) ended counting =
       let m = at-mark openBrace tt counting in
-      let v = marked values (m .then) in
-      record { high = v .high; rest = past-closer closeBrace tt (v .rest); marks = before-parts (m .own) (omega arith) (v .marks) (no-marks (v .high)) }
-  marked {low} (chain-parens value) counting =
+      let v = marked values tt (m .then) in
+      record { high = v .high; rest = past-closer closeBrace tt (v .rest); marks = before-parts (plain tt) (m .own) (omega arith) (v .marks) (no-marks (v .high)) }
+  marked {low} (chain-parens value) ended counting =
       let m = at-mark openParen tt counting in
-      let v = marked value (m .then) in
-      record { high = v .high; rest = past-closer closeParen tt (v .rest); marks = before-parts (m .own) (omega arith) (v .marks) (no-marks (v .high)) }
-  marked {low} (chain-function function) counting =
+      let v = marked value tt (m .then) in
+      record { high = v .high; rest = past-closer closeParen tt (v .rest); marks = before-parts (plain tt) (m .own) (omega arith) (v .marks) (no-marks (v .high)) }
+  marked {low} (chain-function function) ended counting =
       let m = at-mark functionWord tt counting in
       let n = at-mark name tt (m .then) in
-      let v = marked function (n .then) in
-      record { high = v .high; rest = v .rest; marks = before-parts (m .own) (omega arith) (v .marks) (no-marks (v .high)) }
-  marked {low} (chain-unnamed function) counting =
+      let v = marked function tt (n .then) in
+      record { high = v .high; rest = v .rest; marks = before-parts (plain tt) (m .own) (omega arith) (v .marks) (no-marks (v .high)) }
+  marked {low} (chain-unnamed function) ended counting =
       let m = at-mark functionWord tt counting in
-      let v = marked function (m .then) in
-      record { high = v .high; rest = v .rest; marks = before-parts (m .own) (omega arith) (v .marks) (no-marks (v .high)) }
-  marked (chain-index object value) counting =
-      let o = marked object counting in
+      let v = marked function tt (m .then) in
+      record { high = v .high; rest = v .rest; marks = before-parts (plain tt) (m .own) (omega arith) (v .marks) (no-marks (v .high)) }
+  marked (chain-index object value) ended counting =
+      let o = marked object tt counting in
       let m = at-mark openBracket tt (o .rest) in
-      let v = marked value (m .then) in
-      record { high = v .high; rest = past-closer closeBracket tt (v .rest); marks = between-parts (o .marks) (m .own) (v .marks) }
-  marked (chain-member {class = class} called object) counting =
-      let o = marked object counting in
+      let v = marked value tt (m .then) in
+      record { high = v .high; rest = past-closer closeBracket tt (v .rest); marks = between-parts tt (o .marks) (m .own) (v .marks) }
+  marked (chain-member {class = class} called object) ended counting =
+      let o = marked object tt counting in
       let d = at-mark dot tt (o .rest) in
       let m = at-mark class (name-open called) (d .then) in
-      record { high = o .high + 1 + 1; rest = m .then; marks = behind-part (o .marks) (omega arith) (omega arith) }
-  marked (chain-call callee values) counting =
-      let c = marked callee counting in
+      record { high = o .high + 1 + 1; rest = m .then; marks = behind-part tt (o .marks) (omega arith) (omega arith) }
+  marked (chain-call callee values) ended counting =
+      let c = marked callee tt counting in
       let m = at-mark openParen tt (c .rest) in
-      let v = marked values (m .then) in
-      record { high = v .high; rest = past-closer closeParen tt (v .rest); marks = between-parts (c .marks) (m .own) (v .marks) }
-  marked {low} (chain-new callee values) counting =
+      let v = marked values tt (m .then) in
+      record { high = v .high; rest = past-closer closeParen tt (v .rest); marks = between-parts tt (c .marks) (m .own) (v .marks) }
+  marked {low} (chain-new callee values) ended counting =
       let m = at-mark newWord tt counting in
-      let c = marked callee (m .then) in
+      let c = marked callee tt (m .then) in
       let o = at-mark openParen tt (c .rest) in
-      let v = marked values (o .then) in
+      let v = marked values tt (o .then) in
       record {
         high = v .high;
         rest = past-closer closeParen tt (v .rest);
-        marks = before-parts (m .own) (omega arith) (c .marks) (from-lower (omega arith) (v .marks));
+        marks = before-parts (plain tt) (m .own) (omega arith) (c .marks) (from-lower (omega arith) (v .marks));
       }
-  marked (target-chain chain) counting = marked chain counting
-  marked {low} (target-new callee) counting =
+  marked (target-chain chain) ended counting = marked chain tt counting
+  marked {low} (target-new callee) ended counting =
       let m = at-mark newWord tt counting in
-      let c = marked callee (m .then) in
-      record { high = c .high; rest = c .rest; marks = before-parts (m .own) (omega arith) (no-marks (low + 1)) (c .marks) }
-  marked (unary-target target) counting = marked target counting
-  marked {low} (unary-prefix {class = class} op operand) counting =
+      let c = marked callee tt (m .then) in
+      record { high = c .high; rest = c .rest; marks = before-parts (plain tt) (m .own) (omega arith) (no-marks (low + 1)) (c .marks) }
+  marked (unary-target target) ended counting = marked target tt counting
+  marked {low} (unary-prefix {class = class} op operand) ended counting =
       let m = at-mark class (operator-open prefixOperators tt class op) counting in
-      let v = marked operand (m .then) in
-      record { high = v .high; rest = v .rest; marks = before-parts (m .own) (omega arith) (no-marks (low + 1)) (v .marks) }
-  marked (unary-postfix {class = class} op same operand) counting =
-      let v = marked operand counting in
+      let v = marked operand tt (m .then) in
+      record { high = v .high; rest = v .rest; marks = before-parts (plain (at-class (λ x. isPlain (prefixKind x)) prefixOperators class op tt)) (m .own) (omega arith) (no-marks (low + 1)) (v .marks) }
+  marked (unary-postfix {class = class} op same operand) ended counting =
+      let v = marked operand tt counting in
       let m = at-mark class (operator-open postfixOperators tt class op) (v .rest) in
-      record { high = v .high + 1; rest = m .then; marks = behind-part (v .marks) (omega arith) (omega arith) }
-  marked (binary-unary unary) counting = marked unary counting
-  marked (binary-operator {within = within} {class = class} op tight left right) counting =
-      let l = marked left counting in
+      record { high = v .high + 1; rest = m .then; marks = behind-part (at-class (λ x. isPlain (postfixKind x)) postfixOperators class op tt) (v .marks) (omega arith) (omega arith) }
+  marked (binary-unary unary) ended counting = marked unary tt counting
+  marked (binary-operator {within = within} {class = class} op tight left right) ended counting =
+      let l = marked left tt counting in
       let m = at-mark class (operator-open binaryOperators tt class (binary-by within class op)) (l .rest) in
-      let r = marked right (m .then) in
-      record { high = r .high; rest = r .rest; marks = between-parts (l .marks) (m .own) (r .marks) }
-  marked (assign-binary binary) counting = marked binary counting
-  marked (assign-to {class = class} op target value) counting =
-      let t = marked target counting in
+      let r = marked right tt (m .then) in
+      record { high = r .high; rest = r .rest; marks = between-parts (at-class isPlain binaryOperators class (binary-by within class op) tt) (l .marks) (m .own) (r .marks) }
+  marked (assign-binary binary) ended counting = marked binary tt counting
+  marked (assign-to {class = class} op target value) ended counting =
+      let t = marked target tt counting in
       let m = at-mark class (operator-open assignmentOperators tt class op) (t .rest) in
-      let v = marked value (m .then) in
-      record { high = v .high; rest = v .rest; marks = between-parts (t .marks) (m .own) (v .marks) }
-  marked (assign-conditional condition first second) counting =
-      let c = marked condition counting in
+      let v = marked value tt (m .then) in
+      record { high = v .high; rest = v .rest; marks = between-parts (at-class isPlain assignmentOperators class op tt) (t .marks) (m .own) (v .marks) }
+  marked (assign-conditional condition first second) ended counting =
+      let c = marked condition tt counting in
       let m = at-mark question tt (c .rest) in
-      let f = marked first (m .then) in
+      let f = marked first tt (m .then) in
       let a = at-mark colon tt (f .rest) in
-      let s = marked second (a .then) in
-      record { high = s .high; rest = s .rest; marks = inside-parts (c .marks) (m .own) (f .marks) (omega arith) (s .marks) }
-  marked (expression-assign value) counting = marked value counting
-  marked (expression-comma left right) counting =
-      let l = marked left counting in
+      let s = marked second tt (a .then) in
+      record { high = s .high; rest = s .rest; marks = inside-parts tt (c .marks) (m .own) (f .marks) (omega arith) (s .marks) }
+  marked (expression-assign value) ended counting = marked value tt counting
+  marked (expression-comma left right) ended counting =
+      let l = marked left tt counting in
       let m = at-mark comma tt (l .rest) in
-      let r = marked right (m .then) in
-      record { high = r .high; rest = r .rest; marks = between-parts (l .marks) (m .own) (r .marks) }
-  marked {low} (function-all parameters statements) counting =
+      let r = marked right tt (m .then) in
+      record { high = r .high; rest = r .rest; marks = between-parts tt (l .marks) (m .own) (r .marks) }
+  marked {low} (function-all parameters statements) ended counting =
       let o = at-mark openParen tt counting in
       let p = parameters-skip parameters (o .then) in
       let b = at-mark openBrace tt (past-closer closeParen tt (p .rest)) in
-      let s = marked statements (b .then) in
+      let s = marked statements tt (b .then) in
       let up : low ≤ p .high + 1 = omega (arith, p .up) in
       record { high = s .high; rest = past-closer closeBrace tt (s .rest); marks = from-lower up (s .marks) }
-  marked (block-all statements) counting =
+  marked (block-all statements) ended counting =
       let m = at-mark openBrace tt counting in
-      let s = marked statements (m .then) in
-      record { high = s .high; rest = past-closer closeBrace tt (s .rest); marks = before-parts (m .own) (omega arith) (s .marks) (no-marks (s .high)) }
-  marked (statement-block inner) counting = marked inner counting
-  marked (statement-expression allowed value) counting =
-      let v = marked value counting in
+      let s = marked statements tt (m .then) in
+      record { high = s .high; rest = past-closer closeBrace tt (s .rest); marks = before-parts (plain tt) (m .own) (omega arith) (s .marks) (no-marks (s .high)) }
+  marked (statement-block inner) ended counting = marked inner tt counting
+  marked (statement-expression allowed value) ended counting =
+      let v = marked value tt counting in
       let m = at-mark semicolon tt (v .rest) in
-      record { high = v .high + 1; rest = m .then; marks = behind-part (v .marks) (omega arith) (omega arith) }
-  marked (statement-var variables last) counting =
+      record { high = v .high + 1; rest = m .then; marks = behind-part tt (v .marks) (omega arith) (omega arith) }
+  marked (statement-var variables last) ended counting =
       let m = at-mark varWord tt counting in
-      let v = marked variables (m .then) in
-      let l = marked last (v .rest) in
+      let v = marked variables tt (m .then) in
+      let l = marked last tt (v .rest) in
       let e = at-mark semicolon tt (l .rest) in
-      record { high = l .high + 1; rest = e .then; marks = before-parts (m .own) (omega arith) (v .marks) (to-higher (omega arith) (l .marks)) }
-  marked {low} no-variables counting = record { high = low; rest = counting; marks = no-marks low }
-  marked (add-variable variables last) counting =
-      let v = marked variables counting in
-      let l = marked last (v .rest) in
+      record { high = l .high + 1; rest = e .then; marks = before-parts (plain tt) (m .own) (omega arith) (v .marks) (to-higher (omega arith) (l .marks)) }
+  marked {low} no-variables ended counting = record { high = low; rest = counting; marks = no-marks low }
+  marked (add-variable variables last) ended counting =
+      let v = marked variables tt counting in
+      let l = marked last tt (v .rest) in
       let c = at-mark comma tt (l .rest) in
       record { high = l .high + 1; rest = c .then; marks = signed (v .marks) (l .marks) }
-  marked {low} variable-bare counting =
+  marked {low} (variable-bare {called = called} {after = after}) ended counting =
       let m = at-mark name tt counting in
-      record { high = low + 1; rest = m .then; marks = leaf-marks (m .own) }
-  marked {low} (variable-initialised value) counting =
+      let next : called .mark + 1 ≡ low + 1 = omega (arith, m .own) in
+      let behind = bare-fits after ended next (m .then) in
+      record { high = low + 1; rest = m .then; marks = leaf-marks behind (m .own) }
+  marked {low} (variable-initialised value) ended counting =
       let m = at-mark name tt counting in
       let s = at-mark assign tt (m .then) in
-      let v = marked value (s .then) in
-      record { high = v .high; rest = v .rest; marks = before-parts (m .own) (omega arith) (no-marks (low + 1 + 1)) (v .marks) }
-  marked {low} statement-empty counting =
+      let v = marked value tt (s .then) in
+      record { high = v .high; rest = v .rest; marks = before-parts (initialised (s .among) (initialising (m .own) (s .own) (expression-first (expression-assign value) (s .then)) (v .marks))) (m .own) (omega arith) (no-marks (low + 1 + 1)) (v .marks) }
+  marked {low} statement-empty ended counting =
       let m = at-mark semicolon tt counting in
-      record { high = low + 1; rest = m .then; marks = leaf-marks (m .own) }
-  marked (statement-if none condition inner) counting =
+      record { high = low + 1; rest = m .then; marks = leaf-marks (plain tt) (m .own) }
+  marked (statement-if none condition inner) ended counting =
       let m = at-mark ifWord tt counting in
       let o = at-mark openParen tt (m .then) in
-      let c = marked condition (o .then) in
-      let i = marked inner (past-closer closeParen tt (c .rest)) in
-      record { high = i .high; rest = i .rest; marks = before-parts (m .own) (omega arith) (c .marks) (i .marks) }
-  marked (statement-else condition first second) counting =
+      let c = marked condition tt (o .then) in
+      let i = marked inner tt (past-closer closeParen tt (c .rest)) in
+      record { high = i .high; rest = i .rest; marks = before-parts (plain tt) (m .own) (omega arith) (c .marks) (i .marks) }
+  marked (statement-else condition first second) ended counting =
       let m = at-mark ifWord tt counting in
       let o = at-mark openParen tt (m .then) in
-      let c = marked condition (o .then) in
-      let f = marked first (past-closer closeParen tt (c .rest)) in
+      let c = marked condition tt (o .then) in
+      let f = marked first tt (past-closer closeParen tt (c .rest)) in
       let e = at-mark elseWord tt (f .rest) in
-      let s = marked second (e .then) in
+      let s = marked second tt (e .then) in
       record {
         high = s .high;
         rest = s .rest;
-        marks = between-parts (before-parts (m .own) (omega arith) (c .marks) (f .marks)) (e .own) (s .marks);
+        marks = between-parts tt (before-parts (plain tt) (m .own) (omega arith) (c .marks) (f .marks)) (e .own) (s .marks);
       }
-  marked (statement-do inner condition) counting =
+  marked (statement-do inner condition) ended counting =
       let m = at-mark doWord tt counting in
-      let i = marked inner (m .then) in
+      let i = marked inner tt (m .then) in
       let w = at-mark whileWord tt (i .rest) in
       let o = at-mark openParen tt (w .then) in
-      let c = marked condition (o .then) in
+      let c = marked condition tt (o .then) in
       let e = at-mark semicolon tt (past-closer closeParen tt (c .rest)) in
       record {
         high = c .high + 1;
         rest = e .then;
-        marks = before-parts (m .own) (omega arith) (i .marks) (from-lower (omega arith) (to-higher (omega arith) (c .marks)));
+        marks = before-parts (plain tt) (m .own) (omega arith) (i .marks) (from-lower (omega arith) (to-higher (omega arith) (c .marks)));
       }
-  marked (statement-head {class = class} heads head inner) counting =
+  marked (statement-head {class = class} heads head inner) ended counting =
       let m = at-mark class (head-open heads) counting in
       let o = at-mark openParen tt (m .then) in
-      let h = marked head (o .then) in
-      let i = marked inner (past-closer closeParen tt (h .rest)) in
-      record { high = i .high; rest = i .rest; marks = before-parts (m .own) (omega arith) (h .marks) (i .marks) }
-  marked {low} (statement-for start condition step inner) counting =
+      let h = marked head tt (o .then) in
+      let i = marked inner tt (past-closer closeParen tt (h .rest)) in
+      record { high = i .high; rest = i .rest; marks = before-parts (plain (head-plain heads)) (m .own) (omega arith) (h .marks) (i .marks) }
+  marked {low} (statement-for start condition step inner) ended counting =
       let m = at-mark forWord tt counting in
       let o = at-mark openParen tt (m .then) in
-      let s = marked start (o .then) in
+      let s = marked start tt (o .then) in
       let f = at-mark semicolon tt (s .rest) in
-      let c = marked condition (f .then) in
+      let c = marked condition tt (f .then) in
       let e = at-mark semicolon tt (c .rest) in
-      let t = marked step (e .then) in
-      let i = marked inner (past-closer closeParen tt (t .rest)) in
+      let t = marked step tt (e .then) in
+      let i = marked inner tt (past-closer closeParen tt (t .rest)) in
       let head = marks-both (signed (signed (no-marks (low + 1 + 1)) (s .marks)) (c .marks)) (t .marks) in
-      record { high = i .high; rest = i .rest; marks = before-parts (m .own) (omega arith) head (i .marks) }
-  marked {low} (statement-for-var variables last condition step inner) counting =
+      record { high = i .high; rest = i .rest; marks = before-parts (plain tt) (m .own) (omega arith) head (i .marks) }
+  marked {low} (statement-for-var variables last condition step inner) ended counting =
       let m = at-mark forWord tt counting in
       let o = at-mark openParen tt (m .then) in
       let d = at-mark varWord tt (o .then) in
-      let v = marked variables (d .then) in
-      let l = marked last (v .rest) in
+      let v = marked variables tt (d .then) in
+      let l = marked last tt (v .rest) in
       let f = at-mark semicolon tt (l .rest) in
-      let c = marked condition (f .then) in
+      let c = marked condition tt (f .then) in
       let e = at-mark semicolon tt (c .rest) in
-      let t = marked step (e .then) in
-      let i = marked inner (past-closer closeParen tt (t .rest)) in
-      let start = before-parts (d .own) (omega arith) (v .marks) (l .marks) in
+      let t = marked step tt (e .then) in
+      let i = marked inner tt (past-closer closeParen tt (t .rest)) in
+      let start = before-parts (plain tt) (d .own) (omega arith) (v .marks) (l .marks) in
       let head = marks-both (signed (signed (no-marks (low + 1 + 1)) start) (c .marks)) (t .marks) in
-      record { high = i .high; rest = i .rest; marks = before-parts (m .own) (omega arith) head (i .marks) }
-  marked {low} left-out counting = record { high = low; rest = counting; marks = no-marks low }
-  marked (not-left-out value) counting = marked value counting
-  marked {low} (statement-for-in target object inner) counting =
+      record { high = i .high; rest = i .rest; marks = before-parts (plain tt) (m .own) (omega arith) head (i .marks) }
+  marked {low} left-out ended counting = record { high = low; rest = counting; marks = no-marks low }
+  marked (not-left-out value) ended counting = marked value tt counting
+  marked {low} (statement-for-in target object inner) ended counting =
       let m = at-mark forWord tt counting in
       let o = at-mark openParen tt (m .then) in
-      let t = marked target (o .then) in
+      let t = marked target tt (o .then) in
       let s = at-mark inWord tt (t .rest) in
-      let v = marked object (s .then) in
-      let i = marked inner (past-closer closeParen tt (v .rest)) in
+      let v = marked object tt (s .then) in
+      let i = marked inner tt (past-closer closeParen tt (v .rest)) in
+      let own = iterating (m .own) (target-first target (o .then)) (t .marks) (s .own) (expression-first object (s .then)) (v .marks) (i .marks) in
       let head = marks-both (signed (no-marks (low + 1 + 1)) (t .marks)) (v .marks) in
-      record { high = i .high; rest = i .rest; marks = before-parts (m .own) (omega arith) head (i .marks) }
-  marked {low} (statement-for-var-in variable object inner) counting =
+      record { high = i .high; rest = i .rest; marks = before-parts (iterated (s .among) own) (m .own) (omega arith) head (i .marks) }
+  marked {low} (statement-for-var-in variable object inner) ended counting =
       let m = at-mark forWord tt counting in
       let o = at-mark openParen tt (m .then) in
       let d = at-mark varWord tt (o .then) in
-      let l = marked variable (d .then) in
+      let l = marked variable tt (d .then) in
       let s = at-mark inWord tt (l .rest) in
-      let v = marked object (s .then) in
-      let i = marked inner (past-closer closeParen tt (v .rest)) in
-      let start = before-parts (d .own) (omega arith) (no-marks (low + 1 + 1 + 1)) (l .marks) in
+      let v = marked object tt (s .then) in
+      let i = marked inner tt (past-closer closeParen tt (v .rest)) in
+      let start = before-parts (plain tt) (d .own) (omega arith) (no-marks (low + 1 + 1 + 1)) (l .marks) in
+      let own = iterating (m .own) (own-first varWord tt (o .then)) (start) (s .own) (expression-first object (s .then)) (v .marks) (i .marks) in
       let head = marks-both (signed (no-marks (low + 1 + 1)) start) (v .marks) in
-      record { high = i .high; rest = i .rest; marks = before-parts (m .own) (omega arith) head (i .marks) }
-  marked {low} (statement-bare-jump {class = class} jumps) counting =
+      record { high = i .high; rest = i .rest; marks = before-parts (iterated (s .among) own) (m .own) (omega arith) head (i .marks) }
+  marked {low} (statement-bare-jump {class = class} jumps) ended counting =
       let m = at-mark class (jump-open jumps) counting in
       let e = at-mark semicolon tt (m .then) in
-      record { high = low + 1 + 1; rest = e .then; marks = to-higher (omega arith) (leaf-marks (m .own)) }
-  marked {low} (statement-jump {class = class} jumps same) counting =
+      record { high = low + 1 + 1; rest = e .then; marks = to-higher (omega arith) (leaf-marks (plain (bare-plain jumps)) (m .own)) }
+  marked {low} (statement-jump {class = class} jumps same) ended counting =
       let m = at-mark class (jump-open jumps) counting in
       let l = at-mark name tt (m .then) in
       let e = at-mark semicolon tt (l .then) in
-      record { high = low + 1 + 1 + 1; rest = e .then; marks = to-higher (omega arith) (leaf-marks (m .own)) }
-  marked {low} statement-bare-return counting =
+      record { high = low + 1 + 1 + 1; rest = e .then; marks = to-higher (omega arith) (leaf-marks (plain (jump-plain jumps)) (m .own)) }
+  marked {low} statement-bare-return ended counting =
       let m = at-mark returnWord tt counting in
       let e = at-mark semicolon tt (m .then) in
-      record { high = low + 1 + 1; rest = e .then; marks = before-parts (m .own) (omega arith) (no-marks (low + 1 + 1)) (no-marks (low + 1 + 1)) }
-  marked {low} (statement-full-return same value) counting =
+      record { high = low + 1 + 1; rest = e .then; marks = before-parts (plain tt) (m .own) (omega arith) (no-marks (low + 1 + 1)) (no-marks (low + 1 + 1)) }
+  marked {low} (statement-full-return same value) ended counting =
       let m = at-mark returnWord tt counting in
-      let v = marked value (m .then) in
+      let v = marked value tt (m .then) in
       let e = at-mark semicolon tt (v .rest) in
-      record { high = v .high + 1; rest = e .then; marks = before-parts (m .own) (omega arith) (no-marks (low + 1)) (to-higher (omega arith) (v .marks)) }
-  marked (statement-switch subject clauses) counting =
+      record { high = v .high + 1; rest = e .then; marks = before-parts (plain tt) (m .own) (omega arith) (no-marks (low + 1)) (to-higher (omega arith) (v .marks)) }
+  marked (statement-switch subject clauses) ended counting =
       let m = at-mark switchWord tt counting in
       let o = at-mark openParen tt (m .then) in
-      let s = marked subject (o .then) in
+      let s = marked subject tt (o .then) in
       let b = at-mark openBrace tt (past-closer closeParen tt (s .rest)) in
-      let c = marked clauses (b .then) in
+      let c = marked clauses tt (b .then) in
       record {
         high = c .high;
         rest = past-closer closeBrace tt (c .rest);
-        marks = before-parts (m .own) (omega arith) (s .marks) (from-lower (omega arith) (c .marks));
+        marks = before-parts (plain tt) (m .own) (omega arith) (s .marks) (from-lower (omega arith) (c .marks));
       }
-  marked {low} no-clauses counting = record { high = low; rest = counting; marks = no-marks low }
-  marked (add-case cases test statements) counting =
-      let c = marked cases counting in
+  marked {low} no-clauses ended counting = record { high = low; rest = counting; marks = no-marks low }
+  marked (add-case cases test statements) ended counting =
+      let c = marked cases tt counting in
       let m = at-mark caseWord tt (c .rest) in
-      let t = marked test (m .then) in
+      let t = marked test tt (m .then) in
       let s = at-mark colon tt (t .rest) in
-      let v = marked statements (s .then) in
-      let clause = before-parts (m .own) (omega arith) (t .marks) (from-lower (omega arith) (v .marks)) in
+      let v = marked statements tt (s .then) in
+      let clause = before-parts (plain tt) (m .own) (omega arith) (t .marks) (from-lower (omega arith) (v .marks)) in
       record { high = v .high; rest = v .rest; marks = marks-both (c .marks) clause }
-  marked (add-default cases statements) counting =
-      let c = marked cases counting in
+  marked (add-default cases statements) ended counting =
+      let c = marked cases tt counting in
       let m = at-mark defaultWord tt (c .rest) in
       let s = at-mark colon tt (m .then) in
-      let v = marked statements (s .then) in
-      let clause = before-parts (m .own) (omega arith) (no-marks (c .high + 1 + 1)) (v .marks) in
+      let v = marked statements tt (s .then) in
+      let clause = before-parts (plain tt) (m .own) (omega arith) (no-marks (c .high + 1 + 1)) (v .marks) in
       record { high = v .high; rest = v .rest; marks = marks-both (c .marks) clause }
-  marked {low} (statement-throw same value) counting =
+  marked {low} (statement-throw same value) ended counting =
       let m = at-mark throwWord tt counting in
-      let v = marked value (m .then) in
+      let v = marked value tt (m .then) in
       let e = at-mark semicolon tt (v .rest) in
-      record { high = v .high + 1; rest = e .then; marks = before-parts (m .own) (omega arith) (no-marks (low + 1)) (to-higher (omega arith) (v .marks)) }
-  marked {low} (statement-try none inner handler) counting =
+      record { high = v .high + 1; rest = e .then; marks = before-parts (plain tt) (m .own) (omega arith) (no-marks (low + 1)) (to-higher (omega arith) (v .marks)) }
+  marked {low} (statement-try none inner handler) ended counting =
       let m = at-mark tryWord tt counting in
-      let i = marked inner (m .then) in
-      let h = marked handler (i .rest) in
+      let i = marked inner tt (m .then) in
+      let h = marked handler tt (i .rest) in
       let parts = marks-both (marks-both (no-marks (low + 1)) (i .marks)) (h .marks) in
-      record { high = h .high; rest = h .rest; marks = before-parts (m .own) (omega arith) parts (no-marks (h .high)) }
-  marked {low} (statement-try-finally inner last) counting =
+      record { high = h .high; rest = h .rest; marks = before-parts (plain tt) (m .own) (omega arith) parts (no-marks (h .high)) }
+  marked {low} (statement-try-finally inner last) ended counting =
       let m = at-mark tryWord tt counting in
-      let i = marked inner (m .then) in
-      let l = marked last (i .rest) in
+      let i = marked inner tt (m .then) in
+      let l = marked last tt (i .rest) in
       let parts = marks-both (marks-both (no-marks (low + 1)) (i .marks)) (l .marks) in
-      record { high = l .high; rest = l .rest; marks = before-parts (m .own) (omega arith) parts (no-marks (l .high)) }
-  marked {low} (statement-try-all inner handler last) counting =
+      record { high = l .high; rest = l .rest; marks = before-parts (plain tt) (m .own) (omega arith) parts (no-marks (l .high)) }
+  marked {low} (statement-try-all inner handler last) ended counting =
       let m = at-mark tryWord tt counting in
-      let i = marked inner (m .then) in
-      let h = marked handler (i .rest) in
-      let l = marked last (h .rest) in
+      let i = marked inner tt (m .then) in
+      let h = marked handler tt (i .rest) in
+      let l = marked last tt (h .rest) in
       let parts = marks-both (marks-both (marks-both (no-marks (low + 1)) (i .marks)) (h .marks)) (l .marks) in
-      record { high = l .high; rest = l .rest; marks = before-parts (m .own) (omega arith) parts (no-marks (l .high)) }
-  marked {low} (catch-all inner) counting =
+      record { high = l .high; rest = l .rest; marks = before-parts (plain tt) (m .own) (omega arith) parts (no-marks (l .high)) }
+  marked {low} (catch-all inner) ended counting =
       let m = at-mark catchWord tt counting in
       let o = at-mark openParen tt (m .then) in
       let n = at-mark name tt (o .then) in
-      let i = marked inner (past-closer closeParen tt (n .then)) in
-      record { high = i .high; rest = i .rest; marks = before-parts (m .own) (omega arith) (no-marks (low + 1 + 1 + 1)) (i .marks) }
-  marked {low} (finally-all inner) counting =
+      let i = marked inner tt (past-closer closeParen tt (n .then)) in
+      record { high = i .high; rest = i .rest; marks = before-parts (plain tt) (m .own) (omega arith) (no-marks (low + 1 + 1 + 1)) (i .marks) }
+  marked {low} (finally-all inner) ended counting =
       let m = at-mark finallyWord tt counting in
-      let i = marked inner (m .then) in
-      record { high = i .high; rest = i .rest; marks = before-parts (m .own) (omega arith) (no-marks (low + 1)) (i .marks) }
-  marked {low} statement-debugger counting =
+      let i = marked inner tt (m .then) in
+      record { high = i .high; rest = i .rest; marks = before-parts (plain tt) (m .own) (omega arith) (no-marks (low + 1)) (i .marks) }
+  marked {low} statement-debugger ended counting =
       let m = at-mark debuggerWord tt counting in
       let e = at-mark semicolon tt (m .then) in
-      record { high = low + 1 + 1; rest = e .then; marks = to-higher (omega arith) (leaf-marks (m .own)) }
-  marked {low} (statement-label inner) counting =
+      record { high = low + 1 + 1; rest = e .then; marks = to-higher (omega arith) (leaf-marks (plain tt) (m .own)) }
+  marked {low} (statement-label inner) ended counting =
       let m = at-mark name tt counting in
       let s = at-mark colon tt (m .then) in
-      let i = marked inner (s .then) in
-      record { high = i .high; rest = i .rest; marks = before-parts (m .own) (omega arith) (no-marks (low + 1 + 1)) (i .marks) }
-  marked {low} no-statements counting = record { high = low; rest = counting; marks = no-marks low }
-  marked (add-statement statements last) counting =
-      let s = marked statements counting in
-      let l = marked last (s .rest) in
+      let i = marked inner tt (s .then) in
+      record { high = i .high; rest = i .rest; marks = before-parts (plain tt) (m .own) (omega arith) (no-marks (low + 1 + 1)) (i .marks) }
+  marked {low} no-statements ended counting = record { high = low; rest = counting; marks = no-marks low }
+  marked (add-statement statements last) ended counting =
+      let s = marked statements tt counting in
+      let l = marked last tt (s .rest) in
       record { high = l .high; rest = l .rest; marks = marks-both (s .marks) (l .marks) }
-  marked (add-declaration statements function) counting =
-      let s = marked statements counting in
+  marked (add-declaration statements function) ended counting =
+      let s = marked statements tt counting in
       let m = at-mark functionWord tt (s .rest) in
       let n = at-mark name tt (m .then) in
-      let f = marked function (n .then) in
+      let f = marked function tt (n .then) in
       record {
         high = f .high;
         rest = f .rest;
-        marks = marks-both (s .marks) (before-parts (m .own) (omega arith) (f .marks) (no-marks (f .high)));
+        marks = marks-both (s .marks) (before-parts (plain tt) (m .own) (omega arith) (f .marks) (no-marks (f .high)));
       }
-  marked {low} no-items counting = record { high = low; rest = counting; marks = no-marks low }
-  marked (add-item values starts last) counting =
-      let v = marked values counting in
+  marked {low} no-items ended counting = record { high = low; rest = counting; marks = no-marks low }
+  marked (add-item values starts last) ended counting =
+      let v = marked values tt counting in
       let s = item-skips starts (v .rest) in
-      let l = marked last (s .rest) in
+      let l = marked last tt (s .rest) in
       let c = at-mark comma tt (l .rest) in
       record { high = l .high + 1; rest = c .then; marks = signed (v .marks) (from-lower (s .up) (l .marks)) }
-  marked (add-hole values) counting =
-      let v = marked values counting in
+  marked (add-hole values) ended counting =
+      let v = marked values tt counting in
       let c = at-mark comma tt (v .rest) in
       record { high = v .high + 1; rest = c .then; marks = to-higher (omega arith) (v .marks) }
-  marked {low} list-empty counting = record { high = low; rest = counting; marks = no-marks low }
-  marked (list-items allowed values) counting = marked values counting
-  marked (list-last values starts last) counting =
-      let v = marked values counting in
+  marked {low} list-empty ended counting = record { high = low; rest = counting; marks = no-marks low }
+  marked (list-items allowed values) ended counting = marked values tt counting
+  marked (list-last values starts last) ended counting =
+      let v = marked values tt counting in
       let s = item-skips starts (v .rest) in
-      let l = marked last (s .rest) in
+      let l = marked last tt (s .rest) in
       record { high = l .high; rest = l .rest; marks = marks-both (v .marks) (from-lower (s .up) (l .marks)) }
 
 -- the marks of a program's parts are from the first mark up to the total
-program-marks : {total first : ℕ} {all : List Token} {parts : Syntax} → Counting total first all → Program all parts → Marks first total parts
-program-marks {total} {first} {parts = parts} counting program =
-    let p = marked program counting in
-    subst (λ (high : ℕ). Marks first high parts) (ended (p .rest)) (p .marks)
+program-marks : {total first : ℕ} {all : List Token} {parts : Syntax} → Counting all total first all → Program all parts → Marks all first total parts
+program-marks {total} {first} {all} {parts} counting program =
+    let p = marked program tt counting in
+    subst (λ (high : ℕ). Marks all first high parts) (ended (p .rest)) (p .marks)
   where
-    ended : {high : ℕ} → Counting total high [] → high ≡ total
+    ended : {high : ℕ} → Counting all total high [] → high ≡ total
     ended counting-none = refl
 
 -- "index of its marking tree record": no two parts have the same mark, and each is that of a token that is no closer
@@ -490,7 +594,7 @@ pub record OwnMarks (total first : ℕ) (all : List Token) (parts : Syntax) : Ty
   pub within-all : (m : ℕ) → List·Memᴰ m (marksOf parts) → Within first total m
   pub of-token : (m : ℕ) → List·Memᴰ m (marksOf parts) → MarkOf m all
 
-pub own-marks : {total first : ℕ} {all : List Token} {parts : Syntax} → Counting total first all → Program all parts
+pub own-marks : {total first : ℕ} {all : List Token} {parts : Syntax} → Counting all total first all → Program all parts
     → OwnMarks total first all parts
 own-marks counting program =
     let marks = program-marks counting program in

@@ -1,12 +1,12 @@
 -- Document 02, U4: "each added operator and value word makes one syntax record": each token of a program that is one marks a part, whose kind its
 -- class and its place in the part tell. No two parts have the same mark (OwnMarks.antt).
-use mathlib.Core.Path.{_≡_, refl, sym, subst}
+use mathlib.Core.Path.{_≡_, refl, subst}
 use mathlib.Core.Bool.{Bool, true, not}
 use mathlib.Core.List.{List, [], _∷_, _++_, List·Memᴰ, List·Memᴰ·head, Memᴰ·append-left, Memᴰ·append-right, append-assoc}
-use Prim.Native.Nat.{ℕ, _+_, _≤_, _<_}
+use Prim.Native.Nat.{ℕ, _+_, _<_}
 use native.Mathlib.Omega.{arith}
 use lib.Dec.{T, T-not}
-use Rattle.machine.specs.Tokens.{Token, token, Spot, name, newWord, assign, comma, varWord, elseWord, doWord, whileWord, forWord, inWord, switchWord, caseWord, defaultWord, throwWord, tryWord, catchWord, finallyWord, debuggerWord, colon, semicolon, dot, openParen, closeParen, openBracket, closeBracket, openBrace, closeBrace, returnWord, functionWord, ifWord}
+use Rattle.machine.specs.Tokens.{Token, token, Spot, name, assign, comma, varWord, elseWord, doWord, whileWord, forWord, inWord, switchWord, caseWord, defaultWord, throwWord, tryWord, catchWord, finallyWord, debuggerWord, colon, semicolon, dot, openParen, closeParen, openBracket, closeBracket, openBrace, closeBrace, returnWord, functionWord, ifWord}
 use Rattle.machine.specs.Syntax.{Syntax, nil, node, snoc, marksOf, variableSyntax, forInSyntax}
 use Rattle.grammar.specs.Grammar.{
   assignmentOperators,
@@ -105,20 +105,19 @@ use Rattle.grammar.specs.Grammar.{
   no-statements,
   add-statement,
   add-declaration,
-  binaryForm,
-  expressionForm,
+  assignForm,
   Statement,
   Expression,
-  Target,
-  Chain,
   Program,
 }
 use Rattle.grammar.specs.Recorded.{recordedClasses, isRecorded, firstKinds, behindKind, Part, part, partsOf, Makes, makes-first, makes-behind, Assigns, assigns, initialises, Iterates, Relates, relates, iterates}
 use Rattle.grammar.proofs.TableLaws.{at-class, at-leaf, number-at, binary-by}
 use Rattle.grammar.proofs.Counts.{isClosing, leaf-open, operator-open}
-use Rattle.grammar.proofs.Ranges.{marks-both, no-marks, before-parts, within}
+use Rattle.grammar.proofs.Ranges.{plain, no-marks, before-parts, within}
 use Rattle.grammar.proofs.Counting.{Counting, counting-closer, counting-mark, past-closer, at-mark}
-use Rattle.grammar.proofs.OwnMarks.{MarksTo, marked}
+use Rattle.grammar.proofs.Unmarked.{Gaps, gaps, assign-unmarked, in-unmarked}
+use Rattle.grammar.proofs.Firsts.{MarkIn, own-first, target-first, binary-first, expression-first}
+use Rattle.grammar.proofs.OwnMarks.{MarksTo, initialising, iterating, marked}
 
 -- a token that is to have a record, or a `=` or `in`
 abbrev mayMark : ℕ → Bool
@@ -154,51 +153,6 @@ jump-other : {class bare : ℕ} → JumpWord class bare → T (not (mayMark clas
 jump-other continue-word = tt
 jump-other break-word = tt
 
--- a mark is among a tree's
-record MarkIn (mark : ℕ) (value : Syntax) : Type 0 where
-  member : List·Memᴰ mark (marksOf value)
-
-left-mark : {mark kind own : ℕ} {left right : Syntax} → MarkIn mark left → MarkIn mark (node kind own left right)
-left-mark {own = own} {right = right} m = record { member = Memᴰ·append-left (marksOf right ++ (own ∷ [])) (m .member) }
-
--- that of the first token of an operand is among the operand's
-module _ {total low : ℕ} where
-  own-first : (class : ℕ) {kind : ℕ} {spot : Spot} {rest : List Token} {left right : Syntax} → T (not (isClosing class))
-      → Counting total low (token class spot ∷ rest) → MarkIn low (node kind (spot .mark) left right)
-  own-first class {left = left} {right = right} opens c =
-      record { member = Memᴰ·append-right (marksOf left) (Memᴰ·append-right (marksOf right) (List·Memᴰ·head (sym (at-mark class opens c .own)))) }
-
-  chain-first : {calls : Bool} {before after : List Token} {value : Syntax} → Chain calls before after value → Counting total low before → MarkIn low value
-  chain-first (chain-leaf {class = class} leaf) c = own-first class (leaf-open leaf) c
-  chain-first (chain-array values) c = own-first openBracket tt c
-  chain-first (chain-object values) c = own-first openBrace tt c
-  chain-first (chain-parens value) c = own-first openParen tt c
-  chain-first (chain-function function) c = own-first functionWord tt c
-  chain-first (chain-unnamed function) c = own-first functionWord tt c
-  chain-first (chain-index object value) c = left-mark (chain-first object c)
-  chain-first (chain-member called object) c = left-mark (chain-first object c)
-  chain-first (chain-call callee values) c = left-mark (chain-first callee c)
-  chain-first (chain-new callee values) c = own-first newWord tt c
-
-  target-first : {calls : Bool} {before after : List Token} {value : Syntax} → Target calls before after value → Counting total low before → MarkIn low value
-  target-first (target-chain chain) c = chain-first chain c
-  target-first (target-new callee) c = own-first newWord tt c
-
-  binary-first : {within : Bool} {least : ℕ} {before after : List Token} {value : Syntax} → Derives (binaryForm within least) before after value
-      → Counting total low before → MarkIn low value
-  binary-first (binary-unary (unary-target target)) c = target-first target c
-  binary-first (binary-unary (unary-prefix {class = class} op operand)) c = own-first class (operator-open prefixOperators tt class op) c
-  binary-first (binary-unary (unary-postfix op same operand)) c = left-mark (target-first operand c)
-  binary-first (binary-operator op tight left right) c = left-mark (binary-first left c)
-
-  expression-first : {within : Bool} {before after : List Token} {value : Syntax} → Derives (expressionForm within) before after value
-      → Counting total low before → MarkIn low value
-  expression-first (expression-assign (assign-binary binary)) c = binary-first binary c
-  expression-first (expression-assign (assign-to op target value)) c = left-mark (target-first target c)
-  expression-first (expression-assign (assign-conditional {first = inner} condition first second)) c =
-      left-mark (record { member = Memᴰ·append-left (marksOf inner) (binary-first condition c .member) })
-  expression-first (expression-comma left right) c = left-mark (expression-first left c)
-
 -- the records of a part are among these
 record Among (parts : List Part) (value : Syntax) : Type 0 where
   each : (p : Part) → List·Memᴰ p (partsOf value) → List·Memᴰ p parts
@@ -222,32 +176,32 @@ module _ {parts : List Part} where
       among .each _ (Memᴰ·append-right (partsOf left) (Memᴰ·append-right (partsOf right) (List·Memᴰ·head refl)))
 
 -- the same of tokens whose marks count their tree records, by which those of an operand are under a later token's
-abbrev Held : ℕ → List Part → List Token → Type 0
-Held total parts tokens = (low : ℕ) → Counting total low tokens → Recorded parts tokens
+abbrev Held : List Token → ℕ → List Part → List Token → Type 0
+Held all total parts tokens = (low : ℕ) → Counting all total low tokens → Recorded parts tokens
 
-module _ {total : ℕ} {parts : List Part} where
-  taken : {class : ℕ} {spot : Spot} {rest : List Token} → (T (mayMark class) → Has class (spot .mark) parts) → Held total parts rest → Held total parts (token class spot ∷ rest)
+module _ {all : List Token} {total : ℕ} {parts : List Part} (free : Gaps parts) where
+  taken : {class : ℕ} {spot : Spot} {rest : List Token} → (T (mayMark class) → Has class (spot .mark) parts) → Held all total parts rest → Held all total parts (token class spot ∷ rest)
   taken has r low (counting-closer closing counting) = recorded-more has (r low counting)
-  taken has r low (counting-mark opens own counting) = recorded-more has (r (low + 1) counting)
+  taken has r low (counting-mark opens among own counting) = recorded-more has (r (low + 1) counting)
 
   -- a token that marks no part, one that marks a part from its start, one that marks a part behind an operand, and the `=` behind the name of a variable
-  other : (class : ℕ) {spot : Spot} {rest : List Token} → T (not (mayMark class)) → Held total parts rest → Held total parts (token class spot ∷ rest)
+  other : (class : ℕ) {spot : Spot} {rest : List Token} → T (not (mayMark class)) → Held all total parts rest → Held all total parts (token class spot ∷ rest)
   other class none = taken (λ h. absurd (T-not (mayMark class) none h))
 
   starting : {kind class : ℕ} {spot : Spot} {left right : Syntax} {rest after : List Token} → T (isAmong (firstKinds class) kind) → T (not (isClosing class))
-      → ((low : ℕ) → Counting total low (token class spot ∷ rest) → MarksTo total low after (node kind (spot .mark) left right))
-      → Among parts (node kind (spot .mark) left right) → Held total parts rest → Held total parts (token class spot ∷ rest)
+      → ((low : ℕ) → Counting all total low (token class spot ∷ rest) → MarksTo all total low after (node kind (spot .mark) left right))
+      → Among parts (node kind (spot .mark) left right) → Held all total parts rest → Held all total parts (token class spot ∷ rest)
   starting {class = class} {spot = spot} kinds opens marks among r low counting =
       let m = at-mark class opens counting in
-      let all = within (marks low counting .marks) in
-      taken (λ h. has-part (makes-first (own-part among) kinds λ x member. omega (arith, all x (rw append-assoc at (Memᴰ·append-left (spot .mark ∷ []) member))))) r
+      let each = within (marks low counting .marks) in
+      taken (λ h. has-part (makes-first (own-part among) kinds λ x member. omega (arith, each x (rw append-assoc at (Memᴰ·append-left (spot .mark ∷ []) member))))) r
       low counting
 
   behind : {kind class : ℕ} {spot : Spot} {operand left right : Syntax} {before rest : List Token} → kind ≡ behindKind class → T (not (isClosing class))
-      → ((low : ℕ) → Counting total low before → MarkIn low operand) → ((m : ℕ) → List·Memᴰ m (marksOf operand) → List·Memᴰ m (marksOf left))
-      → ((low : ℕ) → Counting total low before → MarksTo total low (token class spot ∷ rest) operand)
-      → Among parts (node kind (spot .mark) left right) → (Held total parts (token class spot ∷ rest) → Held total parts before) → Held total parts rest
-      → Held total parts before
+      → ((low : ℕ) → Counting all total low before → MarkIn low operand) → ((m : ℕ) → List·Memᴰ m (marksOf operand) → List·Memᴰ m (marksOf left))
+      → ((low : ℕ) → Counting all total low before → MarksTo all total low (token class spot ∷ rest) operand)
+      → Among parts (node kind (spot .mark) left right) → (Held all total parts (token class spot ∷ rest) → Held all total parts before) → Held all total parts rest
+      → Held all total parts before
   behind {class = class} {spot = spot} {right = right} same opens first inside marks among before r low counting =
       let to = marks low counting in
       let m = at-mark class opens (to .rest) in
@@ -255,55 +209,50 @@ module _ {total : ℕ} {parts : List Part} where
       let under : low < spot .mark = omega (arith, within (to .marks) low some) in
       before (taken (λ h. has-part (makes-behind (rw same at (own-part among)) (Memᴰ·append-left (marksOf right) (inside low some)) under)) r) low counting
 
-  initialised : {called sign : Spot} {value : Syntax} {rest : List Token} → Among parts (node variableSyntax (called .mark) nil value)
-      → Held total parts rest → Held total parts (token name called ∷ token assign sign ∷ rest)
-  initialised {called} {sign} among r low counting =
+  initialised : {more : Bool} {called sign : Spot} {value : Syntax} {rest after : List Token} → Derives (assignForm more) rest after value
+      → Among parts (node variableSyntax (called .mark) nil value) → Held all total parts rest
+      → Held all total parts (token name called ∷ token assign sign ∷ rest)
+  initialised {value = value} given among r low counting =
       let n = at-mark name tt counting in
       let s = at-mark assign tt (n .then) in
-      let next : called .mark + 1 ≡ sign .mark = omega (arith, n .own, s .own) in
-      other name tt (taken (λ h. has-assign refl (initialises (own-part among) next)) r) low counting
+      let v = marked given tt (s .then) in
+      let own = initialising (n .own) (s .own) (expression-first (expression-assign given) (s .then)) (v .marks) in
+      other name tt (taken (λ h. has-assign refl (initialises (own-part among) own (assign-unmarked free (own-part among) own))) r) low counting
 
   -- the `in` of a `for`, behind its start and before its object
   iterated : {word opener sign closer : Spot} {start object inner : Syntax} {inside rest middle after : List Token}
       → Expression rest (token closeParen closer ∷ middle) object → Statement middle after inner
       → Among parts (node forInSyntax (word .mark) (snoc (snoc nil start) object) inner)
-      → ((low : ℕ) → Counting total low inside → MarkIn low start)
-      → ((low : ℕ) → Counting total low inside → MarksTo total low (token inWord sign ∷ rest) start)
-      → (Held total parts (token inWord sign ∷ rest) → Held total parts inside) → Held total parts rest
-      → Held total parts (token forWord word ∷ token openParen opener ∷ inside)
+      → ((low : ℕ) → Counting all total low inside → MarkIn low start)
+      → ((low : ℕ) → Counting all total low inside → MarksTo all total low (token inWord sign ∷ rest) start)
+      → (Held all total parts (token inWord sign ∷ rest) → Held all total parts inside) → Held all total parts rest
+      → Held all total parts (token forWord word ∷ token openParen opener ∷ inside)
   iterated {word} {sign = sign} {start = start} {object = object} {inner = inner} value body among first marks before r low counting =
       let m = at-mark forWord tt counting in
       let o = at-mark openParen tt (m .then) in
       let s = marks (low + 1 + 1) (o .then) in
       let n = at-mark inWord tt (s .rest) in
-      let v = marked value (n .then) in
-      let b = marked body (past-closer closeParen tt (v .rest)) in
-      let start-at : low + 1 + 1 ≡ word .mark + 2 = omega (arith, m .own) in
-      let object-at : s .high + 1 ≡ sign .mark + 1 = omega (arith, n .own) in
-      let own : Iterates (word .mark) (sign .mark) start object inner = record {
-        begins = subst (λ (x : ℕ). List·Memᴰ x (marksOf start)) start-at (first (low + 1 + 1) (o .then) .member);
-        before = λ x member. omega (arith, within (s .marks) x member);
-        next = subst (λ (x : ℕ). List·Memᴰ x (marksOf object)) object-at (expression-first value (n .then) .member);
-        behind = λ x member. omega (arith, within (marks-both (v .marks) (b .marks)) x member);
-      } in
-      other forWord tt (other openParen tt (before (taken (λ h. has-in refl (iterates (own-part among) own)) r))) low counting
+      let v = marked value tt (n .then) in
+      let b = marked body tt (past-closer closeParen tt (v .rest)) in
+      let own = iterating (m .own) (first (low + 1 + 1) (o .then)) (s .marks) (n .own) (expression-first value (n .then)) (v .marks) (b .marks) in
+      other forWord tt (other openParen tt (before (taken (λ h. has-in refl (iterates (own-part among) own (in-unmarked free (own-part among) own))) r))) low counting
 
-  item-recorded : {items : Items} {before after : List Token} → ItemStart items before after → Held total parts after → Held total parts before
+  item-recorded : {items : Items} {before after : List Token} → ItemStart items before after → Held all total parts after → Held all total parts before
   item-recorded at-argument r = r
   item-recorded at-element r = r
   item-recorded (at-property {class = class} called) r = other class (name-other called) (other colon tt r)
 
-  names-recorded : {before after : List Token} → Names before after → Held total parts after → Held total parts before
+  names-recorded : {before after : List Token} → Names before after → Held all total parts after → Held all total parts before
   names-recorded one-name r = other name tt r
   names-recorded (more-names names) r = names-recorded names (other comma tt (other name tt r))
 
-  parameters-recorded : {before after : List Token} → Parameters before after → Held total parts after → Held total parts before
+  parameters-recorded : {before after : List Token} → Parameters before after → Held all total parts after → Held all total parts before
   parameters-recorded no-parameters r = r
   parameters-recorded (some-parameters names) r = names-recorded names r
 
   -- where those behind a part have their records, those from its start on have theirs
-  derived : {form : Form} {before after : List Token} {value : Syntax} → Derives form before after value → Among parts value → Held total parts after → Held total parts before
-  derived (chain-leaf leaf) a r = starting (at-leaf (λ x. isAmong (firstKinds x) x) tt leaf) (leaf-open leaf) (λ low. marked (chain-leaf {calls = true} leaf)) a r
+  derived : {form : Form} {before after : List Token} {value : Syntax} → Derives form before after value → Among parts value → Held all total parts after → Held all total parts before
+  derived (chain-leaf leaf) a r = starting (at-leaf (λ x. isAmong (firstKinds x) x) tt leaf) (leaf-open leaf) (λ low. marked (chain-leaf {calls = true} leaf) tt) a r
   derived (chain-array values) a r = other openBracket tt (derived values (in-left a) (other closeBracket tt r))
   derived (chain-object values) a r = other openBrace tt (derived values (in-left a) (other closeBrace tt r))
   derived (chain-parens value) a r = other openParen tt (derived value (in-left a) (other closeParen tt r))
@@ -314,28 +263,28 @@ module _ {total : ℕ} {parts : List Part} where
   derived (chain-member {class = class} called object) a r = derived object (in-left a) (other dot tt (other class (name-other called) r))
   derived (chain-call callee values) a r = derived callee (in-left a) (other openParen tt (derived values (in-right a) (other closeParen tt r)))
   derived (chain-new callee values) a r =
-      starting tt tt (λ low. marked (chain-new {calls = true} callee values)) a
+      starting tt tt (λ low. marked (chain-new {calls = true} callee values) tt) a
       (derived callee (in-left a) (other openParen tt (derived values (in-right a) (other closeParen tt r))))
   derived (target-chain chain) a r = derived chain a r
-  derived (target-new callee) a r = starting tt tt (λ low. marked (target-new {calls = true} callee)) a (derived callee (in-right a) r)
+  derived (target-new callee) a r = starting tt tt (λ low. marked (target-new {calls = true} callee) tt) a (derived callee (in-right a) r)
   derived (unary-target target) a r = derived target a r
   derived (unary-prefix {class = class} op operand) a r =
       starting (at-class (λ x. isAmong (firstKinds x) (prefixKind x)) prefixOperators class op tt) (operator-open prefixOperators tt class op)
-      (λ low. marked (unary-prefix op operand)) a (derived operand (in-right a) r)
+      (λ low. marked (unary-prefix op operand) tt) a (derived operand (in-right a) r)
   derived (unary-postfix {class = class} op same operand) a r =
       behind (number-at postfixKind behindKind postfixOperators tt class op) (operator-open postfixOperators tt class op) (λ low. target-first operand) (λ m e. e)
-      (λ low. marked operand) a (λ t. derived operand (in-left a) t) r
+      (λ low. marked operand tt) a (λ t. derived operand (in-left a) t) r
   derived (binary-unary unary) a r = derived unary a r
   derived (binary-operator {within = within} {class = class} op tight left right) a r =
       let among = binary-by within class op in
       behind (number-at (λ x. x) behindKind binaryOperators tt class among) (operator-open binaryOperators tt class among) (λ low. binary-first left) (λ m e. e)
-      (λ low. marked left) a (λ t. derived left (in-left a) t) (derived right (in-right a) r)
+      (λ low. marked left tt) a (λ t. derived left (in-left a) t) (derived right (in-right a) r)
   derived (assign-binary binary) a r = derived binary a r
   derived (assign-to {class = class} op target value) a r =
       behind (number-at (λ x. x) behindKind assignmentOperators tt class op) (operator-open assignmentOperators tt class op) (λ low. target-first target) (λ m e. e)
-      (λ low. marked target) a (λ t. derived target (in-left a) t) (derived value (in-right a) r)
+      (λ low. marked target tt) a (λ t. derived target (in-left a) t) (derived value (in-right a) r)
   derived (assign-conditional {first = inner} condition first second) a r =
-      behind refl tt (λ low. binary-first condition) (λ m e. Memᴰ·append-left (marksOf inner) e) (λ low. marked condition) a (λ t. derived condition (in-before (in-left a)) t)
+      behind refl tt (λ low. binary-first condition) (λ m e. Memᴰ·append-left (marksOf inner) e) (λ low. marked condition tt) a (λ t. derived condition (in-before (in-left a)) t)
       (derived first (in-last (in-left a)) (other colon tt (derived second (in-right a) r)))
   derived (expression-assign value) a r = derived value a r
   derived (expression-comma left right) a r = derived left (in-left a) (other comma tt (derived right (in-right a) r))
@@ -348,7 +297,7 @@ module _ {total : ℕ} {parts : List Part} where
   derived no-variables a r = r
   derived (add-variable variables last) a r = derived variables (in-before a) (derived last (in-last a) (other comma tt r))
   derived variable-bare a r = other name tt r
-  derived (variable-initialised value) a r = initialised a (derived value (in-right a) r)
+  derived (variable-initialised value) a r = initialised value a (derived value (in-right a) r)
   derived statement-empty a r = other semicolon tt r
   derived (statement-if none condition inner) a r =
       other ifWord tt (other openParen tt (derived condition (in-left a) (other closeParen tt (derived inner (in-right a) r))))
@@ -382,14 +331,14 @@ module _ {total : ℕ} {parts : List Part} where
   derived left-out a r = r
   derived (not-left-out value) a r = derived value a r
   derived (statement-for-in target object inner) a r =
-      iterated object inner a (λ low. target-first target) (λ low. marked target) (λ t. derived target (in-last (in-before (in-left a))) t)
+      iterated object inner a (λ low. target-first target) (λ low. marked target tt) (λ t. derived target (in-last (in-before (in-left a))) t)
       (derived object (in-last (in-left a)) (other closeParen tt (derived inner (in-right a) r)))
   derived (statement-for-var-in variable object inner) a r =
       iterated object inner a (λ low. own-first varWord tt)
       (λ low counting.
       let d = at-mark varWord tt counting in
-      let v = marked variable (d .then) in
-      record { high = v .high; rest = v .rest; marks = before-parts (d .own) (omega arith) (no-marks (low + 1)) (v .marks) })
+      let v = marked variable tt (d .then) in
+      record { high = v .high; rest = v .rest; marks = before-parts (plain tt) (d .own) (omega arith) (no-marks (low + 1)) (v .marks) })
       (λ t. other varWord tt (derived variable (in-right (in-last (in-before (in-left a)))) t))
       (derived object (in-last (in-left a)) (other closeParen tt (derived inner (in-right a) r)))
   derived (statement-bare-jump {class = class} jumps) a r = other class (jump-other jumps) (other semicolon tt r)
@@ -432,12 +381,12 @@ module _ {total : ℕ} {parts : List Part} where
   derived (list-items allowed values) a r = derived values a r
   derived (list-last values starts last) a r = derived values (in-before a) (item-recorded starts (derived last (in-last a) r))
 
-module _ {total low : ℕ} {all : List Token} {value : Syntax} (counting : Counting total low all) (program : Program all value) (before : List Token) where
+module _ {total low : ℕ} {all : List Token} {value : Syntax} (counting : Counting all total low all) (program : Program all value) (before : List Token) where
   has-at : (class : ℕ) (spot : Spot) (after : List Token) → all ≡ before ++ (token class spot ∷ after) → T (mayMark class)
       → Has class (spot .mark) (partsOf value)
   has-at class spot after split h =
       recorded-at before class spot after
-      (subst (Recorded (partsOf value)) split (derived program (record { each = λ p member. member }) (λ end none. recorded-none) low counting)) h
+      (subst (Recorded (partsOf value)) split (derived (gaps (marked program tt counting .marks)) program (record { each = λ p member. member }) (λ end none. recorded-none) low counting)) h
 
   pub token-recorded : (class : ℕ) (spot : Spot) (after : List Token) → all ≡ before ++ (token class spot ∷ after) → T (isRecorded class)
       → Makes class (spot .mark) (partsOf value)

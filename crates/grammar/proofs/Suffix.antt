@@ -90,15 +90,15 @@ pub data EndsWith : List Token → List Token → Type 0 where
   itself : {here : List Token} → EndsWith here here
   behind : {t : Token} {before after : List Token} → EndsWith before after → EndsWith (t ∷ before) after
 
-past : {t : Token} {before after : List Token} → EndsWith before (t ∷ after) → EndsWith before after
+pub past : {t : Token} {before after : List Token} → EndsWith before (t ∷ after) → EndsWith before after
 past itself = behind itself
 past (behind e) = behind (past e)
 
-then : {before middle after : List Token} → EndsWith before middle → EndsWith middle after → EndsWith before after
+pub then : {before middle after : List Token} → EndsWith before middle → EndsWith middle after → EndsWith before after
 then itself e = e
 then (behind d) e = behind (then d e)
 
-item-end : {items : Items} {before after : List Token} → ItemStart items before after → EndsWith before after
+pub item-end : {items : Items} {before after : List Token} → ItemStart items before after → EndsWith before after
 item-end at-argument = itself
 item-end at-element = itself
 item-end (at-property called) = behind (behind itself)
@@ -107,7 +107,7 @@ names-end : {before after : List Token} → Names before after → EndsWith befo
 names-end one-name = behind itself
 names-end (more-names names) = past (past (names-end names))
 
-parameters-end : {before after : List Token} → Parameters before after → EndsWith before after
+pub parameters-end : {before after : List Token} → Parameters before after → EndsWith before after
 parameters-end no-parameters = itself
 parameters-end (some-parameters names) = names-end names
 
