@@ -1,2 +1,3 @@
+pub mod BriefLaws
 pub mod RunLaws
 pub mod StepLaws

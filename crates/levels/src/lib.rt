@@ -5,7 +5,9 @@ ghost use Prim.Native.Nat.{_≤_};
 ghost use Rattle.controls.specs.Machinery.Numbers.{insideBy};
 ghost use Rattle.segments.specs.Machinery.Segments.{segment, inside};
 ghost use Rattle.levels.specs.Machinery.Runs.{MayRun, MayOpen, Ran, RanStatements, RanExpression, RanFunction};
+use brief::Found;
 use controls::Step;
+use controls::records;
 use groups::Parsed;
 use tables::TreeRecord;
 
@@ -91,8 +93,49 @@ fn level(
     groups::at_closer(control, closer, close, l, waiting, syntax)
 }
 
-// The inside of a group, by what the group is: the part of the table that starts behind the opener's record.
+// A group: one that is brief needs no level.
 fn group(
+    text: &[u8],
+    trees: &[u32],
+    base: usize,
+    at: usize,
+    closer: u32,
+    closing: u32,
+    waiting: &mut [u16],
+    top: usize,
+    syntax: &mut [u32],
+    count: usize,
+) -> Parsed
+    requires { ⌜ MayOpen (segment (now text) (now trees) base 0) at closer count top (now waiting) ⌝ }
+    ensures { λ r. ⌜ Ran closer (inside (segment (now (text .entry)) (now (trees .entry)) base 0) at) (insideBy closing) count top (now (syntax .entry)) (now (waiting .entry)) r (now (syntax .exit)) (now (waiting .exit)) ⌝ }
+{
+    let within = segments::inside(trees, at);
+    let found = brief::look_inside(within, closer, closing);
+    match found {
+        Found::Nothing => Parsed::Done(count, false),
+        Found::Operand(class) => {
+            Parsed::Done(
+                records::put(syntax, count, class, base + at + 1, count),
+                false,
+            )
+        }
+        Found::Longer => content(
+            text,
+            trees,
+            base,
+            at,
+            closer,
+            closing,
+            waiting,
+            top,
+            syntax,
+            count,
+        ),
+    }
+}
+
+// The inside of a group, by what the group is: the part of the table that starts behind the opener's record.
+fn content(
     text: &[u8],
     trees: &[u32],
     base: usize,

@@ -1,4 +1,4 @@
--- The five functions of the cycle meet their contracts: a turn of `level` is one law by what the step means, and the records left fall.
+-- The six functions of the cycle meet their contracts: a turn of `level` is one law by what the step means, and the records left fall.
 use Prim.{tt}
 use Prim.Native.Nat.{ℕ, _+_, _-_, _*_, _<_}
 use mathlib.Core.Path.{_≡_, refl, _∙_}
@@ -8,24 +8,28 @@ use lib.ListN.{length}
 use Rattle.controls.specs.Machinery.Numbers.{controlOf, insideBy}
 use Rattle.segments.specs.Machinery.Segments.{segment, countOf}
 use Rattle.levels.proofs.RunLaws.{Underway, somewhere, starts-underway, ran-to-closer}
+use Rattle.levels.proofs.BriefLaws.{found-there, nothing-ran, operand-ran}
 use Rattle.levels.proofs.StepLaws.{Arrival, fails, may-affect, affected, may-enter, entered, may-ask, asked, may-turn, turned, class-small, may-open, inner-dies, may-close, closed, open-any, may-run, fewer-inside, as-inside, body-scope, body-inside, block-inside, ran-as}
 use borrow.Fn.Kinds.{In}
 use borrow.Fn.PlainCycle.{Measures, is, falls, and}
+use Rattle.levels.proofs.content.Reads as content
+use Rattle.levels.proofs.content.Kinds as content-kinds
+use Rattle.levels.proofs.+content+expression+function+group+level+statements.Lts-content as content-lts
 use Rattle.levels.proofs.expression.Reads as expression
 use Rattle.levels.proofs.expression.Kinds as expression-kinds
-use Rattle.levels.proofs.+expression+function+group+level+statements.Lts-expression as expression-lts
+use Rattle.levels.proofs.+content+expression+function+group+level+statements.Lts-expression as expression-lts
 use Rattle.levels.proofs.function.Reads as function
 use Rattle.levels.proofs.function.Kinds as function-kinds
-use Rattle.levels.proofs.+expression+function+group+level+statements.Lts-function as function-lts
+use Rattle.levels.proofs.+content+expression+function+group+level+statements.Lts-function as function-lts
 use Rattle.levels.proofs.group.Reads as group
 use Rattle.levels.proofs.group.Kinds as group-kinds
-use Rattle.levels.proofs.+expression+function+group+level+statements.Lts-group as group-lts
+use Rattle.levels.proofs.+content+expression+function+group+level+statements.Lts-group as group-lts
 use Rattle.levels.proofs.level.Reads as level
 use Rattle.levels.proofs.level.Kinds as level-kinds
-use Rattle.levels.proofs.+expression+function+group+level+statements.Lts-level as level-lts
+use Rattle.levels.proofs.+content+expression+function+group+level+statements.Lts-level as level-lts
 use Rattle.levels.proofs.statements.Reads as statements
 use Rattle.levels.proofs.statements.Kinds as statements-kinds
-use Rattle.levels.proofs.+expression+function+group+level+statements.Lts-statements as statements-lts
+use Rattle.levels.proofs.+content+expression+function+group+level+statements.Lts-statements as statements-lts
 use Rattle.controls.proofs.inside_of.Reads as inside-of-reads
 use Rattle.rows.proofs.row.Reads as row-reads
 use Rattle.controls.proofs.around.Reads as around-reads
@@ -45,8 +49,13 @@ use Rattle.segments.proofs.inside.Reads as inside-reads
 use Rattle.segments.proofs.newline_at.Reads as newline-at-reads
 use Rattle.segments.proofs.place_at.Reads as place-at-reads
 use Rattle.segments.proofs.size_at.Reads as size-at-reads
-use Rattle.levels.proofs.+expression+function+group+level+statements.{statement}
-use Rattle.levels.proofs.+expression+function+group+level+statements.Tie.{close}
+use Rattle.controls.proofs.records.put.Reads as put-reads
+use Rattle.brief.proofs.look_inside.Reads as look-inside-reads
+use Rattle.levels.proofs.+content+expression+function+group+level+statements.{statement}
+use Rattle.levels.proofs.+content+expression+function+group+level+statements.Tie.{close}
+
+abbrev μ-content : Measures 4 content-kinds.ps ℕ
+μ-content κs a = 8 * countOf (a .1 .0 .now)
 
 abbrev μ-expression : Measures 4 expression-kinds.ps ℕ
 μ-expression κs a = 8 * countOf (a .1 .0 .now) + 3
@@ -62,6 +71,12 @@ abbrev μ-level : Measures 4 level-kinds.ps ℕ
 
 abbrev μ-statements : Measures 4 statements-kinds.ps ℕ
 μ-statements κs a = 8 * countOf (a .1 .0 .now) + 3
+
+abbrev content-at : ℕ → In 4 content-kinds.ps
+content-at t = and 4 content-kinds.ps (is 4 content-kinds.ps μ-content t) content.Pre
+
+abbrev content-below : ℕ → In 4 content-kinds.ps
+content-below t = and 4 content-kinds.ps (falls 4 content-kinds.ps _<_ μ-content t) content.Pre
 
 abbrev expression-at : ℕ → In 4 expression-kinds.ps
 expression-at t =
@@ -104,14 +119,65 @@ expression-claims t = (level-below t, level.Post)
 abbrev function-claims : ℕ → function-lts.Claims
 function-claims t = (statements-below t, statements.Post)
 
+abbrev content-claims : ℕ → content-lts.Claims
+content-claims t = (inside-reads.Asked, inside-reads.Learnt, closer-at-reads.Asked, closer-at-reads.Learnt, statements-below t, statements.Post, function-below t, function.Post, expression-below t, expression.Post)
+
 abbrev group-claims : ℕ → group-lts.Claims
-group-claims t = (inside-reads.Asked, inside-reads.Learnt, closer-at-reads.Asked, closer-at-reads.Learnt, statements-below t, statements.Post, function-below t, function.Post, expression-below t, expression.Post)
+group-claims t = (inside-reads.Asked, inside-reads.Learnt, look-inside-reads.Asked, look-inside-reads.Learnt, put-reads.Asked, put-reads.Learnt, content-below t, content.Post)
 
 abbrev level-claims : ℕ → level-lts.Claims
 level-claims t = (inside-of-reads.Asked, inside-of-reads.Learnt, empty-reads.Asked, empty-reads.Learnt, class-at-reads.Asked, class-at-reads.Learnt, newline-at-reads.Asked, newline-at-reads.Learnt, ready-reads.Asked, ready-reads.Learnt, row-reads.Asked, row-reads.Learnt, place-at-reads.Asked, place-at-reads.Learnt, affect-reads.Asked, affect-reads.Learnt, entered-reads.Asked, entered-reads.Learnt, inside-entered-reads.Asked, inside-entered-reads.Learnt, asked-reads.Asked, asked-reads.Learnt, turned-reads.Asked, turned-reads.Learnt, group-below t, group.Post, closing-by-reads.Asked, closing-by-reads.Learnt, close-reads.Asked, close-reads.Learnt, size-at-reads.Asked, size-at-reads.Learnt, at-closer-reads.Asked, at-closer-reads.Learnt)
 
 abbrev statements-claims : ℕ → statements-lts.Claims
 statements-claims t = (around-reads.Asked, around-reads.Learnt, level-below t, level.Post)
+
+content-inside-requires : (t : ℕ) → content-lts.Need-inside-requires (content-claims t) (content-at t) content.Post
+content-inside-requires t c κs = let f = (c .before .before .before .before) .pre .1 .fine .at ((c .before .before .before .before) .args .at) ((c .before .before .before .before) .pre .1 .here) in (f .some, f .fits)
+
+content-closer-at-requires : (t : ℕ) → content-lts.Need-closer-at-requires (content-claims t) (content-at t) content.Post
+content-closer-at-requires t c κs = tt
+
+content-add-first : (t : ℕ) → content-lts.Need-add-first (content-claims t) (content-at t) content.Post
+content-add-first t c = search needs
+
+content-add-first-2 : (t : ℕ) → content-lts.Need-add-first-2 (content-claims t) (content-at t) content.Post
+content-add-first-2 t c = search needs
+
+content-statements-requires : (t : ℕ) → content-lts.Need-statements-requires (content-claims t) (content-at t) content.Post
+content-statements-requires t c κs = (omega (arith, (c .before .before .before .before .before .before .before .before .before) .pre .0, fewer-inside ((c .before .before .before .before .before .before .before .before .before) .pre .1) ((c .before .before .before .before .inside) .ensures) ((c .before .before .before .closer-at) .ensures)), (may-run ((c .before .before .before .before .before .before .before .before .before) .pre .1) ((c .before .before .before .before .inside) .ensures) ((c .before .before .before .closer-at) .ensures), omega arith))
+
+content-function-requires : (t : ℕ) → content-lts.Need-function-requires (content-claims t) (content-at t) content.Post
+content-function-requires t c κs = (omega (arith, (c .before .before .before .before .before .before .before .before .before .before .before) .pre .0, fewer-inside ((c .before .before .before .before .before .before .before .before .before .before .before) .pre .1) ((c .before .before .before .before .before .before .inside) .ensures) ((c .before .before .before .before .before .closer-at) .ensures)), may-run ((c .before .before .before .before .before .before .before .before .before .before .before) .pre .1) ((c .before .before .before .before .before .before .inside) .ensures) ((c .before .before .before .before .before .closer-at) .ensures))
+
+content-expression-requires : (t : ℕ) → content-lts.Need-expression-requires (content-claims t) (content-at t) content.Post
+content-expression-requires t c κs = (omega (arith, (c .before .before .before .before .before .before .before .before .before .before) .pre .0, fewer-inside ((c .before .before .before .before .before .before .before .before .before .before) .pre .1) ((c .before .before .before .before .before .inside) .ensures) ((c .before .before .before .before .closer-at) .ensures)), may-run ((c .before .before .before .before .before .before .before .before .before .before) .pre .1) ((c .before .before .before .before .before .inside) .ensures) ((c .before .before .before .before .closer-at) .ensures))
+
+content-same-length : (t : ℕ) → content-lts.Need-same-length (content-claims t) (content-at t) content.Post
+content-same-length t c = c .before .before .before .waiting .given
+
+content-same-length-2 : (t : ℕ) → content-lts.Need-same-length-2 (content-claims t) (content-at t) content.Post
+content-same-length-2 t c = c .before .syntax .given
+
+content-returns : (t : ℕ) → content-lts.Need-returns (content-claims t) (content-at t) content.Post
+content-returns t c = as-inside ((c .before .before .before .before .before .before .before .before .before .before .before .before .before .before) .pre .1) ((c .before .before .before .before .before .before .before .before .before .inside) .ensures) ((c .before .before .before .before .before .before .before .before .closer-at) .ensures) ((c .before .before .before .before .statements) .ensures) (block-inside ((c .before .before .before .before .before .before .before .match) .keys1))
+
+content-same-length-3 : (t : ℕ) → content-lts.Need-same-length-3 (content-claims t) (content-at t) content.Post
+content-same-length-3 t c = c .before .before .before .waiting2 .given
+
+content-same-length-4 : (t : ℕ) → content-lts.Need-same-length-4 (content-claims t) (content-at t) content.Post
+content-same-length-4 t c = c .before .syntax2 .given
+
+content-returns-2 : (t : ℕ) → content-lts.Need-returns-2 (content-claims t) (content-at t) content.Post
+content-returns-2 t c = as-inside ((c .before .before .before .before .before .before .before .before .before .before .before .before .before .before .before .before) .pre .1) ((c .before .before .before .before .before .before .before .before .before .before .before .inside) .ensures) ((c .before .before .before .before .before .before .before .before .before .before .closer-at) .ensures) ((c .before .before .before .before .function) .ensures) (body-inside ((c .before .before .before .before .before .before .before .before .before .before .before .before .before .before .before .before) .args .closing) ((c .before .before .before .before .before .before .before .before .before .match) .rest .1) ((c .before .before .before .before .before .before .before .before .if1) .left) ((c .before .before .before .before .before .before .before .if2) .taken))
+
+content-same-length-5 : (t : ℕ) → content-lts.Need-same-length-5 (content-claims t) (content-at t) content.Post
+content-same-length-5 t c = c .before .before .before .waiting3 .given
+
+content-same-length-6 : (t : ℕ) → content-lts.Need-same-length-6 (content-claims t) (content-at t) content.Post
+content-same-length-6 t c = c .before .syntax3 .given
+
+content-returns-3 : (t : ℕ) → content-lts.Need-returns-3 (content-claims t) (content-at t) content.Post
+content-returns-3 t c = as-inside ((c .before .before .before .before .before .before .before .before .before .before .before .before .before .before .before) .pre .1) ((c .before .before .before .before .before .before .before .before .before .before .inside) .ensures) ((c .before .before .before .before .before .before .before .before .before .closer-at) .ensures) ((c .before .before .before .before .expression) .ensures) refl
 
 expression-level-requires : (t : ℕ) → expression-lts.Need-level-requires (expression-claims t) (expression-at t) expression.Post
 expression-level-requires t c κs = let s = c .before .before .before .before .before .before in (omega (arith, s .pre .0), s .pre .1)
@@ -142,50 +208,47 @@ function-returns t c = ran-as ((c .before .before .before .before .statements) .
 group-inside-requires : (t : ℕ) → group-lts.Need-inside-requires (group-claims t) (group-at t) group.Post
 group-inside-requires t c κs = let f = (c .before .before .before .before) .pre .1 .fine .at ((c .before .before .before .before) .args .at) ((c .before .before .before .before) .pre .1 .here) in (f .some, f .fits)
 
-group-closer-at-requires : (t : ℕ) → group-lts.Need-closer-at-requires (group-claims t) (group-at t) group.Post
-group-closer-at-requires t c κs = tt
+group-look-inside-requires : (t : ℕ) → group-lts.Need-look-inside-requires (group-claims t) (group-at t) group.Post
+group-look-inside-requires t c κs = tt
 
-group-add-first : (t : ℕ) → group-lts.Need-add-first (group-claims t) (group-at t) group.Post
-group-add-first t c = search needs
+group-enum-told : (t : ℕ) → group-lts.Need-enum-told (group-claims t) (group-at t) group.Post
+group-enum-told t c = c .match .keys1
 
-group-add-first-2 : (t : ℕ) → group-lts.Need-add-first-2 (group-claims t) (group-at t) group.Post
-group-add-first-2 t c = search needs
+group-enum-known-found : (t : ℕ) → group-lts.Need-enum-known-found (group-claims t) (group-at t) group.Post
+group-enum-known-found t c = c .match .keys2
 
-group-statements-requires : (t : ℕ) → group-lts.Need-statements-requires (group-claims t) (group-at t) group.Post
-group-statements-requires t c κs = (omega (arith, (c .before .before .before .before .before .before .before .before .before) .pre .0, fewer-inside ((c .before .before .before .before .before .before .before .before .before) .pre .1) ((c .before .before .before .before .inside) .ensures) ((c .before .before .before .closer-at) .ensures)), (may-run ((c .before .before .before .before .before .before .before .before .before) .pre .1) ((c .before .before .before .before .inside) .ensures) ((c .before .before .before .closer-at) .ensures), omega arith))
+group-add-put : (t : ℕ) → group-lts.Need-add-put (group-claims t) (group-at t) group.Post
+group-add-put t c = search needs
 
-group-function-requires : (t : ℕ) → group-lts.Need-function-requires (group-claims t) (group-at t) group.Post
-group-function-requires t c κs = (omega (arith, (c .before .before .before .before .before .before .before .before .before .before .before) .pre .0, fewer-inside ((c .before .before .before .before .before .before .before .before .before .before .before) .pre .1) ((c .before .before .before .before .before .before .inside) .ensures) ((c .before .before .before .before .before .closer-at) .ensures)), may-run ((c .before .before .before .before .before .before .before .before .before .before .before) .pre .1) ((c .before .before .before .before .before .before .inside) .ensures) ((c .before .before .before .before .before .closer-at) .ensures))
+group-add-put-2 : (t : ℕ) → group-lts.Need-add-put-2 (group-claims t) (group-at t) group.Post
+group-add-put-2 t c = search needs
 
-group-expression-requires : (t : ℕ) → group-lts.Need-expression-requires (group-claims t) (group-at t) group.Post
-group-expression-requires t c κs = (omega (arith, (c .before .before .before .before .before .before .before .before .before .before) .pre .0, fewer-inside ((c .before .before .before .before .before .before .before .before .before .before) .pre .1) ((c .before .before .before .before .before .inside) .ensures) ((c .before .before .before .before .closer-at) .ensures)), may-run ((c .before .before .before .before .before .before .before .before .before .before) .pre .1) ((c .before .before .before .before .before .inside) .ensures) ((c .before .before .before .before .closer-at) .ensures))
+group-put-requires : (t : ℕ) → group-lts.Need-put-requires (group-claims t) (group-at t) group.Post
+group-put-requires t c κs = let s = c .before .before .before .before .before .before .before .before .before .before in (omega arith, omega (arith, s .pre .1 .low, s .pre .1 .here, s .pre .1 .fine .few), omega (arith, s .pre .1 .here, s .pre .1 .fine .few))
 
-group-same-length : (t : ℕ) → group-lts.Need-same-length (group-claims t) (group-at t) group.Post
-group-same-length t c = c .before .before .before .waiting .given
+group-enum-told-2 : (t : ℕ) → group-lts.Need-enum-told-2 (group-claims t) (group-at t) group.Post
+group-enum-told-2 t c = c .match .keys3
 
-group-same-length-2 : (t : ℕ) → group-lts.Need-same-length-2 (group-claims t) (group-at t) group.Post
-group-same-length-2 t c = c .before .syntax .given
+group-content-requires : (t : ℕ) → group-lts.Need-content-requires (group-claims t) (group-at t) group.Post
+group-content-requires t c κs = let s = c .before .before .before .before .before .before .before .before .before .before in (omega (arith, s .pre .0), s .pre .1)
 
 group-returns : (t : ℕ) → group-lts.Need-returns (group-claims t) (group-at t) group.Post
-group-returns t c = as-inside ((c .before .before .before .before .before .before .before .before .before .before .before .before .before .before) .pre .1) ((c .before .before .before .before .before .before .before .before .before .inside) .ensures) ((c .before .before .before .before .before .before .before .before .closer-at) .ensures) ((c .before .before .before .before .statements) .ensures) (block-inside ((c .before .before .before .before .before .before .before .match) .keys1))
+group-returns t c = let s = c .before .before .before .before .before .before .before .before in nothing-ran (s .pre .1) (found-there (s .pre .1) (c .before .before .before .inside .ensures) (c .before .before .look-inside .ensures)) (c .enum-told .given .1)
 
-group-same-length-3 : (t : ℕ) → group-lts.Need-same-length-3 (group-claims t) (group-at t) group.Post
-group-same-length-3 t c = c .before .before .before .waiting2 .given
-
-group-same-length-4 : (t : ℕ) → group-lts.Need-same-length-4 (group-claims t) (group-at t) group.Post
-group-same-length-4 t c = c .before .syntax2 .given
+group-same-length : (t : ℕ) → group-lts.Need-same-length (group-claims t) (group-at t) group.Post
+group-same-length t c = c .before .syntax .given
 
 group-returns-2 : (t : ℕ) → group-lts.Need-returns-2 (group-claims t) (group-at t) group.Post
-group-returns-2 t c = as-inside ((c .before .before .before .before .before .before .before .before .before .before .before .before .before .before .before .before) .pre .1) ((c .before .before .before .before .before .before .before .before .before .before .before .inside) .ensures) ((c .before .before .before .before .before .before .before .before .before .before .closer-at) .ensures) ((c .before .before .before .before .function) .ensures) (body-inside ((c .before .before .before .before .before .before .before .before .before .before .before .before .before .before .before .before) .args .closing) ((c .before .before .before .before .before .before .before .before .before .match) .rest .1) ((c .before .before .before .before .before .before .before .before .if1) .left) ((c .before .before .before .before .before .before .before .if2) .taken))
+group-returns-2 t c = let s = c .before .before .before .before .before .before .before .before .before .before .before .before .before in operand-ran (s .pre .1) (found-there (s .pre .1) (c .before .before .before .before .before .before .before .before .inside .ensures) (c .before .before .before .before .before .before .before .look-inside .ensures)) (c .before .before .before .before .before .found .given .1) (c .before .before .put .ensures)
 
-group-same-length-5 : (t : ℕ) → group-lts.Need-same-length-5 (group-claims t) (group-at t) group.Post
-group-same-length-5 t c = c .before .before .before .waiting3 .given
+group-same-length-2 : (t : ℕ) → group-lts.Need-same-length-2 (group-claims t) (group-at t) group.Post
+group-same-length-2 t c = c .before .before .before .waiting .given
 
-group-same-length-6 : (t : ℕ) → group-lts.Need-same-length-6 (group-claims t) (group-at t) group.Post
-group-same-length-6 t c = c .before .syntax3 .given
+group-same-length-3 : (t : ℕ) → group-lts.Need-same-length-3 (group-claims t) (group-at t) group.Post
+group-same-length-3 t c = c .before .syntax2 .given
 
 group-returns-3 : (t : ℕ) → group-lts.Need-returns-3 (group-claims t) (group-at t) group.Post
-group-returns-3 t c = as-inside ((c .before .before .before .before .before .before .before .before .before .before .before .before .before .before .before) .pre .1) ((c .before .before .before .before .before .before .before .before .before .before .inside) .ensures) ((c .before .before .before .before .before .before .before .before .before .closer-at) .ensures) ((c .before .before .before .before .expression) .ensures) refl
+group-returns-3 t c = c .before .before .before .before .content .ensures
 
 abbrev level-Inv-loop : level-lts.InvT-loop
 level-Inv-loop text trees base close closer inside waiting₀ top syntax₀ count number control₀ l₀ at₀ waiting syntax control l at =
@@ -391,9 +454,39 @@ statements-same-length-2 t c = c .before .syntax .given
 statements-returns : (t : ℕ) → statements-lts.Need-returns (statements-claims t) (statements-at t) statements.Post
 statements-returns t c = ran-as ((c .before .before .before .before .level) .ensures) ((c .before .before .before .before .before .before .before .around) .ensures ((c .before .before .before .before .before .before .before .before .before .before .before .before) .pre .1 .1))
 
-pub +expression+function+group+level+statements-spec : {M : Type 1} → statement M
-+expression+function+group+level+statements-spec =
-    close μ-expression μ-function μ-group μ-level μ-statements (λ t. expression-lts.spec
+pub +content+expression+function+group+level+statements-spec : {M : Type 1} → statement M
++content+expression+function+group+level+statements-spec =
+    close μ-content μ-expression μ-function μ-group μ-level μ-statements (λ t. content-lts.spec (
+      inside-reads.Asked,
+      inside-reads.Learnt,
+      closer-at-reads.Asked,
+      closer-at-reads.Learnt,
+      statements-below t,
+      statements.Post,
+      function-below t,
+      function.Post,
+      expression-below t,
+      expression.Post,
+    )
+    (content-at t)
+    content.Post
+    (content-inside-requires t)
+    (content-closer-at-requires t)
+    (content-add-first t)
+    (content-add-first-2 t)
+    (content-statements-requires t)
+    (content-function-requires t)
+    (content-expression-requires t)
+    (content-same-length t)
+    (content-same-length-2 t)
+    (content-returns t)
+    (content-same-length-3 t)
+    (content-same-length-4 t)
+    (content-returns-2 t)
+    (content-same-length-5 t)
+    (content-same-length-6 t)
+    (content-returns-3 t))
+    (λ t. expression-lts.spec
     (level-below t, level.Post)
     (expression-at t)
     expression.Post
@@ -412,32 +505,29 @@ pub +expression+function+group+level+statements-spec : {M : Type 1} → statemen
     (λ t. group-lts.spec (
       inside-reads.Asked,
       inside-reads.Learnt,
-      closer-at-reads.Asked,
-      closer-at-reads.Learnt,
-      statements-below t,
-      statements.Post,
-      function-below t,
-      function.Post,
-      expression-below t,
-      expression.Post,
+      look-inside-reads.Asked,
+      look-inside-reads.Learnt,
+      put-reads.Asked,
+      put-reads.Learnt,
+      content-below t,
+      content.Post,
     )
     (group-at t)
     group.Post
     (group-inside-requires t)
-    (group-closer-at-requires t)
-    (group-add-first t)
-    (group-add-first-2 t)
-    (group-statements-requires t)
-    (group-function-requires t)
-    (group-expression-requires t)
-    (group-same-length t)
-    (group-same-length-2 t)
+    (group-look-inside-requires t)
+    (group-enum-told t)
+    (group-enum-known-found t)
+    (group-add-put t)
+    (group-add-put-2 t)
+    (group-put-requires t)
+    (group-enum-told-2 t)
+    (group-content-requires t)
     (group-returns t)
-    (group-same-length-3 t)
-    (group-same-length-4 t)
+    (group-same-length t)
     (group-returns-2 t)
-    (group-same-length-5 t)
-    (group-same-length-6 t)
+    (group-same-length-2 t)
+    (group-same-length-3 t)
     (group-returns-3 t))
     (λ t. level-lts.spec (
       inside-of-reads.Asked,
