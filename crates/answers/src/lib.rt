@@ -1,4 +1,4 @@
-// The answer of reading, respacing and parsing, and the numbers of the faults of elements.
+// The answer of reading, respacing and parsing, what the scanners of literals answer, and the numbers of the faults of elements.
 ghost use mathlib.Core.Path.{_≡_};
 ghost use Rattle.answers.specs.Answers.{numberOf, valueOf};
 
@@ -30,4 +30,10 @@ impl Answer {
             Answer::Refused(_, place) => place,
         }
     }
+}
+
+// A number, string or regular expression, as it is cut: the offset past its last byte, or a fault's number and place.
+pub enum Literal {
+    Ends(usize),
+    Fault(u32, usize),
 }

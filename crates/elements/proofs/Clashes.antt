@@ -4,7 +4,7 @@ use Prim.Native.Nat.{ℕ}
 use mathlib.Core.Bool.{Bool}
 use native.Mathlib.Omega.{arith}
 use Rattle.gaps.specs.declared.Gap.{Gap}
-use Rattle.literals.specs.declared.Literal.{Literal}
+use Rattle.answers.specs.declared.Literal.{Literal}
 use Rattle.elements.specs.declared.Element.{Element}
 use Rattle.elements.specs.declared.Next.{Next}
 

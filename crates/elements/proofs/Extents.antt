@@ -16,7 +16,7 @@ use Rattle.literals.proofs.NumberLaws.{number-some, number-within}
 use Rattle.literals.specs.Strings.{stringRest, backslash}
 use Rattle.literals.specs.Patterns.{patternRest}
 use Rattle.gaps.specs.declared.Gap.{Gap}
-use Rattle.literals.specs.declared.Literal.{Literal}
+use Rattle.answers.specs.declared.Literal.{Literal}
 use Rattle.elements.proofs.Choices.{cond-both}
 
 -- a fault from lo to before hi, whose number is one of elements or comments, up to `last`

@@ -35,7 +35,7 @@ use Rattle.elements.specs.Elements.{
 }
 use Rattle.elements.specs.Lexemes.{bytesOf, lexemeOf}
 use Rattle.gaps.specs.declared.Gap.{Gap}
-use Rattle.literals.specs.declared.Literal.{Literal}
+use Rattle.answers.specs.declared.Literal.{Literal}
 use Rattle.elements.specs.declared.Element.{Element}
 use Rattle.elements.specs.declared.Next.{Next}
 use Rattle.elements.specs.declared.Stated.{Stated}

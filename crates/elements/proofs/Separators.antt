@@ -29,7 +29,7 @@ use Rattle.elements.specs.Elements.{
   patternKind,
 }
 use Rattle.gaps.specs.declared.Gap.{Gap}
-use Rattle.literals.specs.declared.Literal.{Literal}
+use Rattle.answers.specs.declared.Literal.{Literal}
 use Rattle.elements.specs.declared.Next.{Next}
 use Rattle.elements.specs.declared.Stated.{Stated}
 use Rattle.elements.proofs.Choices.{cond-map}

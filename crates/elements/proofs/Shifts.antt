@@ -20,7 +20,7 @@ use Rattle.literals.proofs.NumberLaws.{Breaks, number-steady}
 use Rattle.literals.specs.Strings.{stringRest, backslash}
 use Rattle.literals.specs.Patterns.{patternRest}
 use Rattle.gaps.specs.declared.Gap.{Gap}
-use Rattle.literals.specs.declared.Literal.{Literal}
+use Rattle.answers.specs.declared.Literal.{Literal}
 use Rattle.elements.proofs.Choices.{cond-both, cond-follow}
 use Rattle.elements.proofs.Clashes.{no-gap, no-literal}
 use Rattle.elements.proofs.Extents.{gap-reach, newline-reach, block-reach, string-reach, pattern-reach}

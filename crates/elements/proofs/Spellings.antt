@@ -22,7 +22,7 @@ use Rattle.signs.proofs.Spellings.{longest-spelled}
 use Rattle.literals.specs.Numbers.{startsNumber, numberFrom}
 use Rattle.literals.specs.Strings.{quote, stringRest}
 use Rattle.literals.specs.Patterns.{patternRest}
-use Rattle.literals.specs.declared.Literal.{Literal}
+use Rattle.answers.specs.declared.Literal.{Literal}
 use Rattle.elements.specs.Elements.{
   literalElement,
   named,

@@ -20,7 +20,7 @@ use Rattle.literals.specs.Numbers.{startsNumber, numberFrom}
 use Rattle.literals.specs.Strings.{quote, stringRest}
 use Rattle.literals.specs.Patterns.{patternRest}
 use Rattle.gaps.specs.declared.Gap.{Gap}
-use Rattle.literals.specs.declared.Literal.{Literal}
+use Rattle.answers.specs.declared.Literal.{Literal}
 use Rattle.elements.specs.declared.Next.{Next}
 use Rattle.elements.specs.declared.Stated.{Stated}
 

@@ -7,7 +7,7 @@ use lib.ListN.{getD}
 use Rattle.text.specs.Bytes.{nameByte}
 use Rattle.answers.specs.Faults.{badNumber}
 use Rattle.literals.specs.Numbers.{numberLength, numberFrom}
-use Rattle.literals.specs.declared.Literal.{Literal}
+use Rattle.answers.specs.declared.Literal.{Literal}
 
 -- the number at `first`, where s is the text from there on, by whether the byte directly behind it is a name byte
 abbrev pub CutBy : Bool → ℕ → List ℕ → Literal → Type 0

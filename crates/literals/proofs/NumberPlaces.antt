@@ -14,7 +14,7 @@ use Rattle.text.specs.Bytes.{digit, letter, nameByte}
 use Rattle.text.specs.Runs.{run}
 use Rattle.answers.specs.Faults.{badNumber}
 use Rattle.literals.specs.Numbers.{hexDigit, exponentIndicator, plusOrMinus, hexIndicator, runBehind, hexLength, integerLength, fractionLength, exponentLength, decimalLength, numberLength, numberFrom}
-use Rattle.literals.specs.declared.Literal.{Literal}
+use Rattle.answers.specs.declared.Literal.{Literal}
 
 -- a hexadecimal digit by its place among the limits
 pub hex-known : (b : ℕ) (l m n o p q : Bool) → leb 48 b ≡ l → leb b 57 ≡ m → leb 97 b ≡ n → leb b 102 ≡ o → leb 65 b ≡ p → leb b 70 ≡ q

@@ -16,7 +16,7 @@ use Rattle.text.proofs.CodeLaws.{code-passed, code-line-end, code-illegal, code
 use Rattle.answers.specs.Faults.{stray, openPattern}
 use Rattle.literals.specs.Strings.{backslash}
 use Rattle.literals.specs.Patterns.{patternRest}
-use Rattle.literals.specs.declared.Literal.{Literal}
+use Rattle.answers.specs.declared.Literal.{Literal}
 
 module _ (first : ℕ) (s : List ℕ) (i : ℕ) where
   pub pattern-past : (class taken : Bool) → length s ≤ i → patternRest first class taken i (drop i s) ≡ Literal.Fault openPattern first

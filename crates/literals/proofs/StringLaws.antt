@@ -14,7 +14,7 @@ use Rattle.text.proofs.Lists.{drop-at}
 use Rattle.text.proofs.CodeLaws.{code-passed, code-line-end, code-illegal, code-apart, over-passed}
 use Rattle.answers.specs.Faults.{stray, openString}
 use Rattle.literals.specs.Strings.{quote, stringRest, backslash}
-use Rattle.literals.specs.declared.Literal.{Literal}
+use Rattle.answers.specs.declared.Literal.{Literal}
 
 -- a quote is a turning byte
 quote-turns : (q : ℕ) → quote q ≡ true → turning q ≡ true

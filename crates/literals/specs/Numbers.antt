@@ -9,7 +9,7 @@ use Rattle.text.specs.Quoted.{byte}
 use Rattle.text.specs.Bytes.{between, digit, nameByte}
 use Rattle.text.specs.Runs.{run}
 use Rattle.answers.specs.Faults.{badNumber}
-use Rattle.literals.specs.declared.Literal.{Literal}
+use Rattle.answers.specs.declared.Literal.{Literal}
 
 -- "HexDigit :: one of 0 1 2 3 4 5 6 7 8 9 a b c d e f A B C D E F"
 unfoldable pub hexDigit : ℕ → Bool

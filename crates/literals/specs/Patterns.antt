@@ -10,7 +10,7 @@ use Rattle.text.specs.Bytes.{lineEnd, illegal, nameByte}
 use Rattle.text.specs.Runs.{run}
 use Rattle.answers.specs.Faults.{stray, openPattern}
 use Rattle.literals.specs.Strings.{backslash}
-use Rattle.literals.specs.declared.Literal.{Literal}
+use Rattle.answers.specs.declared.Literal.{Literal}
 
 -- the rest of a regular expression whose slash stands at `first`: i is the offset of the list's head, `class` says
 -- whether it stands in a class, and `taken` whether a backslash takes it

@@ -6,7 +6,7 @@ use lib.Dec.{eqb}
 use Rattle.text.specs.Quoted.{byte}
 use Rattle.text.specs.Bytes.{lineEnd, illegal}
 use Rattle.answers.specs.Faults.{stray, openString}
-use Rattle.literals.specs.declared.Literal.{Literal}
+use Rattle.answers.specs.declared.Literal.{Literal}
 
 -- the byte of a backslash
 abbrev pub backslash : ℕ

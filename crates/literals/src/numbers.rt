@@ -8,7 +8,7 @@ ghost use Rattle.text.specs.Bytes.{digit};
 ghost use Rattle.text.specs.Runs.{run};
 ghost use Rattle.text.specs.Machinery.Codes.{byteCodes};
 ghost use Rattle.literals.specs.Numbers.{hexDigit, hexLength, integerLength, fractionLength, exponentLength, decimalLength, numberLength, numberFrom};
-use crate::Literal;
+use answers::Literal;
 use answers::faults::BAD_NUMBER;
 
 fn is_either(b: u8, x: u8, y: u8) -> bool

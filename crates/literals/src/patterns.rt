@@ -4,7 +4,7 @@ ghost use mathlib.Core.Bool.{false};
 ghost use lib.ListN.{drop};
 ghost use Rattle.text.specs.Machinery.Codes.{byteCodes};
 ghost use Rattle.literals.specs.Patterns.{patternRest};
-use crate::Literal;
+use answers::Literal;
 use answers::faults::OPEN_PATTERN;
 use answers::faults::STRAY;
 

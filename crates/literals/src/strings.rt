@@ -4,7 +4,7 @@ ghost use mathlib.Core.Bool.{true, false};
 ghost use lib.ListN.{drop};
 ghost use Rattle.text.specs.Machinery.Codes.{byteCodes};
 ghost use Rattle.literals.specs.Strings.{quote, stringRest};
-use crate::Literal;
+use answers::Literal;
 use answers::faults::OPEN_STRING;
 use answers::faults::STRAY;
 

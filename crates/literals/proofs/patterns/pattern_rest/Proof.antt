@@ -7,7 +7,7 @@ use mathlib.Core.Bool.{false}
 use Prim.Native.Nat.{_-_}
 use lib.ListN.{length, drop}
 use Rattle.literals.specs.Patterns.{patternRest}
-use Rattle.literals.specs.declared.Literal.{Literal}
+use Rattle.answers.specs.declared.Literal.{Literal}
 use Rattle.literals.proofs.PatternLaws.{pattern-past, pattern-passed, pattern-newline, pattern-stray, pattern-taken, pattern-backslash, pattern-class, pattern-close, pattern-more}
 use Rattle.literals.proofs.patterns.pattern_rest.Statement.{statement}
 use Rattle.literals.proofs.patterns.pattern_rest.Tie as tie
