@@ -16,7 +16,7 @@ use Rattle.words.specs.Words.{wordNumber, taken}
 use Rattle.signs.specs.Signs.{longestSign}
 use Rattle.signs.specs.declared.Longest.{Longest}
 use Rattle.signs.proofs.Laws.{longest-own}
-use Rattle.literals.specs.Numbers.{startsNumber, numberFrom}
+use Rattle.numbers.specs.Numbers.{startsNumber, numberFrom}
 use Rattle.literals.specs.Strings.{quote, stringRest}
 use Rattle.literals.specs.Patterns.{patternRest}
 use Rattle.elements.specs.Elements.{
@@ -43,7 +43,7 @@ use Rattle.elements.proofs.Choices.{cond-both, cond-known, cond-follow}
 use Rattle.elements.proofs.Clashes.{no-element}
 use Rattle.elements.proofs.Bounds.{Cut, from-in}
 use Rattle.elements.proofs.Shifts.{no-digit, no-name, string-own, pattern-own, number-size, number-own}
-use Rattle.literals.proofs.NumberLaws.{dotted-two}
+use Rattle.numbers.proofs.NumberLaws.{dotted-two}
 
 -- an element moved to another place, and behind another gap
 abbrev pub moved : ℕ → Bool → ℕ → Element → Next

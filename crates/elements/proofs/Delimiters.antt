@@ -17,7 +17,7 @@ use Rattle.vocabulary.specs.Vocabulary.{spelling, signs, rowAt}
 use Rattle.vocabulary.proofs.RowLaws.{at-row}
 use Rattle.signs.proofs.Spellings.{longest-spelled}
 use Rattle.gaps.specs.Gaps.{gap}
-use Rattle.literals.specs.Numbers.{startsNumber, numberFrom}
+use Rattle.numbers.specs.Numbers.{startsNumber, numberFrom}
 use Rattle.literals.specs.Strings.{quote, stringRest}
 use Rattle.literals.specs.Patterns.{patternRest}
 use Rattle.elements.specs.Elements.{literalElement, named, delimiter, signOrStray, elementFrom, afterGap, elementAt, delimiterKind, numberKind, stringKind, patternKind, signKind}

@@ -11,8 +11,8 @@ use Rattle.text.specs.Bytes.{blank, lineEnd, illegal, digit, nameByte}
 use Rattle.text.proofs.Laws.{run-le}
 use Rattle.answers.specs.Faults.{openString, openPattern, openComment, badNumber}
 use Rattle.gaps.specs.Gaps.{gap, afterSlash, inLine, inBlock}
-use Rattle.literals.specs.Numbers.{numberLength, numberFrom}
-use Rattle.literals.proofs.NumberLaws.{number-some, number-within}
+use Rattle.numbers.specs.Numbers.{numberLength, numberFrom}
+use Rattle.numbers.proofs.NumberLaws.{number-some, number-within}
 use Rattle.literals.specs.Strings.{stringRest, backslash}
 use Rattle.literals.specs.Patterns.{patternRest}
 use Rattle.gaps.specs.declared.Gap.{Gap}

@@ -14,12 +14,12 @@ use Rattle.signs.specs.Signs.{longestSign}
 use Rattle.signs.specs.declared.Longest.{Longest}
 use Rattle.answers.specs.Faults.{openString, openPattern, badNumber}
 use Rattle.gaps.specs.Gaps.{gap}
-use Rattle.literals.specs.Numbers.{startsNumber, numberLength, numberFrom}
-use Rattle.literals.specs.NumericLiterals.{NumericLiteral}
+use Rattle.numbers.specs.Numbers.{startsNumber, numberLength, numberFrom}
+use Rattle.numbers.specs.NumericLiterals.{NumericLiteral}
 use Rattle.literals.specs.Strings.{quote, stringRest}
 use Rattle.literals.specs.Patterns.{patternRest}
-use Rattle.literals.proofs.NumberCuts.{CutBy, number-cut}
-use Rattle.literals.proofs.LongestNumber.{number-literal, number-longest}
+use Rattle.numbers.proofs.NumberCuts.{CutBy, number-cut}
+use Rattle.numbers.proofs.LongestNumber.{number-literal, number-longest}
 use Rattle.elements.specs.Elements.{
   literalElement,
   firstWord,
@@ -51,7 +51,7 @@ pub record CutsNumber (s : List ℕ) (e : Element) : Type 0 where
   pub apart : nameByte (getD s (e .end) 0) ≡ false
 
 -- a place where a number starts, and a digit or another name byte follows its NumericLiteral directly, which is the longest there
--- (`number-longest` of LongestNumber.antt of `literals`)
+-- (`number-longest` of LongestNumber.antt of `numbers`)
 pub record RefusesNumber (s : List ℕ) (at : ℕ) : Type 0 where
   pub starts : startsNumber (drop at s) ≡ true
   pub literal : NumericLiteral (take (numberLength (drop at s)) (drop at s))

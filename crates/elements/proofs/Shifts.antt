@@ -15,8 +15,8 @@ use Rattle.text.specs.Bytes.{blank, lineEnd, illegal, digit, nameByte, letter}
 use Rattle.text.specs.Runs.{run}
 use Rattle.text.proofs.Laws.{run-own}
 use Rattle.gaps.specs.Gaps.{gap, afterSlash, inLine, inBlock}
-use Rattle.literals.specs.Numbers.{hexDigit, numberLength, numberFrom, exponentIndicator, plusOrMinus, hexIndicator}
-use Rattle.literals.proofs.NumberLaws.{Breaks, number-steady}
+use Rattle.numbers.specs.Numbers.{hexDigit, numberLength, numberFrom, exponentIndicator, plusOrMinus, hexIndicator}
+use Rattle.numbers.proofs.NumberLaws.{Breaks, number-steady}
 use Rattle.literals.specs.Strings.{stringRest, backslash}
 use Rattle.literals.specs.Patterns.{patternRest}
 use Rattle.gaps.specs.declared.Gap.{Gap}

@@ -19,7 +19,7 @@ use Rattle.words.proofs.Spellings.{word-spelled}
 use Rattle.signs.specs.Signs.{longestSign}
 use Rattle.signs.specs.declared.Longest.{Longest}
 use Rattle.signs.proofs.Spellings.{longest-spelled}
-use Rattle.literals.specs.Numbers.{startsNumber, numberFrom}
+use Rattle.numbers.specs.Numbers.{startsNumber, numberFrom}
 use Rattle.literals.specs.Strings.{quote, stringRest}
 use Rattle.literals.specs.Patterns.{patternRest}
 use Rattle.answers.specs.declared.Literal.{Literal}

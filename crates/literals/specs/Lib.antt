@@ -1,4 +1,2 @@
-pub mod Numbers
-pub mod NumericLiterals
 pub mod Strings
 pub mod Patterns

@@ -1,4 +1,3 @@
-// Numbers, strings and regular expressions: where each ends.
-pub mod numbers;
+// Strings and regular expressions: where each ends.
 pub mod patterns;
 pub mod strings;

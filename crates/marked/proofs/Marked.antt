@@ -6,7 +6,7 @@ use Rattle.text.specs.Runs
 use Rattle.words.specs.Words.{placeIn, wordNumber, taken}
 use Rattle.signs.specs.Signs.{longestSign, longestOf}
 use Rattle.gaps.specs.Gaps.{gap}
-use Rattle.literals.specs.Numbers.{hexDigit, hexLength, integerLength, fractionLength, exponentLength, decimalLength, numberLength, numberFrom}
+use Rattle.numbers.specs.Numbers.{hexDigit, hexLength, integerLength, fractionLength, exponentLength, decimalLength, numberLength, numberFrom}
 use Rattle.literals.specs.Strings.{quote, stringRest}
 use Rattle.literals.specs.Patterns.{patternRest}
 use Rattle.elements.specs.Elements.{elementAt, elementFrom, named, delimiter}

@@ -1,0 +1,4 @@
+pub mod NumberLaws
+pub mod NumberPlaces
+pub mod LongestNumber
+pub mod NumberCuts
