@@ -1,5 +1,5 @@
-// Groups that need no level: those that are empty, and those that hold one operand or parameter alone. A third of the groups of a script
-// do, and a call for their inside would take more time than what it does.
+// Groups that need no level: those that are empty, and those that hold one operand or parameter alone. More than a third of
+// the groups of a script do, and a call for their inside would take more time than what it does.
 ghost use mathlib.Core.Path.{_≡_};
 ghost use mathlib.Core.Bool.{true};
 ghost use mathlib.Core.List.{List};
