@@ -90,7 +90,7 @@ pub fn with_leaf(state: State, e: Element) -> State
     ensures { λ r. ⌜ AddsLeaf state e r ⌝ }
 {
     State {
-        level: summaries::after_leaf(state.level, e),
+        level: leaves::after_leaf(state.level, e),
         depth: state.depth,
         records: state.records + 1,
     }

@@ -4,8 +4,8 @@ use borrow.Author.Tests.{ne-eqb}
 use Rattle.rule.specs.Rule.{elementClass}
 use Rattle.rule.specs.Machinery.LevelCodes.{levelAfter}
 use Rattle.rule.proofs.ClassNumbers.{literal-kinds}
-use Rattle.summaries.proofs.after_leaf.Statement.{statement}
-use Rattle.summaries.proofs.after_leaf.Tie as tie
+use Rattle.leaves.proofs.after_leaf.Statement.{statement}
+use Rattle.leaves.proofs.after_leaf.Tie as tie
 
 after-name-requires : tie.Need-after-name-requires
 after-name-requires c κs = search needs

@@ -2,8 +2,8 @@
 use borrow.Author.Needs.{needs}
 use borrow.Author.Tests.{eq-eqb, ne-eqb}
 use Rattle.rule.specs.Machinery.LevelCodes.{levelAfterName}
-use Rattle.summaries.proofs.after_name.Statement.{statement}
-use Rattle.summaries.proofs.after_name.Tie as tie
+use Rattle.leaves.proofs.after_name.Statement.{statement}
+use Rattle.leaves.proofs.after_name.Tie as tie
 
 mul-base : tie.Need-mul-base
 mul-base c = search needs

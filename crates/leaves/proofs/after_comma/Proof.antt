@@ -3,8 +3,8 @@ use borrow.Author.Needs.{needs}
 use borrow.Author.Tests.{ne-eqb}
 use mathlib.Core.Path.{sym, _∙_}
 use Rattle.rule.specs.Machinery.LevelCodes.{levelAfter}
-use Rattle.summaries.proofs.after_comma.Statement.{statement}
-use Rattle.summaries.proofs.after_comma.Tie as tie
+use Rattle.leaves.proofs.after_comma.Statement.{statement}
+use Rattle.leaves.proofs.after_comma.Tie as tie
 
 mul-base : tie.Need-mul-base
 mul-base c = search needs

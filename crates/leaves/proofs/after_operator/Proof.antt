@@ -3,8 +3,8 @@ use borrow.Author.Needs.{needs}
 use Rattle.vocabulary.specs.Vocabulary.{rowAt}
 use Rattle.rule.specs.Machinery.LevelCodes.{levelAfter}
 use Rattle.rule.proofs.ClassNumbers.{operator-signs, past-signs}
-use Rattle.summaries.proofs.after_operator.Statement.{statement}
-use Rattle.summaries.proofs.after_operator.Tie as tie
+use Rattle.leaves.proofs.after_operator.Statement.{statement}
+use Rattle.leaves.proofs.after_operator.Tie as tie
 
 mul-base : tie.Need-mul-base
 mul-base c = search needs

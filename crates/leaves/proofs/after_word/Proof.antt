@@ -10,8 +10,8 @@ use Rattle.words.specs.Machinery.Run.{bitAt}
 use Rattle.rule.specs.Rule.{Class, wordClass}
 use Rattle.rule.specs.Machinery.LevelCodes.{levelAfter}
 use Rattle.rule.proofs.ClassNumbers.{class-by, past-words}
-use Rattle.summaries.proofs.after_word.Statement.{statement}
-use Rattle.summaries.proofs.after_word.Tie as tie
+use Rattle.leaves.proofs.after_word.Statement.{statement}
+use Rattle.leaves.proofs.after_word.Tie as tie
 
 abbrev isIn : ℕ → ℕ → Bool
 isIn set which = eqb (bitAt set which) 1

@@ -3,8 +3,8 @@ use borrow.Author.Needs.{needs}
 use Rattle.vocabulary.specs.Vocabulary.{rowAt}
 use Rattle.rule.specs.Machinery.LevelCodes.{levelAfter}
 use Rattle.rule.proofs.ClassNumbers.{first-signs}
-use Rattle.summaries.proofs.after_sign.Statement.{statement}
-use Rattle.summaries.proofs.after_sign.Tie as tie
+use Rattle.leaves.proofs.after_sign.Statement.{statement}
+use Rattle.leaves.proofs.after_sign.Tie as tie
 
 after-operator-requires : tie.Need-after-operator-requires
 after-operator-requires c κs = (c .if1 .taken, c .before .pre)

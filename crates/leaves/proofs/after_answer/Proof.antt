@@ -2,8 +2,8 @@
 use borrow.Author.Needs.{needs}
 use borrow.Author.Tests.{lt-ltb, le-ltb}
 use Rattle.rule.specs.Machinery.LevelCodes.{levelAfter}
-use Rattle.summaries.proofs.after_answer.Statement.{statement}
-use Rattle.summaries.proofs.after_answer.Tie as tie
+use Rattle.leaves.proofs.after_answer.Statement.{statement}
+use Rattle.leaves.proofs.after_answer.Tie as tie
 
 mul-result : tie.Need-mul-result
 mul-result c = search needs
