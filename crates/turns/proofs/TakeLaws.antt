@@ -9,11 +9,12 @@ use lib.ListN.{length}
 use Rattle.elements.specs.declared.Element.{Element}
 use Rattle.rule.specs.Levels.{Levels, settledIn, countSoFar}
 use Rattle.prefix.specs.Reading.{Step, delimit, step, treesFull}
-use Rattle.prefix.specs.Machinery.Represents.{Represents, Follows, group-opened, group-closed, stopped, Settles, Delimits, AddsLeaf}
+use Rattle.prefix.specs.Machinery.Represents.{Represents, Settles, AddsLeaf}
 use Rattle.prefix.specs.declared.State.{State}
-use Rattle.prefix.specs.declared.Advanced.{Advanced}
 use Rattle.prefix.proofs.StateLaws.{represented-level}
 use Rattle.prefix.proofs.StepLaws.{step-leaf, step-delimiter}
+use Rattle.delimiters.specs.Machinery.Delimits.{Follows, group-opened, group-closed, stopped, Delimits}
+use Rattle.delimiters.specs.declared.Advanced.{Advanced}
 use Rattle.keeping.specs.Machinery.Keeping.{Lent, lent, tagOf, Keeps, MayTake, MayKeep, MayKeepEnd, withLeaf, withOpener, KeepsTree, KeepsEnd}
 use Rattle.keeping.proofs.KeepLaws.{keeps-represented, keeps-stack, tag-is}
 use Rattle.turns.specs.Machinery.Turns.{limitsFor, Turned, goes-on, ends}

@@ -7,9 +7,9 @@ ghost use Prim.Native.Nat.{ℕ, _<_, _^_};
 ghost use Rattle.text.specs.Machinery.Codes.{byteCodes};
 ghost use Rattle.keeping.specs.Machinery.Keeping.{lent, MayTake};
 ghost use Rattle.turns.specs.Machinery.Turns.{Takes, MayRead, Runs};
+use delimiters::Advanced;
 use elements::Element;
 use elements::Next;
-use prefix::Advanced;
 use prefix::State;
 
 // The number of the first row of document 01's table of refused texts, and the bytes that a text has at most.
@@ -79,7 +79,7 @@ fn take_delimiter(
     ensures { λ r. ⌜ (e .kind ≡ 0 → Takes spaced (now (text .entry)) (lent (now (trees .entry)) (now (output .entry)) (now (stack .entry))) (lent (now (trees .exit)) (now (output .exit)) (now (stack .exit))) room state at e r) ⌝ }
 {
     let tag = tag_for(spaced, state, e);
-    let advanced = prefix::delimit(stack, state, room, tag, e);
+    let advanced = delimiters::delimit(stack, state, room, tag, e);
     match advanced {
         Advanced::Opened(kind, next) => {
             let to = keeping::keep_opener(text, trees, output, spaced, state, at, kind, e);

@@ -1,17 +1,15 @@
--- How the code's state and its stack hold the levels of a reading, and what a step must make of them. Machinery.
-use Prim.Native.Nat.{ℕ, _+_, _*_, _/_, _≤_, _<_}
+-- How the code's state and its stack hold the levels of a reading, and what is answered of them and made of them with a leaf more. Machinery.
+use Prim.Native.Nat.{ℕ, _+_, _*_, _≤_, _<_}
 use mathlib.Core.Path.{_≡_}
 use mathlib.Core.List.{List}
 use lib.ListN.{length, getD}
 use Rattle.elements.specs.declared.Element.{Element}
 use Rattle.elements.specs.declared.Stated.{Stated}
-use Rattle.rule.specs.Trees.{Trees, none, leaf, group}
+use Rattle.rule.specs.Trees.{Trees, leaf, group}
 use Rattle.rule.specs.Levels.{Levels, wholeText, inside, depth, countSoFar, onTop, statedBy, settledIn}
-use Rattle.prefix.specs.Reading.{Step, stop, more, delimit}
 use Rattle.rule.specs.Machinery.Summary.{kinds, levelCode}
 use Rattle.rule.specs.Machinery.LevelCodes.{statedByLevel}
 use Rattle.prefix.specs.declared.State.{State}
-use Rattle.prefix.specs.declared.Advanced.{Advanced}
 
 -- the stack has, for each open group, whose kind fits the code of a level, the code of the level around it, and the caller's tag for the group: a
 -- number that depends on the levels around it and its first byte
@@ -33,14 +31,6 @@ pub data Closes (tag : Levels → ℕ → ℕ) (e : Element) (m : ℕ) : Levels 
       → m ≡ tag around first
       → Closes tag e m (inside around kind first newline trees) (onTop (λ before. group before kind first (e .end) newline trees) around)
 
--- what the code's answer says of the definition's step at a delimiter, where there is room for so many records
-pub data Follows (room : ℕ) (tag : Levels → ℕ → ℕ) (stack : List ℕ) (e : Element) (levels : Levels) : Advanced → Step → Type 0 where
-  group-opened : {kind : ℕ} {state : State} → countSoFar levels < room → Represents tag stack state (inside levels kind (e .first) (e .newline) none)
-      → Follows room tag stack e levels (Advanced.Opened kind state) (more (inside levels kind (e .first) (e .newline) none))
-  group-closed : {m : ℕ} {state : State} {after : Levels} → Closes tag e m levels after → Represents tag stack state after
-      → Follows room tag stack e levels (Advanced.Closed m state) (more after)
-  stopped : {number place : ℕ} → Follows room tag stack e levels (Advanced.Stopped number place) (stop number place)
-
 -- What `stated_by` promises of every state: the answers by the code of its level, which are the prefix rule's of all levels that it holds.
 abbrev pub States : State → Stated → Type 0
 States state stated =
@@ -51,13 +41,6 @@ States state stated =
 abbrev pub Settles : State → Element → Element → Type 0
 Settles state e r =
     (tag : Levels → ℕ → ℕ) (stack : List ℕ) (levels : Levels) → Represents tag stack state levels → r ≡ settledIn levels e
-
--- What `delimit` promises of a state that holds levels: the definition's step is taken from them, with as many groups as the stack has room
--- for. It is left free what becomes of a state that holds none, of the stack's cells above the open groups, and of the stack where it stops.
-abbrev pub Delimits : List ℕ → List ℕ → State → ℕ → ℕ → Element → Advanced → Type 0
-Delimits stack after state room tag e advanced =
-    (tags : Levels → ℕ → ℕ) (levels : Levels) → Represents tags stack state levels → tag ≡ tags levels (e .first)
-    → Follows room tags after e levels advanced (delimit (record { groups = length stack / 2; room = room }) levels e)
 
 -- What `with_leaf` promises of a state that holds levels: the state holds them with that leaf.
 abbrev pub AddsLeaf : State → Element → State → Type 0

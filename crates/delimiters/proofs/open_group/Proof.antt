@@ -3,10 +3,10 @@ use borrow.Author.Needs.{needs}
 use native.Mathlib.Omega.{arith}
 use mathlib.Core.Path.{refl}
 use lib.ListN.{length-set}
-use Rattle.prefix.proofs.StateLaws.{open-deep, open-full, open-done}
+use Rattle.delimiters.proofs.GroupLaws.{open-deep, open-full, open-done}
 use borrow.Author.Needs.{needs}
-use Rattle.prefix.proofs.open_group.Statement.{statement}
-use Rattle.prefix.proofs.open_group.Tie as tie
+use Rattle.delimiters.proofs.open_group.Statement.{statement}
+use Rattle.delimiters.proofs.open_group.Tie as tie
 
 returns : tie.Need-returns
 returns c = λ tags levels h m. open-deep tags _ _ levels h _ _ _ _ (c .if1 .taken)

@@ -3,11 +3,11 @@ use borrow.Author.Needs.{needs}
 use mathlib.Core.Path.{sym, _∙_}
 use Prim.Native.Nat.{_/_}
 use lib.ListN.{length}
 use Rattle.prefix.specs.Reading.{Limits}
-use Rattle.prefix.proofs.StateLaws.{represented-brace}
+use Rattle.delimiters.proofs.GroupLaws.{represented-brace}
 use Rattle.prefix.proofs.StepLaws.{delimit-parens, delimit-object, delimit-block, delimit-brackets, delimit-close}
-use Rattle.prefix.proofs.delimit.Statement.{statement}
-use Rattle.prefix.proofs.delimit.Tie as tie
+use Rattle.delimiters.proofs.delimit.Statement.{statement}
+use Rattle.delimiters.proofs.delimit.Tie as tie
 
 open-group-requires : tie.Need-open-group-requires
 open-group-requires c κs = search needs

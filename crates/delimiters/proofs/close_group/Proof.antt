@@ -2,9 +2,9 @@
 use borrow.Author.Needs.{needs}
 use mathlib.Core.Path.{sym, _∙_}
 use borrow.Author.Tests.{not-true, not-false}
-use Rattle.prefix.proofs.StateLaws.{close-none, close-other, close-done, not-deeper}
-use Rattle.prefix.proofs.close_group.Statement.{statement}
-use Rattle.prefix.proofs.close_group.Tie as tie
+use Rattle.delimiters.proofs.GroupLaws.{close-none, close-other, close-done, not-deeper}
+use Rattle.delimiters.proofs.close_group.Statement.{statement}
+use Rattle.delimiters.proofs.close_group.Tie as tie
 
 returns : tie.Need-returns
 returns c = λ room tags levels h. close-none tags _ _ levels h room _ (c .if1 .taken)

@@ -2,8 +2,8 @@
 use borrow.Author.Tests.{eq-eqb, ne-eqb}
 use Rattle.text.specs.Runs.{same}
 use Rattle.signs.specs.Signs.{longestSign, longestOf}
-use Rattle.prefix.proofs.is_closed_by.Statement.{statement}
-use Rattle.prefix.proofs.is_closed_by.Tie as tie
+use Rattle.delimiters.proofs.is_closed_by.Statement.{statement}
+use Rattle.delimiters.proofs.is_closed_by.Tie as tie
 
 returns : tie.Need-returns
 unfolding longestSign longestOf same
