@@ -9,9 +9,9 @@ use Rattle.derivations.specs.Cuts.{isCloser}
 use Rattle.derivations.specs.Tokens.{Token, tokensFrom}
 use Rattle.machine.specs.Syntax.{Syntax, nil, programTree, marksOf, Distinct, distinct-none}
 use Rattle.derivations.specs.Derivations.{countTrees}
-use Rattle.grammar.proofs.Counts.{countTreeTokens}
-use Rattle.grammar.proofs.Ranges.{distinct-node}
-use Rattle.grammar.proofs.OwnMarks.{OwnMarks}
+use Rattle.recorded.proofs.Counts.{countTreeTokens}
+use Rattle.recorded.proofs.Ranges.{distinct-node}
+use Rattle.recorded.proofs.OwnMarks.{OwnMarks}
 use Rattle.derivations.proofs.TokenLaws.{closing-class}
 
 pub count-tokens : (mark : ℕ) (es : List Element) → countTreeTokens (tokensFrom mark es) ≡ countTrees es

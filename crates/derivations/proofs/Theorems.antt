@@ -25,7 +25,7 @@ use Rattle.derivations.specs.Tokens.{Token, assign, varWord, elseWord, d
 use Rattle.machine.specs.Tokens.{inWord}
 use Rattle.machine.specs.Syntax.{Syntax, variableSyntax, forInSyntax}
 use Rattle.grammar.specs.Grammar.{Program, isAmong}
-use Rattle.grammar.specs.Recorded.{isRecorded, part, partsOf, Makes, Assigns, Relates, Variable, ForIn}
+use Rattle.recorded.specs.Recorded.{isRecorded, part, partsOf, Makes, Assigns, Relates, Variable, ForIn}
 use Rattle.derivations.specs.Derivations.{Derivation, countTrees, BeginsProgram}
 use Rattle.derivations.specs.TreeElements.{elementsOf}
 use Rattle.machine.specs.Machinery.Machine.{frame, start}
@@ -34,10 +34,10 @@ use Rattle.grammar.proofs.Complete.{complete, one-tree}
 use Rattle.derivations.proofs.Programs.{program-read, program-takes}
 use Rattle.derivations.proofs.ReadCuts.{reading-cuts}
 use Rattle.derivations.proofs.SameChoice.{same-choice}
-use Rattle.grammar.proofs.Counts.{few-parts}
+use Rattle.recorded.proofs.Counts.{few-parts}
 use Rattle.grammar.proofs.TableLaws.{eachClass}
-use Rattle.grammar.proofs.Unmarked.{variable-signed, for-in-signed}
-use Rattle.grammar.proofs.Recorded.{token-recorded, assign-recorded, in-recorded}
+use Rattle.recorded.proofs.Unmarked.{variable-signed, for-in-signed}
+use Rattle.recorded.proofs.Recorded.{token-recorded, assign-recorded, in-recorded}
 use Rattle.derivations.specs.Demand3.{answersOf, ReadAs, OneDerivation, FewParts, RuleTakes}
 use Rattle.derivations.proofs.TokenLaws.{elements-counting, element-marks}
 use Rattle.derivations.proofs.CountTrees.{count-tokens, program-distinct}

@@ -35,9 +35,9 @@ use Rattle.machine.specs.Syntax.{Syntax}
 use Rattle.grammar.specs.Grammar.{Program}
 use Rattle.machine.specs.Machinery.Machine.{endOfText}
 use Rattle.agreement.proofs.TreeClasses.{fails}
-use Rattle.grammar.proofs.Counts.{isClosing, countTreeTokens}
-use Rattle.grammar.proofs.Counting.{Counting, counting-none, counting-closer, counting-mark}
-use Rattle.grammar.proofs.OwnMarks.{OwnMarks, own-marks}
+use Rattle.recorded.proofs.Counts.{isClosing, countTreeTokens}
+use Rattle.recorded.proofs.Counting.{Counting, counting-none, counting-closer, counting-mark}
+use Rattle.recorded.proofs.OwnMarks.{OwnMarks, own-marks}
 use Rattle.grammar.proofs.Unfinished.{BeforeEnd, none-before, more-before}
 
 -- a test that fails at both choices fails

@@ -104,10 +104,10 @@ use Rattle.grammar.specs.Grammar.{
   add-statement,
   add-declaration,
 }
-use Rattle.grammar.specs.Recorded.{part, partsOf}
+use Rattle.recorded.specs.Recorded.{part, partsOf}
 use Rattle.agreement.proofs.TreeClasses.{holds, fails}
 use Rattle.grammar.proofs.TableLaws.{at-class, at-leaf, binary-by}
-use Rattle.grammar.proofs.Counts.{isClosing, operator-open}
+use Rattle.recorded.proofs.Counts.{isClosing, operator-open}
 use Rattle.grammar.proofs.Suffix.{EndsWith, itself, behind, past, then, item-end, parameters-end, derived-end}
 use Rattle.derivations.specs.Derivations.{countTrees}
 use Rattle.derivations.specs.Senses.{Sense, objectAt, blockAt, beforeAt, afterAt, answerAt, senseOf}

@@ -86,7 +86,7 @@ use Rattle.grammar.specs.Grammar.{
   list-items,
   list-last,
 }
-use Rattle.grammar.specs.Recorded.{part, partsOf}
+use Rattle.recorded.specs.Recorded.{part, partsOf}
 use Rattle.derivations.specs.Derivations.{Derivation, countTrees}
 use Rattle.derivations.specs.TreeElements.{unsettledKind}
 use Rattle.derivations.specs.Senses.{Sense, objectAt, blockAt, beforeAt, afterAt, answerAt, senseOf}

@@ -16,11 +16,3 @@ pub mod Viable
 pub mod Suffix
 pub mod Unfinished
 pub mod Deaths
-pub mod Counts
-pub mod Ranges
-pub mod Counting
-pub mod Firsts
-pub mod OwnMarks
-pub mod Unmarked
-pub mod PartRecords
-pub mod Recorded

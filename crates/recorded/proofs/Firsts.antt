@@ -36,8 +36,8 @@ use Rattle.grammar.specs.Grammar.{
   Target,
   Chain,
 }
-use Rattle.grammar.proofs.Counts.{isClosing, leaf-open, operator-open}
-use Rattle.grammar.proofs.Counting.{Counting, at-mark}
+use Rattle.recorded.proofs.Counts.{isClosing, leaf-open, operator-open}
+use Rattle.recorded.proofs.Counting.{Counting, at-mark}
 
 -- a mark is among a tree's
 pub record MarkIn (mark : ℕ) (value : Syntax) : Type 0 where

@@ -20,7 +20,7 @@ use lib.Dec.{T, eqb}
 use Rattle.machine.specs.Tokens.{Token, token, Spot, assign, inWord}
 use Rattle.machine.specs.Syntax.{Syntax, nil, node, snoc, variableSyntax, forInSyntax, size, marksOf, Distinct, distinct-none, distinct-more}
 use Rattle.machine.specs.Operators.{isAmong}
-use Rattle.grammar.specs.Recorded.{Initialises, Iterates, behindBare}
+use Rattle.recorded.specs.Recorded.{Initialises, Iterates, behindBare}
 
 -- the kinds of the parts that are neither
 abbrev pub isPlain : ℕ → Bool

@@ -110,14 +110,14 @@ use Rattle.grammar.specs.Grammar.{
   Expression,
   Program,
 }
-use Rattle.grammar.specs.Recorded.{recordedClasses, isRecorded, firstKinds, behindKind, Part, part, partsOf, Makes, makes-first, makes-behind, Assigns, assigns, initialises, Iterates, Relates, relates, iterates}
+use Rattle.recorded.specs.Recorded.{recordedClasses, isRecorded, firstKinds, behindKind, Part, part, partsOf, Makes, makes-first, makes-behind, Assigns, assigns, initialises, Iterates, Relates, relates, iterates}
 use Rattle.grammar.proofs.TableLaws.{at-class, at-leaf, number-at, binary-by}
-use Rattle.grammar.proofs.Counts.{isClosing, leaf-open, operator-open}
-use Rattle.grammar.proofs.Ranges.{plain, no-marks, before-parts, within}
-use Rattle.grammar.proofs.Counting.{Counting, counting-closer, counting-mark, past-closer, at-mark}
-use Rattle.grammar.proofs.Unmarked.{Gaps, gaps, assign-unmarked, in-unmarked}
-use Rattle.grammar.proofs.Firsts.{MarkIn, own-first, target-first, binary-first, expression-first}
-use Rattle.grammar.proofs.OwnMarks.{MarksTo, initialising, iterating, marked}
+use Rattle.recorded.proofs.Counts.{isClosing, leaf-open, operator-open}
+use Rattle.recorded.proofs.Ranges.{plain, no-marks, before-parts, within}
+use Rattle.recorded.proofs.Counting.{Counting, counting-closer, counting-mark, past-closer, at-mark}
+use Rattle.recorded.proofs.Unmarked.{Gaps, gaps, assign-unmarked, in-unmarked}
+use Rattle.recorded.proofs.Firsts.{MarkIn, own-first, target-first, binary-first, expression-first}
+use Rattle.recorded.proofs.OwnMarks.{MarksTo, initialising, iterating, marked}
 
 -- a token that is to have a record, or a `=` or `in`
 abbrev mayMark : ℕ → Bool

@@ -6,11 +6,11 @@ use native.Mathlib.Omega.{arith}
 use lib.Dec.{T}
 use Rattle.machine.specs.Tokens.{Token}
 use Rattle.machine.specs.Syntax.{Syntax, nil, node, snoc, variableSyntax, forInSyntax, marksOf}
-use Rattle.grammar.specs.Recorded.{Part, part, partsOf, Initialises, Iterates, Unmarked, Variable, bare-variable, initialised-variable, ForIn, for-in}
+use Rattle.recorded.specs.Recorded.{Part, part, partsOf, Initialises, Iterates, Unmarked, Variable, bare-variable, initialised-variable, ForIn, for-in}
 use Rattle.grammar.specs.Grammar.{Program}
-use Rattle.grammar.proofs.Counting.{Counting}
-use Rattle.grammar.proofs.OwnMarks.{marked}
-use Rattle.grammar.proofs.Ranges.{isPlain, Fits, plain, bare, initialised, iterated, Marks, marks-none, marks-before, marks-between, marks-behind, marks-inside, marks-both, range-size, Within, within, in-either, in-node}
+use Rattle.recorded.proofs.Counting.{Counting}
+use Rattle.recorded.proofs.OwnMarks.{marked}
+use Rattle.recorded.proofs.Ranges.{isPlain, Fits, plain, bare, initialised, iterated, Marks, marks-none, marks-before, marks-between, marks-behind, marks-inside, marks-both, range-size, Within, within, in-either, in-node}
 
 -- a part's marks, with its own
 abbrev partMarks : Part → List ℕ

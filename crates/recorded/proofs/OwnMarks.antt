@@ -122,12 +122,12 @@ use Rattle.grammar.specs.Grammar.{
   add-declaration,
   Program,
 }
-use Rattle.grammar.specs.Recorded.{Initialises, Iterates, behindBare}
+use Rattle.recorded.specs.Recorded.{Initialises, Iterates, behindBare}
 use Rattle.grammar.proofs.TableLaws.{at-class, at-leaf, binary-by}
-use Rattle.grammar.proofs.Counts.{isClosing, leaf-open, operator-open, name-open, head-open, jump-open}
-use Rattle.grammar.proofs.Ranges.{isPlain, plain, bare, initialised, iterated, Fits, Marks, marks-both, from-lower, to-higher, no-marks, before-parts, between-parts, behind-part, inside-parts, Within, within, distinct}
-use Rattle.grammar.proofs.Firsts.{MarkIn, own-first, target-first, expression-first}
-use Rattle.grammar.proofs.Counting.{Counting, counting-none, past-closer, at-mark, MarkOf, mark-of}
+use Rattle.recorded.proofs.Counts.{isClosing, leaf-open, operator-open, name-open, head-open, jump-open}
+use Rattle.recorded.proofs.Ranges.{isPlain, plain, bare, initialised, iterated, Fits, Marks, marks-both, from-lower, to-higher, no-marks, before-parts, between-parts, behind-part, inside-parts, Within, within, distinct}
+use Rattle.recorded.proofs.Firsts.{MarkIn, own-first, target-first, expression-first}
+use Rattle.recorded.proofs.Counting.{Counting, counting-none, past-closer, at-mark, MarkOf, mark-of}
 
 -- a part's marks are those from the next mark before it to the next mark behind it
 pub record MarksTo (all : List Token) (total low : ℕ) (after : List Token) (value : Syntax) : Type 0 where
