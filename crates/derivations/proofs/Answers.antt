@@ -1,8 +1,8 @@
--- A choice, the regular expressions that it takes and the words that it keeps, read off the elements that it gives: a slash is answered by
--- whether the element that it starts is a regular expression, a reserved word by whether it is a name.
+-- A choice, read off the elements that it gives: a slash is answered by whether the element that it starts is a regular expression, a reserved word
+-- by whether it is a name.
 use mathlib.Core.Path.{_≡_, refl, sym, ap, _∙_}
-use mathlib.Core.List.{List, [], _∷_, _++_}
-use mathlib.Core.Bool.{Bool, true, false, false≢true, cond, not, and-false, _&&_}
+use mathlib.Core.List.{List}
+use mathlib.Core.Bool.{Bool, true, false, cond, not, and-false, _&&_}
 use Prim.Native.Nat.{ℕ}
 use borrow.Author.Tests.{eq-eqb, ne-eqb, eqb-true}
 use native.Mathlib.Omega.{arith}
@@ -14,11 +14,10 @@ use Rattle.elements.specs.declared.Element.{Element}
 use Rattle.elements.specs.declared.Next.{Next}
 use Rattle.elements.specs.declared.Stated.{Stated}
 use Rattle.elements.proofs.OwnBytes.{found-gap}
-use Rattle.elements.proofs.Slashes.{divide-found, pattern-found, pattern-slash}
-use Rattle.elements.proofs.StatedAnswers.{slash-no-word, word-no-slash, Reserved, found-reserved}
+use Rattle.elements.proofs.Slashes.{divide-found, pattern-found}
+use Rattle.elements.proofs.StatedAnswers.{word-no-slash, Reserved, found-reserved}
 use Rattle.derivations.specs.Cuts.{Cuts, cut-end, cut-element, cut-slash, cut-word}
 use Rattle.derivations.specs.Demand3.{isReserved, answersOf}
-use Rattle.derivations.specs.Shown.{patternOf, patternsOf, wordOf, wordsOf}
 
 module _ (text : List ℕ) where
   -- a slash is met where an element starts with one
@@ -36,7 +35,7 @@ module _ (text : List ℕ) where
       go true q k = rw (k (eqb-true (e .kind) nameKind q))
       go false q k = and-false (not (eqb (e .which) 0))
 
-  answer-kind : (place : ℕ) (answer : Bool) (e : Element) → slashMet text place ≡ true → elementAt text place (stating answer false) ≡ Next.Found e
+  pub answer-kind : (place : ℕ) (answer : Bool) (e : Element) → slashMet text place ≡ true → elementAt text place (stating answer false) ≡ Next.Found e
       → answer ≡ eqb (e .kind) patternKind
   answer-kind place true e m f = sym (eq-eqb (e .kind) patternKind (pattern-found text place false m e f))
   answer-kind place false e m f =
@@ -64,32 +63,3 @@ module _ (text : List ℕ) where
         sym (word-kind place answer e m f),
         choice-answers rest,
       )
-
--- what elements show, each by its kind and first byte
-abbrev pub among : (ℕ → ℕ → List ℕ) → List Element → List ℕ
-among show [] = []
-among show (e ∷ es) = show (e .kind) (e .first) ++ among show es
-
-pub cut-patterns : {text : List ℕ} {place : ℕ} {choice : List Bool} {es : List Element} (cut : Cuts text place choice es) → among patternOf es ≡ patternsOf cut
-unfolding patternsOf
-cut-patterns (cut-end x) = refl
-cut-patterns {text} (cut-element {place} {e} s w f rest) =
-    rw (ne-eqb (e .kind) patternKind (λ k. absurd (false≢true (pattern-slash text place (stating false false) e f k .0)))) (cut-patterns rest)
-cut-patterns {text} (cut-slash {place} {e} {answer} m f rest) = rw (sym (answer-kind text place answer e m f), cut-patterns rest)
-cut-patterns {text} (cut-word {place} {e} {answer} m f rest) =
-    rw (ne-eqb (e .kind) patternKind (λ k. absurd (false≢true (pattern-slash text place (stating false answer) e f k .0)))) (cut-patterns rest)
-
-pub cut-words : {text : List ℕ} {place : ℕ} {choice : List Bool} {es : List Element} (cut : Cuts text place choice es) → among wordOf es ≡ wordsOf cut
-unfolding wordsOf
-cut-words (cut-end x) = refl
-cut-words {text} (cut-element {place} {e} s w f rest) =
-    rw (ne-eqb (e .kind) wordKind (found-reserved text place (stating false false) e f .other w .0)) (cut-words rest)
-cut-words {text} (cut-slash {place} {e} {answer} m f rest) =
-    rw (ne-eqb (e .kind) wordKind (found-reserved text place (stating answer false) e f .other (slash-no-word text place m) .0)) (cut-words rest)
-cut-words {text} (cut-word {place} {e} {answer} {es = es} m f rest) =
-    ap (λ (found : List ℕ). found ++ among wordOf es) (go answer (found-reserved text place (stating false answer) e f .reserved m .0))
-    ∙ ap (λ (more : List ℕ). cond answer [] (e .first ∷ []) ++ more) (cut-words rest)
-  where
-    go : (a : Bool) → e .kind ≡ cond a nameKind wordKind → wordOf (e .kind) (e .first) ≡ cond a [] (e .first ∷ [])
-    go true k = rw k
-    go false k = rw k

@@ -1,5 +1,4 @@
 pub mod MachineSenses
-pub mod TakenSenses
 pub mod SoFar
 pub mod InStep
 pub mod ReadSenses
@@ -18,10 +17,6 @@ pub mod Kept
 pub mod TokenLaws
 pub mod CountTrees
 pub mod TreeSizes
-pub mod AllSenses
 pub mod Answers
-pub mod ShownRecords
-pub mod IndexedRecords
-pub mod UpdateRecords
 pub mod FirstRefused
 pub mod Theorems

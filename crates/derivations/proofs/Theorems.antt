@@ -2,24 +2,15 @@
 use mathlib.Core.Path.{_≡_, sym, ap, subst, _∙_}
 use mathlib.Core.Bool.{_||_}
 use mathlib.Core.List.{List, [], _∷_, _++_, List·Memᴰ, map, append-assoc}
-use Prim.Native.Nat.{ℕ, _*_}
+use Prim.Native.Nat.{ℕ}
 use native.Mathlib.Nat.{zero-add}
 use native.Mathlib.Omega.{arith}
 use lib.Dec.{T}
-use lib.ListN.{length, take, drop}
-use lib.Seq.{take-at}
 use Rattle.vocabulary.specs.Vocabulary.{words, signs, tokenClass}
 use Rattle.elements.specs.declared.Element.{Element}
-use Rattle.rule.specs.Trees.{Trees, none, count}
+use Rattle.rule.specs.Trees.{Trees, none}
 use Rattle.rule.specs.Levels.{wholeText}
-use Rattle.prefix.specs.Reading.{Limits, Reading, accepted, reading}
-use Rattle.prefix.proofs.LimitLaws.{accepted-unlimited}
-use Rattle.tables.specs.Records.{treeWidth}
-use Rattle.storing.specs.Records.{records}
-use Rattle.reading.specs.Read.{readLimits, readingFor, tableAfter}
-use Rattle.reading.proofs.Formed.{Formed, reading-formed}
-use Rattle.reading.proofs.LengthFirst.{first-accepted}
-use Rattle.reading.proofs.Theorems.{count-of-records}
+use Rattle.prefix.specs.Reading.{Limits, accepted, reading}
 use Rattle.derivations.specs.Cuts.{CutsInto}
 use Rattle.derivations.specs.Tokens.{Token, assign, varWord, elseWord, doWord, whileWord, forWord, continueWord, breakWord, withWord, switchWord, caseWord, defaultWord, throwWord, tryWord, catchWord, finallyWord, debuggerWord, comma, colon, semicolon, dot, openParen, closeParen, openBrace, closeBrace, openBracket, closeBracket, returnWord, functionWord, ifWord, classOf, tokenOf, tokens}
 use Rattle.machine.specs.Tokens.{inWord}
@@ -28,7 +19,7 @@ use Rattle.grammar.specs.Grammar.{Program, isAmong}
 use Rattle.recorded.specs.Recorded.{isRecorded, part, partsOf, Makes, Assigns, Relates, Variable, ForIn}
 use Rattle.derivations.specs.Derivations.{Derivation, countTrees, BeginsProgram}
 use Rattle.derivations.specs.TreeElements.{elementsOf}
-use Rattle.machine.specs.Machinery.Machine.{frame, start}
+use Rattle.machine.specs.Machinery.Machine.{frame}
 use Rattle.machine.proofs.Ran.{anywhere}
 use Rattle.grammar.proofs.Complete.{complete, one-tree}
 use Rattle.derivations.proofs.Programs.{program-read, program-takes}
@@ -40,16 +31,8 @@ use Rattle.recorded.proofs.Unmarked.{variable-signed, for-in-signed}
 use Rattle.recorded.proofs.Recorded.{token-recorded, assign-recorded, in-recorded}
 use Rattle.derivations.specs.Demand3.{answersOf, ReadAs, OneDerivation, FewParts, RuleTakes}
 use Rattle.derivations.proofs.TokenLaws.{elements-counting, element-marks}
-use Rattle.derivations.proofs.CountTrees.{count-tokens, program-distinct}
-use Rattle.derivations.proofs.Answers.{choice-answers, among, cut-patterns, cut-words}
-use Rattle.derivations.specs.Senses.{senseOf}
-use Rattle.derivations.specs.Shown.{Shown, Indexed, shownIn, patternOf, wordOf, sensesOf, placesOf, sensedIn}
-use Rattle.derivations.proofs.TakenSenses.{senses-taken}
-use Rattle.derivations.proofs.ReadSenses.{treeSenses}
-use Rattle.derivations.proofs.AllSenses.{places-from}
-use Rattle.derivations.proofs.ShownRecords.{records-senses, records-patterns, records-words}
-use Rattle.derivations.proofs.IndexedRecords.{RecordsOf, records-of, records-indexed, token-at}
-use Rattle.derivations.proofs.UpdateRecords.{after-marked, before-marked}
+use Rattle.derivations.proofs.CountTrees.{count-tokens, program-distinct, token-at}
+use Rattle.derivations.proofs.Answers.{choice-answers}
 use Rattle.derivations.proofs.Begins.{same-split}
 
 -- Demand 3: "the prefix rule takes each slash of a program as its derivation does". The reading of a program without limits is
@@ -80,49 +63,10 @@ any-two-derivations text d f =
 pub answers-by-kind : (text : List ℕ) (d : Derivation text) → d .choice ≡ answersOf text (d .elements)
 answers-by-kind text d = choice-answers text (d .cut)
 
--- Demand 3, of tree records: those of every accepted reading of a text with a derivation, whatever the limits, show its regular expressions,
--- its words, its objects and, at all its other braces, blocks, which `++` and `--` stand before and after their operands, and which `:` are its
--- conditionals'; each element but a closer has its record at its index, and a part of `++` or `--` its mark at one of the kind that KINDS.md has for it.
-pub records-shown : (text : List ℕ) (limits : Limits) (trees : Trees) → reading text limits ≡ accepted trees → (d : Derivation text) → Shown d (records trees)
-records-shown text limits trees a d =
-    let r = program-read text (d .cut) (frame (d .parts) [] [] _, complete anywhere (d .steps)) in
-    let same : trees ≡ r .0 = cc (accepted-unlimited text limits trees a) in
-    let formed : Formed trees = rw a at (reading-formed text limits) in
-    let elements : elementsOf trees ≡ d .elements = ap elementsOf same ∙ r .2 in
-    let senses : shownIn senseOf (records trees) ≡ sensesOf (d .steps) =
-    records-senses trees formed ∙ ap treeSenses same ∙ r .3 ∙ senses-taken (d .steps) in
-    let each : RecordsOf (d .elements) (records trees) = subst (λ (es : List Element). RecordsOf es (records trees)) elements (records-of trees formed) in
-    record {
-      patterns = records-patterns trees formed ∙ ap (among patternOf) elements ∙ cut-patterns (d .cut);
-      words = records-words trees formed ∙ ap (among wordOf) elements ∙ cut-words (d .cut);
-      senses = senses;
-      indices = subst (λ (es : List Element). Indexed es (records trees)) elements (records-indexed trees formed);
-      afters = after-marked (d .elements) (d .steps) (d .cut) each senses;
-      befores = before-marked (d .elements) (d .steps) (d .cut) each senses;
-    }
-
--- Of any accepted reading: each element but a closer has its record at its index, of its own kind unless it opens a group or the rule settles a sign's.
-pub reading-indexed : (text : List ℕ) (limits : Limits) (trees : Trees) → reading text limits ≡ accepted trees → Indexed (elementsOf trees) (records trees)
-reading-indexed text limits trees a = records-indexed trees (rw a at (reading-formed text limits))
-
--- Demand 3 of the cells that `read` leaves in its table, as many as the records that it counts have.
-pub read-shown : (text table : List ℕ) (trees : Trees) → readingFor text (length table) ≡ accepted trees → (d : Derivation text)
-    → Shown d (take (treeWidth * count trees) (tableAfter (readingFor text (length table)) table))
-unfolding readingFor
-read-shown text table trees a d =
-    subst (Shown d)
-    (sym (ap (λ (r : Reading). take (treeWidth * count trees) (tableAfter r table)) a
-    ∙ take-at (records trees) (drop (treeWidth * count trees) table) (treeWidth * count trees) (count-of-records trees)))
-    (records-shown text (readLimits (length table)) trees (first-accepted text (readLimits (length table)) trees a) d)
-
 -- A token is marked by the number of tree records before it, which is the index of its own if it has one.
 pub token-marked : (before : List Element) (e : Element) (after : List Element)
     → (rest : List Token) × (tokens (before ++ (e ∷ after)) ≡ tokens before ++ (tokenOf (countTrees before) e ∷ rest))
 token-marked before e after = rw (zero-add (countTrees before)) at (token-at 0 before e after)
-
--- A derivation says of every `{`, `++` and `--` among its elements, in their order, whether it is an object or a block, before or after its operand.
-pub every-sense : (text : List ℕ) (d : Derivation text) → placesOf (sensesOf (d .steps)) ≡ sensedIn (d .elements)
-every-sense text d = ap placesOf (sym (senses-taken (d .steps))) ∙ places-from start 0 (d .elements)
 
 -- What is read is the whole text: the elements of an accepted reading's trees are cut from the text's start to its end, by some choice.
 pub reading-covers : (text : List ℕ) (limits : Limits) (trees : Trees) → reading text limits ≡ accepted trees → CutsInto text 0 (elementsOf trees)

@@ -4,4 +4,3 @@ pub mod Derivations
 pub mod TreeElements
 pub mod Demand3
 pub mod Senses
-pub mod Shown

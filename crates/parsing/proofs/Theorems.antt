@@ -18,7 +18,8 @@ use Rattle.derivations.specs.Derivations.{Derivation, countTrees, syntaxTree, d
 use Rattle.derivations.specs.TreeElements.{elementsOf}
 use Rattle.machine.specs.Machinery.Machine.{State, dead, live, Control, Frame, Open, doneOf}
 use Rattle.derivations.proofs.TreeSizes.{count-elements, deepest-elements}
-use Rattle.derivations.proofs.Theorems.{no-program-differs, read-shown, few-parts-each-marked}
+use Rattle.derivations.proofs.Theorems.{no-program-differs, few-parts-each-marked}
+use Rattle.shown.proofs.Theorems.{read-shown}
 use Rattle.tables.specs.Records.{syntaxRoom}
 use Rattle.parsing.specs.Limits.{WithinLimits, LongEnough}
 use Rattle.parsing.specs.Parse.{noProgram, syntaxFull, Parses, Parsing, program, denied, stateAfter, judged, fitting, parsed, parsingFor, answerOf, treesAfter, syntaxAfter}

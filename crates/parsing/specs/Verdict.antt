@@ -12,7 +12,7 @@ use Rattle.tables.specs.Records.{treeWidth, syntaxWidth}
 use Rattle.machine.specs.Syntax.{Syntax, size, syntaxRecords}
 use Rattle.derivations.specs.Derivations.{Derivation, countTrees, syntaxTree, BeginsProgram}
 use Rattle.derivations.specs.TreeElements.{elementsOf}
-use Rattle.derivations.specs.Shown.{Shown}
+use Rattle.shown.specs.Shown.{Shown}
 use Rattle.parsing.specs.Limits.{WithinLimits, LongEnough}
 use Rattle.parsing.specs.Parse.{noProgram, syntaxFull, Parsing, program, denied, answerOf, treesAfter, syntaxAfter}
 

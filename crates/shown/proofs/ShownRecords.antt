@@ -12,11 +12,11 @@ use Rattle.rule.specs.Trees.{Trees, none, leaf, group, count, beforeKind, answe
 use Rattle.tables.specs.Records.{treeRecord}
 use Rattle.storing.specs.Records.{records}
 use Rattle.reading.proofs.Formed.{Formed}
 use Rattle.derivations.specs.TreeElements.{openerOf, closerOf, unsettledKind, unsettled, elementsOf}
-use Rattle.derivations.specs.Shown.{shownIn, patternOf, wordOf}
+use Rattle.shown.specs.Shown.{shownIn, patternOf, wordOf}
 use Rattle.derivations.specs.Senses.{Sense, senseOf}
-use Rattle.derivations.proofs.Answers.{among}
 use Rattle.derivations.proofs.ReadSenses.{treeSenses}
+use Rattle.shown.proofs.ShownCuts.{among}
 
 -- what trees show, each by its kind and first byte
 unfoldable shownOf : {A : Type 0} → (ℕ → ℕ → List A) → Trees → List A

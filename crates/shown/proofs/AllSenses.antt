@@ -16,14 +16,14 @@ use Rattle.elements.proofs.Choices.{cond-both, cond-known}
 use Rattle.rule.specs.Trees.{objectKind}
 use Rattle.rule.specs.Rule.{incrementSign, decrementSign}
 use Rattle.rule.specs.Machinery.Summary.{operand}
 use Rattle.derivations.specs.Cuts.{isCloser}
 use Rattle.derivations.specs.Tokens.{tokenOf, tokensFrom, openBrace, colon, signClass, delimiterClass, classOf}
 use Rattle.derivations.specs.Senses.{Sense, objectAt, blockAt, beforeAt, afterAt, answerAt}
-use Rattle.derivations.specs.Shown.{placesOf, isSensed, sensedIn}
+use Rattle.shown.specs.Shown.{placesOf, isSensed, sensedIn}
 use Rattle.machine.specs.Machinery.Machine.{State, dead, live, consume, asksIn}
 use Rattle.agreement.proofs.TreeClasses.{isUpdate, fails}
 use Rattle.agreement.proofs.Related.{kinds, isLast}
 use Rattle.derivations.proofs.MachineSenses.{braceBehind, updateBehind, senseAt, sensesFrom}
 
 -- the classes of `{`, `++` and `--`
 abbrev hasPlace : ℕ → Bool

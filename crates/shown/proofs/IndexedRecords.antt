@@ -17,13 +17,12 @@ use Rattle.rule.specs.Trees.{Trees, none, leaf, group, count, parenKind, bracke
 use Rattle.tables.specs.Records.{treeWidth, treeRecord}
 use Rattle.storing.specs.Records.{records}
 use Rattle.reading.proofs.Formed.{Formed}
 use Rattle.derivations.specs.Cuts.{isCloser}
-use Rattle.derivations.specs.Tokens.{Token, tokenOf, tokensFrom}
 use Rattle.derivations.specs.Derivations.{countTrees}
 use Rattle.derivations.specs.TreeElements.{openerOf, closerOf, unsettledKind, unsettled, elementsOf}
-use Rattle.derivations.specs.Shown.{RecordOf, Indexed}
+use Rattle.shown.specs.Shown.{RecordOf, Indexed}
 use Rattle.derivations.proofs.ClassSteps.{leaf-no-closer}
 use Rattle.derivations.proofs.TreeSizes.{opener-counts, closer-closes, unsettled-leaf}
 
 -- the kind of a group, by its opener
 abbrev KindOf : ℕ → Element → Type 0
@@ -118,20 +117,3 @@ records-of trees f =
 
 pub records-indexed : (trees : Trees) → Formed trees → Indexed (elementsOf trees) (records trees)
 records-indexed trees f = record-at (records-of trees f)
-
--- the token of an element is marked by the number of tree records before it
-pub token-at : (n : ℕ) (before : List Element) (e : Element) (after : List Element)
-    → (rest : List Token) × (tokensFrom n (before ++ (e ∷ after)) ≡ tokensFrom n before ++ (tokenOf (n + countTrees before) e ∷ rest))
-unfolding tokensFrom
-token-at n [] e after = let z : n + 0 ≡ n = omega arith in (tokensFrom (cond (isCloser e) n (n + 1)) after, rw z)
-token-at n (b ∷ before) e after =
-    let m = cond (isCloser b) n (n + 1) in
-    let r = token-at m before e after in (
-      r .0,
-      ap (_∷_ (tokenOf n b))
-          (r .1 ∙ ap (λ (k : ℕ). tokensFrom m before ++ (tokenOf k e ∷ r .0)) (counted (isCloser b) n (countTrees before))),
-    )
-  where
-    counted : (closer : Bool) (n k : ℕ) → cond closer n (n + 1) + k ≡ n + (cond closer 0 1 + k)
-    counted true n k = omega arith
-    counted false n k = omega arith

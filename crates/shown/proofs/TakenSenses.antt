@@ -128,13 +128,13 @@ use Rattle.grammar.specs.Grammar.{
   add-declaration,
   Program,
 }
 use Rattle.derivations.specs.Senses.{Sense, beforeAt, afterAt, answerAt}
-use Rattle.derivations.specs.Shown.{sensesOf}
+use Rattle.shown.specs.Shown.{sensesOf}
 use Rattle.machine.specs.Machinery.Machine.{Frame, empty, reduced, Effect, affect, holdWord, takePrefix, takeElse, startStatement, endValue, endHead, Value, doneValue, listValue, statementValue, valueOf, Target, noTarget, someTarget, loneTarget, isTarget, allowsIn, Ending, byStatement, byReturn, byVariable, byStart, byTest, byStep, byObject, byCase, byParen, byBracket, byColon, byItem, Role, declared, operandIn, ifNest, elseNest, doNest, Setting, among, inClause, inNest, Variables, inStatement, inHead, laterVariables, behindVariables, Control, statementDue, statementDone, clauseDue, tryFirst, tryDone, catchPast, catchDone, finallyFirst, tryEnded, switchPast, testDue, stepDue, variableDue, variableNamed, bodyDone, testFirst, semicolonDue, behindStatement, operandDue, operandDone, postfixDone, functionFirst, functionNamed, parameterPast, itemDue, parameterDue, parameterNamed, listCloser, Action, goto, push, leave, otherwise, look, row, Closing, toParameter, toStatement, toBlock, toFor, toForIn, toTest, toBody, toTry, close, Open, grouped, nested, asking, State, live, act, consume, start, asks, asksIn}
 use Rattle.machine.specs.Machinery.Classes.{isSensed}
 use Rattle.agreement.proofs.TreeClasses.{isUpdate, holds, fails}
 use Rattle.agreement.proofs.Related.{isLast}
 use Rattle.derivations.proofs.MachineSenses.{braceBehind, updateBehind, senseAt, sensesFrom}
 use Rattle.grammar.proofs.TableLaws.{at-class, at-leaf, binary-by, look-past}
 use Rattle.grammar.proofs.Beginnings.{noColon, Sees, widened, target-begins, assign-begins, expression-begins, betweenItems, betweenVariables, HeadPart, start-part, test-part, step-part, look-leaf, look-prefix, expression-is-taken, target-is-taken, value-is-returned, value-is-thrown, label-is-taken, item-is-taken, part-is-taken}
 use Rattle.grammar.proofs.Following.{UnaryDone, past-operand, past-postfix, behindUnary, takesComma, look-assignment, look-postfix, look-behind-unary, look-binary, look-question, look-end, look-comma}

@@ -109,11 +109,11 @@ use Rattle.agreement.proofs.TreeClasses.{holds, fails}
 use Rattle.grammar.proofs.TableLaws.{at-class, at-leaf, binary-by}
 use Rattle.recorded.proofs.Counts.{isClosing, operator-open}
 use Rattle.grammar.proofs.Suffix.{EndsWith, itself, behind, past, then, item-end, parameters-end, derived-end}
 use Rattle.derivations.specs.Derivations.{countTrees}
 use Rattle.derivations.specs.Senses.{Sense, objectAt, blockAt, beforeAt, afterAt, answerAt, senseOf}
-use Rattle.derivations.specs.Shown.{sensesOf, shownIn, MarkedBy}
+use Rattle.shown.specs.Shown.{sensesOf, shownIn, MarkedBy}
 use Rattle.derivations.proofs.TokenLaws.{closing-class}
-use Rattle.derivations.proofs.IndexedRecords.{RecordsOf, no-records, closer-none, a-record}
+use Rattle.shown.proofs.IndexedRecords.{RecordsOf, no-records, closer-none, a-record}
 
 -- the kinds of such parts: those after an operand, and all
 abbrev pub afterKinds : List ℕ
