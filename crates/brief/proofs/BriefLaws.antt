@@ -17,8 +17,8 @@ use Rattle.segments.specs.Machinery.Segments.{Segment, countOf, classAt, tokens
 use Rattle.segments.proofs.SegmentLaws.{isElement, element-then, end-then}
 use Rattle.groups.specs.Machinery.Closers.{closerToken, closedState}
 use Rattle.brief.specs.declared.Found.{Found}
-use Rattle.brief.specs.declared.Found.the-variants.{Nothing, Operand, Longer}
-use Rattle.brief.specs.Machinery.Brief.{MayBeEmpty, no-arguments, no-elements, no-properties, no-parameters, no-statements, no-clauses, HoldsOperand, in-parens, in-brackets, in-arguments, in-elements, Lone, lone-parameter, lone-operand, lone-longer, Short, Finds, finds-nothing, finds-operand, finds-longer}
+use Rattle.brief.specs.declared.Found.the-variants.{Nothing, Operand, NeedsLevel}
+use Rattle.brief.specs.Machinery.Brief.{MayBeEmpty, no-arguments, no-elements, no-properties, no-parameters, no-statements, no-clauses, HoldsOperand, in-parens, in-brackets, in-arguments, in-elements, Lone, lone-parameter, lone-operand, lone-more, PopsValue, FindsInside, finds-nothing, finds-operand, finds-more}
 
 -- nothing is popped at once
 pops : {c : Control} {closer : ℕ} → MayBeEmpty c closer → (place : ℕ) (around : List Open) (mark : ℕ) (u : List Token)
@@ -31,7 +31,7 @@ pops (no-statements body) place around mark u = refl
 pops (no-statements block) place around mark u = refl
 pops no-clauses place around mark u = refl
 
-pub empty-found : {p : Segment} {c : Control} {closer : ℕ} → MayBeEmpty c closer → countOf (p .cells) ≡ 0 → Finds closer p c Nothing
+pub empty-found : {p : Segment} {c : Control} {closer : ℕ} → MayBeEmpty c closer → countOf (p .cells) ≡ 0 → FindsInside closer p c Nothing
 empty-found {p} {c} {closer} may none = finds-nothing (record {
   runs = λ around mark u.
       ap (λ (ts : List Token). run (live c empty around) ts) (end-then p 0 (omega arith) (closerToken closer (p .close) mark ∷ u))
@@ -107,7 +107,7 @@ module _ {p : Segment} (fine : Fine p) (one : countOf (p .cells) ≡ 1) (class :
   alone-then : (u : List Token) → tokensAt p 0 ++ u ≡ token class (spotAt p 0) ∷ u
   alone-then u = element-then fine 0 class is u (leaf-element class some few) ∙ ap (λ (ts : List Token). token class (spotAt p 0) ∷ ts) (end-then p 1 (omega arith) u)
 
-  operand-found : {c : Control} {closer : ℕ} → HoldsOperand c closer → Finds closer p c (Operand class)
+  operand-found : {c : Control} {closer : ℕ} → HoldsOperand c closer → FindsInside closer p c (Operand class)
   unfolding Popped
   operand-found {c} {closer} h = finds-operand (valueIn h (node class (p .base + 0) nil nil)) (record {
     runs = λ around mark u.
@@ -117,7 +117,7 @@ module _ {p : Segment} (fine : Fine p) (one : countOf (p .cells) ≡ 1) (class :
   }) (omega arith) (value-size h class (p .base + 0)) (λ table count.
       value-written h class (p .base + 0) table count ∙ ap (λ (mark : ℕ). putRecord table count class mark 1) (let z : p .base + 0 ≡ p .base = omega arith in z))
 
-  parameter-found : class ≡ name → Finds closeParen p (parameterDue false) Nothing
+  parameter-found : class ≡ name → FindsInside closeParen p (parameterDue false) Nothing
   parameter-found named = finds-nothing (record {
     runs = λ around mark u.
         ap (λ (ts : List Token). run (live (parameterDue false) empty around) ts) (alone-then (closerToken closeParen (p .close) mark ∷ u))
@@ -127,9 +127,9 @@ module _ {p : Segment} (fine : Fine p) (one : countOf (p .cells) ≡ 1) (class :
 
 -- as what a lone record is found to be, if its class is told
 pub lone-found : {p : Segment} → Fine p → countOf (p .cells) ≡ 1 → {class closer closing : ℕ} {r : Found}
-    → ((class ≡ 0 → ⊥) → (class ≤ 4) × ((text : List ℕ) → classAt text (p .cells) 0 ≡ class)) → Lone class closer closing r → Finds closer p (insideBy closing) r
+    → ((class ≡ 0 → ⊥) → (class ≤ 4) × ((text : List ℕ) → classAt text (p .cells) 0 ≡ class)) → Lone class closer closing r → FindsInside closer p (insideBy closing) r
 lone-found {p} fine one {class} told (lone-parameter named ends inside) =
     let t = told (λ e. omega (arith, named)) in
     rw (ends, inside) (parameter-found fine one class (t .1 (p .text)) (λ e. omega (arith, named)) (t .0) named)
 lone-found {p} fine one {class} told (lone-operand known h) = let t = told known in operand-found fine one class (t .1 (p .text)) known (t .0) h
-lone-found fine one told lone-longer = finds-longer
+lone-found fine one told lone-more = finds-more

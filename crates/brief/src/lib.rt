@@ -1,5 +1,5 @@
-// Groups that need no level: those that are empty, and those that hold one operand or parameter alone. More than a third of
-// the groups of a script do, and a call for their inside would take more time than what it does.
+// Groups that need no level: those that may be empty and are, and those that may hold one operand or parameter alone and do. More than a
+// third of the groups of both measured scripts are such, and a call for their inside would take more time than what it does.
 ghost use mathlib.Core.Path.{_≡_};
 ghost use mathlib.Core.Bool.{true};
 ghost use mathlib.Core.List.{List};
@@ -9,7 +9,7 @@ ghost use Rattle.machine.specs.Tokens.{closeParen};
 ghost use Rattle.machine.specs.Machinery.Classes.{isEnd};
 ghost use Rattle.controls.specs.Machinery.Numbers.{insideBy};
 ghost use Rattle.segments.specs.Machinery.Segments.{Fine, segment};
-ghost use Rattle.brief.specs.Machinery.Brief.{MayBeEmpty, HoldsOperand, Lone, Finds};
+ghost use Rattle.brief.specs.Machinery.Brief.{MayBeEmpty, HoldsOperand, Lone, FindsInside};
 use controls::TO_ARRAY;
 use controls::TO_BLOCK;
 use controls::TO_CALL;
@@ -26,11 +26,11 @@ use controls::TO_TEST;
 use machine::tokens;
 use tables::TreeRecord;
 
-// What is found inside a group: nothing that makes a record; one operand, of a class; or what needs a level.
+// What is found inside a group: nothing that makes a record; one operand, of a class; or what may need a level.
 pub enum Found {
     Nothing,
     Operand(u32),
-    Longer,
+    NeedsLevel,
 }
 
 // The closer of a group that may be empty; 0 where one may not.
@@ -83,26 +83,26 @@ fn alone(class: u32, closer: u32, closing: u32) -> Found
     ensures { λ r. ⌜ Lone class closer closing r ⌝ }
 {
     if class == 0 {
-        return Found::Longer;
+        return Found::NeedsLevel;
     }
     if closing == TO_PARAMETER {
         if class != tokens::NAME {
-            return Found::Longer;
+            return Found::NeedsLevel;
         }
         if closer != tokens::CLOSE_PAREN {
-            return Found::Longer;
+            return Found::NeedsLevel;
         }
         return Found::Nothing;
     }
     if holds_operand(closing, closer) {
         return Found::Operand(class);
     }
-    Found::Longer
+    Found::NeedsLevel
 }
 
 // What stands inside a group, before its closer.
 pub fn look_inside(trees: &[u32], closer: u32, closing: u32) -> Found
-    ensures { λ r. ⌜ ((text : List ℕ) (base close : ℕ) → Fine (segment text (now (trees .entry)) base close) → T (isEnd closer) → Finds closer (segment text (now (trees .entry)) base close) (insideBy closing) r) ⌝ }
+    ensures { λ r. ⌜ ((text : List ℕ) (base close : ℕ) → Fine (segment text (now (trees .entry)) base close) → T (isEnd closer) → FindsInside closer (segment text (now (trees .entry)) base close) (insideBy closing) r) ⌝ }
 {
     if trees.len() == TreeRecord::WIDTH {
         return alone(segments::leaf_at(trees, 0), closer, closing);
@@ -112,5 +112,5 @@ pub fn look_inside(trees: &[u32], closer: u32, closing: u32) -> Found
             return Found::Nothing;
         }
     }
-    Found::Longer
+    Found::NeedsLevel
 }

@@ -14,20 +14,20 @@ use Rattle.segments.proofs.SegmentLaws.{inside-fine}
 use Rattle.groups.specs.declared.Parsed.the-variants.{Done}
 use Rattle.brief.specs.declared.Found.{Found}
 use Rattle.brief.specs.declared.Found.the-variants.{Nothing, Operand}
-use Rattle.brief.specs.Machinery.Brief.{Finds, finds-nothing, finds-operand}
+use Rattle.brief.specs.Machinery.Brief.{FindsInside, finds-nothing, finds-operand}
 use Rattle.levels.specs.Machinery.Runs.{Ran, ran-through, MayOpen}
 
 -- the inside of a group that needs no level
 module _ {p : Segment} {at closer count top : ℕ} {stack : List ℕ} (may : MayOpen p at closer count top stack) where
   pub found-there : {c : Control} {within : List ℕ} {r : Found} → within ≡ contentOf (p .cells) at
-      → ((text : List ℕ) (base close : ℕ) → Fine (segment text within base close) → T (isEnd closer) → Finds closer (segment text within base close) c r) → Finds closer (inside p at) c r
+      → ((text : List ℕ) (base close : ℕ) → Fine (segment text within base close) → T (isEnd closer) → FindsInside closer (segment text within base close) c r) → FindsInside closer (inside p at) c r
   found-there content finds = rw content at (finds (p .text) (p .base + at + 1) (closerAt (p .cells) at) (rw content (inside-fine (may .fine) at (may .here))) (may .closes))
 
-  pub nothing-ran : {c : Control} {table : List ℕ} {r : Found} → Finds closer (inside p at) c r → r ≡ Nothing → Ran closer (inside p at) c count top table stack (Done count false) table stack
+  pub nothing-ran : {c : Control} {table : List ℕ} {r : Found} → FindsInside closer (inside p at) c r → r ≡ Nothing → Ran closer (inside p at) c count top table stack (Done count false) table stack
   unfolding putSyntax
   nothing-ran {c} {table} finds is = go (rw is at finds)
     where
-      go : Finds closer (inside p at) c Nothing → Ran closer (inside p at) c count top table stack (Done count false) table stack
+      go : FindsInside closer (inside p at) c Nothing → Ran closer (inside p at) c count top table stack (Done count false) table stack
       go (finds-nothing s) = ran-through {n = count} (record {
         value = nil;
         runs = s .runs;
@@ -38,14 +38,14 @@ module _ {p : Segment} {at closer count top : ℕ} {stack : List ℕ} (may : May
         plain = s .plain;
       })
 
-  pub operand-ran : {c : Control} {table cells : List ℕ} {n k : ℕ} {r : Found} → Finds closer (inside p at) c r → r ≡ Operand k
+  pub operand-ran : {c : Control} {table cells : List ℕ} {n k : ℕ} {r : Found} → FindsInside closer (inside p at) c r → r ≡ Operand k
       → (n ≡ count + 1) × (cells ≡ putRecord table count k (p .base + at + 1) (count - count + 1)) → Ran closer (inside p at) c count top table stack (Done n false) cells stack
   operand-ran {c} {table} {cells} {n} {k} finds is put = go (rw is at finds)
     where
       one : count - count + 1 ≡ 1
       one = omega arith
 
-      go : Finds closer (inside p at) c (Operand k) → Ran closer (inside p at) c count top table stack (Done n false) cells stack
+      go : FindsInside closer (inside p at) c (Operand k) → Ran closer (inside p at) c count top table stack (Done n false) cells stack
       go (finds-operand value s some sized written) = ran-through {n = n} (record {
         value = value;
         runs = s .runs;

@@ -93,7 +93,7 @@ fn level(
     groups::at_closer(control, closer, close, l, waiting, syntax)
 }
 
-// A group: one that is brief needs no level.
+// A group: one that is empty, or holds one operand or parameter, may need no level.
 fn group(
     text: &[u8],
     trees: &[u32],
@@ -119,7 +119,7 @@ fn group(
                 false,
             )
         }
-        Found::Longer => content(
+        Found::NeedsLevel => content(
             text,
             trees,
             base,

@@ -3,4 +3,5 @@ pub mod ClassLaws
 pub mod ToldTrees
 pub mod RecordPlaces
 pub mod FineRecords
+pub mod LeafLaws
 pub mod ReadSegments

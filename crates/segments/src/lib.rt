@@ -1,10 +1,9 @@
 // Parts of the tree table: the numbers of a record, its class, and what is inside a group.
 ghost use mathlib.Core.Path.{_≡_};
-ghost use mathlib.Core.List.{List};
-ghost use Prim.Native.Nat.{ℕ, _+_, _-_, _≤_, _<_};
+ghost use Prim.Native.Nat.{_+_, _-_, _≤_, _<_};
 ghost use lib.ListN.{getD};
 ghost use Rattle.tables.specs.Records.{treeWidth};
-ghost use Rattle.segments.specs.Machinery.Segments.{countOf, cellOr, placeAt, endAt, sizeAt, lineAt, closerAt, signBy, wordBy, classAt, contentOf};
+ghost use Rattle.segments.specs.Machinery.Segments.{countOf, cellOr, placeAt, endAt, sizeAt, lineAt, closerAt, signBy, wordBy, classAt, leafAt, contentOf};
 use machine::tokens;
 use tables::TreeRecord;
 
@@ -130,7 +129,7 @@ pub fn class_at(text: &[u8], trees: &[u32], at: usize) -> u32
 
 // The class of a record that is a name, number, string or regular expression; 0 for others.
 pub fn leaf_at(trees: &[u32], at: usize) -> u32
-    ensures { λ r. ⌜ ((r ≡ 0 → ⊥) → (r ≤ 4) × ((text : List ℕ) → classAt text (now (trees .entry)) at ≡ r)) ⌝ }
+    ensures { λ r. ⌜ r ≡ leafAt (now (trees .entry)) at ⌝ }
 {
     let class = classes::kind_class(cell(trees, at, 0));
     if class <= tokens::PATTERN {

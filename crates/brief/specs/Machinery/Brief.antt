@@ -13,7 +13,7 @@ use Rattle.frames.specs.Machinery.Effects.{ofParameter}
 use Rattle.segments.specs.Machinery.Segments.{Segment, countOf, tokensAt}
 use Rattle.groups.specs.Machinery.Closers.{closerToken, closedState}
 use Rattle.brief.specs.declared.Found.{Found}
-use Rattle.brief.specs.declared.Found.the-variants.{Nothing, Operand, Longer}
+use Rattle.brief.specs.declared.Found.the-variants.{Nothing, Operand, NeedsLevel}
 
 -- where the inside of a group starts, and the closer that may follow at once
 pub data MayBeEmpty : Control → ℕ → Type 0 where
@@ -35,17 +35,17 @@ pub data HoldsOperand : Control → ℕ → Type 0 where
 pub data Lone (class closer closing : ℕ) : Found → Type 0 where
   lone-parameter : class ≡ name → closer ≡ closeParen → insideBy closing ≡ parameterDue false → Lone class closer closing Nothing
   lone-operand : (class ≡ 0 → ⊥) → HoldsOperand (insideBy closing) closer → Lone class closer closing (Operand class)
-  lone-longer : Lone class closer closing Longer
+  lone-more : Lone class closer closing NeedsLevel
 
--- a level whose run pops a value, whatever stands around it
-pub record Short (class : ℕ) (p : Segment) (c : Control) (value : Syntax) : Type 0 where
+-- a level whose run pops a value, whatever stands around it; that of parameters is nothing
+pub record PopsValue (class : ℕ) (p : Segment) (c : Control) (value : Syntax) : Type 0 where
   pub runs : (around : List Open) (mark : ℕ) (u : List Token)
       → run (live c empty around) (tokensAt p 0 ++ (closerToken class (p .close) mark ∷ u)) ≡ run (closedState class (p .close) false value around) u
   pub plain : ofParameter c ≡ true → value ≡ nil
 
--- what is found inside a group: the value is nothing, or its records are that of one operand
-pub data Finds (class : ℕ) (p : Segment) (c : Control) : Found → Type 0 where
-  finds-nothing : Short class p c nil → Finds class p c Nothing
-  finds-operand : {k : ℕ} (value : Syntax) → Short class p c value → 1 ≤ countOf (p .cells) → size value ≡ 1
-      → ((table : List ℕ) (count : ℕ) → putSyntax table count value ≡ putRecord table count k (p .base) 1) → Finds class p c (Operand k)
-  finds-longer : Finds class p c Longer
+-- what is found inside a group: the value is nothing, or its records are that of one operand; of what may need a level nothing is said
+pub data FindsInside (class : ℕ) (p : Segment) (c : Control) : Found → Type 0 where
+  finds-nothing : PopsValue class p c nil → FindsInside class p c Nothing
+  finds-operand : {k : ℕ} (value : Syntax) → PopsValue class p c value → 1 ≤ countOf (p .cells) → size value ≡ 1
+      → ((table : List ℕ) (count : ℕ) → putSyntax table count value ≡ putRecord table count k (p .base) 1) → FindsInside class p c (Operand k)
+  finds-more : FindsInside class p c NeedsLevel

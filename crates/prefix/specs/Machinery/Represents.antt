@@ -1,4 +1,4 @@
--- How the code's state and its stack hold the levels of a reading, and what is answered of them and made of them with a leaf more. Machinery.
+-- How the code's state and its stack hold the levels of a reading, and what is answered of them and made of them with a leaf more, or when a group closes. Machinery.
 use Prim.Native.Nat.{ℕ, _+_, _*_, _≤_, _<_}
 use mathlib.Core.Path.{_≡_}
 use mathlib.Core.List.{List}

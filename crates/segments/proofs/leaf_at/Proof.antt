@@ -1,16 +1,11 @@
--- The kind of an operand's record tells its class.
-use Prim.Native.Nat.{ℕ, _-_}
-use mathlib.Core.Path.{_≡_, refl, sym, _∙_}
-use mathlib.Core.Bool.{Bool, true, false, _||_}
+-- The class that the kind tells, up to that of regular expressions.
+use Prim.Native.Nat.{ℕ, _≤_, _<_}
+use mathlib.Core.Path.{_≡_, refl, sym}
 use mathlib.Core.List.{List}
-use native.Mathlib.Omega.{arith}
 use borrow.Author.Needs.{needs}
-use borrow.Author.Tests.{eqb-true}
-use lib.Dec.{eqb}
-use lib.ListN.{getD}
-use Rattle.elements.specs.Elements.{wordKind, signKind}
-use Rattle.rule.specs.Trees.{beforeKind, afterKind}
-use Rattle.segments.specs.Machinery.Segments.{cellOr, kindAt, placeAt, endAt, kindBy, classBy, classAt}
+use borrow.Author.Tests.{le-leb, lt-leb}
+use Rattle.machine.specs.Tokens.{pattern}
+use Rattle.segments.specs.Machinery.Segments.{cellOr, kindAt, kindBy, leafAt}
 use Rattle.segments.proofs.leaf_at.Statement.{statement}
 use Rattle.segments.proofs.leaf_at.Tie as tie
 
@@ -20,29 +15,24 @@ cell-requires c κs = search needs
 kind-class-requires : tie.Need-kind-class-requires
 kind-class-requires c κs = search needs
 
--- the kinds of words and signs tell no class
-by-kind : (kind len b last : ℕ) → (kindBy kind ≡ 0 → ⊥) → classBy kind len b last ≡ kindBy kind
-unfolding classBy kindBy
-by-kind kind len b last some = go (eqb kind signKind) (eqb kind beforeKind) (eqb kind afterKind) (eqb kind wordKind) refl refl refl refl
-  where
-    go : (s u v w : Bool) → eqb kind signKind ≡ s → eqb kind beforeKind ≡ u → eqb kind afterKind ≡ v → eqb kind wordKind ≡ w → classBy kind len b last ≡ kindBy kind
-    go true u v w e f g h = absurd (some (rw (eqb-true kind signKind e) refl))
-    go false true v w e f g h = absurd (some (rw (eqb-true kind beforeKind f) refl))
-    go false false true w e f g h = absurd (some (rw (eqb-true kind afterKind g) refl))
-    go false false false true e f g h = absurd (some (rw (eqb-true kind wordKind h) refl))
-    go false false false false e f g h = rw (e, f, g, h) refl
+-- the class, or 0, by whether it is low
+low : (cells : List ℕ) (at kind class : ℕ) → kind ≡ cellOr 0 cells at 0 → class ≡ kindBy kind → class ≤ pattern → class ≡ leafAt cells at
+unfolding leafAt kindAt
+low cells at kind class is tells few =
+    let e : class ≡ kindBy (kindAt cells at) = rw is at tells in
+    rw (sym e, le-leb class pattern few) refl
 
-told : (text cells : List ℕ) (at kind class : ℕ) → kind ≡ cellOr 0 cells at 0 → class ≡ kindBy kind → (class ≡ 0 → ⊥) → classAt text cells at ≡ class
-unfolding classAt kindAt
-told text cells at kind class is tells some =
-    let e = by-kind kind (endAt cells at - placeAt cells 0 at) (getD text (placeAt cells 0 at) 0) (getD text (endAt cells at - 1) 0) (rw tells at some) in
-    (rw is at e) ∙ sym (rw is at tells)
+high : (cells : List ℕ) (at kind class : ℕ) → kind ≡ cellOr 0 cells at 0 → class ≡ kindBy kind → pattern < class → 0 ≡ leafAt cells at
+unfolding leafAt kindAt
+high cells at kind class is tells more =
+    let e : class ≡ kindBy (kindAt cells at) = rw is at tells in
+    rw (sym e, lt-leb class pattern more) refl
 
 returns : tie.Need-returns
-returns c = λ some. (c .if1 .taken, λ text. told text _ _ _ _ (c .before .before .cell .ensures) (c .before .kind-class .ensures) some)
+returns c = low _ _ _ _ (c .before .before .cell .ensures) (c .before .kind-class .ensures) (c .if1 .taken)
 
 returns-2 : tie.Need-returns-2
-returns-2 c = λ some. absurd (some refl)
+returns-2 c = high _ _ _ _ (c .before .before .cell .ensures) (c .before .kind-class .ensures) (c .if1 .left)
 
 pub leaf-at-spec : {M : Type 1} → statement M
 leaf-at-spec = tie.close (tie.spec cell-requires kind-class-requires returns returns-2)

@@ -3,7 +3,7 @@
 use Prim.Native.Nat.{ℕ, zero, suc, _+_, _-_, _*_, _/_, _≤_, _<_}
 use mathlib.Core.Bool.{Bool, false, cond, _||_}
 use mathlib.Core.List.{List, [], _∷_, _++_}
-use lib.Dec.{eqb, ltb}
+use lib.Dec.{eqb, ltb, leb}
 use lib.ListN.{length, getD, take, drop}
 use Rattle.text.specs.Quoted.{byte}
 use Rattle.elements.specs.Elements.{nameKind, wordKind, numberKind, stringKind, patternKind, signKind}
@@ -217,6 +217,10 @@ classBy kind len b last = cond (isSpelled kind) (signBy len b last) (cond (eqb k
 unfoldable pub classAt : List ℕ → List ℕ → ℕ → ℕ
 classAt text cells i =
     classBy (kindAt cells i) (endAt cells i - placeAt cells 0 i) (getD text (placeAt cells 0 i) 0) (getD text (endAt cells i - 1) 0)
+
+-- the class of a record that is an operand, as its kind alone tells it: a name, number, string or regular expression; 0 for others
+unfoldable pub leafAt : List ℕ → ℕ → ℕ
+leafAt cells i = cond (leb (kindBy (kindAt cells i)) pattern) (kindBy (kindAt cells i)) 0
 
 -- the cells of a group's content: those of the records behind its own, as far as its size says
 unfoldable pub contentOf : List ℕ → ℕ → List ℕ
