@@ -17,8 +17,8 @@ use Rattle.segments.specs.Machinery.Segments.{Segment, countOf, classAt, tokens
 use Rattle.segments.proofs.SegmentLaws.{isElement, element-then, end-then}
 use Rattle.groups.specs.Machinery.Closers.{closerToken, closedState}
 use Rattle.brief.specs.declared.Found.{Found}
-use Rattle.brief.specs.declared.Found.the-variants.{Nothing, Operand}
-use Rattle.brief.specs.Machinery.Brief.{MayBeEmpty, no-arguments, no-elements, no-properties, no-parameters, no-statements, no-clauses, HoldsOperand, in-parens, in-brackets, in-arguments, in-elements, Lone, lone-parameter, lone-operand, lone-more, FindsInside, finds-nothing, finds-operand, finds-more}
+use Rattle.brief.specs.declared.Found.the-variants.{Nothing, Operand, NeedsLevel}
+use Rattle.brief.specs.Machinery.Brief.{MayBeEmpty, no-arguments, no-elements, no-properties, no-parameters, no-statements, no-clauses, HoldsOperand, in-parens, in-brackets, in-arguments, in-elements, Lone, lone-parameter, lone-operand, lone-more, PopsValue, FindsInside, finds-nothing, finds-operand, finds-more}
 
 -- nothing is popped at once
 pops : {c : Control} {closer : ℕ} → MayBeEmpty c closer → (place : ℕ) (around : List Open) (mark : ℕ) (u : List Token)
