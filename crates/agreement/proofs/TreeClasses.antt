@@ -43,9 +43,9 @@ treeRows (row ∷ rows) = withRow (tokenClass row) (ruleClass row) (treeRows row
 abbrev leaves : List TreeRow
 leaves =
     is name Class.name
-    ∷ is number Class.literal
-    ∷ is string Class.literal
-    ∷ is pattern Class.literal
+    ∷ is number Class.value
+    ∷ is string Class.value
+    ∷ is pattern Class.value
     ∷ is wordName Class.name
     ∷ treeRows (words ++ signs)
 
@@ -91,6 +91,6 @@ isUpdate class = isAmong postfixOperators class
 -- the class of the tree that a token of a class makes, by whether `++` or `--` there stands before its operand, and whether a `?` is open there
 unfoldable pub settledClass : Bool → Bool → ℕ → Class
 settledClass before asked class =
-    cond (isUpdate class) (cond before Class.operator Class.literal)
+    cond (isUpdate class) (cond before Class.operator Class.value)
     (cond (eqb class colon && asked) Class.answer
     (treeClass class))

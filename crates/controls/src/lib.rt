@@ -317,7 +317,7 @@ pub fn inside_of(closing: u32) -> Control
 }
 
 // A group whose inside has the statements of a scope, a body's or a block's.
-pub fn around(scope: u32) -> u32
+pub fn group_of(scope: u32) -> u32
     ensures { λ r. ⌜ (scope ≤ 1 → insideBy r ≡ statementDue false (settingBy scope)) ⌝ }
 {
     if scope == BODY {

@@ -207,7 +207,7 @@ module _ (levels : Levels) (e : Element) where
       ∙ go (isUpdate (classOf e)) (eqb (classOf e) colon && isOpen) before
     where
       go : (a b d : Bool) → elementClass (record { kind = cond a (cond d beforeKind afterKind) (cond b answerKind (e .kind)); which = e .which; first = e .first; end = e .end; newline = e .newline })
-          ≡ cond a (cond d Class.operator Class.literal) (cond b Class.answer (treeClass (classOf e)))
+          ≡ cond a (cond d Class.operator Class.value) (cond b Class.answer (treeClass (classOf e)))
       go true b true = refl
       go true b false = refl
       go false true d = refl

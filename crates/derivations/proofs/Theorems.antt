@@ -14,9 +14,11 @@ use Rattle.prefix.specs.Reading.{Limits, accepted, reading}
 use Rattle.derivations.specs.Cuts.{CutsInto}
 use Rattle.derivations.specs.Tokens.{Token, assign, varWord, elseWord, doWord, whileWord, forWord, continueWord, breakWord, withWord, switchWord, caseWord, defaultWord, throwWord, tryWord, catchWord, finallyWord, debuggerWord, comma, colon, semicolon, dot, openParen, closeParen, openBrace, closeBrace, openBracket, closeBracket, returnWord, functionWord, ifWord, classOf, tokenOf, tokens}
 use Rattle.machine.specs.Tokens.{inWord}
+use Rattle.machine.specs.Operators.{eachClass}
 use Rattle.machine.specs.Syntax.{Syntax, variableSyntax, forInSyntax}
 use Rattle.grammar.specs.Grammar.{Program, isAmong}
-use Rattle.recorded.specs.Recorded.{isRecorded, part, partsOf, Makes, Assigns, Relates, Variable, ForIn}
+use Rattle.recorded.specs.Parts.{part, partsOf, MarkedBy, InOrder}
+use Rattle.recorded.specs.Recorded.{isRecorded, operandKinds, Operands, Makes, Joins, Assigns, Relates, Variable, ForIn}
 use Rattle.derivations.specs.Derivations.{Derivation, countTrees, BeginsProgram}
 use Rattle.derivations.specs.TreeElements.{elementsOf}
 use Rattle.machine.specs.Machinery.Machine.{frame}
@@ -26,8 +28,8 @@ use Rattle.derivations.proofs.Programs.{program-read, program-takes}
 use Rattle.derivations.proofs.ReadCuts.{reading-cuts}
 use Rattle.derivations.proofs.SameChoice.{same-choice}
 use Rattle.recorded.proofs.Counts.{few-parts}
-use Rattle.grammar.proofs.TableLaws.{eachClass}
 use Rattle.recorded.proofs.Unmarked.{variable-signed, for-in-signed}
+use Rattle.recorded.proofs.Markers.{part-holds, part-marked-by, program-order, comma-joins}
 use Rattle.recorded.proofs.Recorded.{token-recorded, assign-recorded, in-recorded}
 use Rattle.derivations.specs.Demand3.{answersOf, ReadAs, OneDerivation, FewParts, RuleTakes}
 use Rattle.derivations.proofs.TokenLaws.{elements-counting, element-marks}
@@ -96,14 +98,36 @@ few-parts-each-marked text d =
       marked-by = λ m member. omega (arith, marks .within-all m member);
     }
 
--- Document 02, U4: "each added operator and value word makes one syntax record". Each has a record that it marks, whose kind its class and its
--- place in the part tell, and no two records share a mark.
+-- Document 01, Records: "Kinds with marks": each record is marked by a token that may mark its kind.
+pub kinds-marked : (text : List ℕ) (d : Derivation text) (kind mark : ℕ) (inside : Syntax) → List·Memᴰ (part kind mark inside) (partsOf (d .parts))
+    → MarkedBy (tokens (d .elements)) kind mark
+kinds-marked text d kind mark inside = part-marked-by (elements-counting (d .elements)) (d .steps)
+
+-- "parts before the whole and in text order": the parts of a record stand in the order of their marks.
+pub in-text-order : (text : List ℕ) (d : Derivation text) → InOrder (d .parts)
+in-text-order text d = program-order (elements-counting (d .elements)) (d .steps)
+
+-- Each record of an operator has its operands in it, before its mark and behind it, and that of a name, literal or value word nothing.
+pub operands-held : (text : List ℕ) (d : Derivation text) (kind mark : ℕ) (inside : Syntax) → List·Memᴰ (part kind mark inside) (partsOf (d .parts))
+    → T (isAmong operandKinds kind) → Operands kind mark inside
+operands-held text d kind mark inside = part-holds (elements-counting (d .elements)) (d .steps)
+
+-- Document 02, U4: "each added operator and value word makes one syntax record". Each has a record that it marks, of a kind that tokens of its class mark, with
+-- its operands in it, and no two records share a mark.
 pub operators-recorded : (text : List ℕ) (d : Derivation text) (before : List Element) (e : Element) (after : List Element)
     → d .elements ≡ before ++ (e ∷ after) → T (isRecorded (classOf e)) → Makes (classOf e) (countTrees before) (partsOf (d .parts))
 operators-recorded text d before e after split h =
     let t = token-marked before e after in
     token-recorded (elements-counting (d .elements)) (d .steps) (tokens before) (classOf e)
     (record { newline = e .newline; mark = countTrees before; first = e .first }) (t .0) (ap tokens split ∙ t .1) h
+
+-- a `,` does so too where it is an operator, and makes none elsewhere
+pub commas-recorded : (text : List ℕ) (d : Derivation text) (before : List Element) (e : Element) (after : List Element)
+    → d .elements ≡ before ++ (e ∷ after) → classOf e ≡ comma → Joins (countTrees before) (partsOf (d .parts))
+commas-recorded text d before e after split h =
+    let t = token-marked before e after in
+    comma-joins (elements-counting (d .elements)) (d .steps) (tokens before)
+    (record { newline = e .newline; mark = countTrees before; first = e .first }) (t .0) (rw h at (ap tokens split ∙ t .1))
 
 -- a `=` does so too, but where a variable's name stands before it: there it makes none
 pub assignments-recorded : (text : List ℕ) (d : Derivation text) (before : List Element) (e : Element) (after : List Element)

@@ -1,12 +1,13 @@
 -- Tables: what every entry has, the entry that is looked up has.
 use mathlib.Core.Path.{_≡_, refl, sym, ap}
-use mathlib.Core.Bool.{Bool, true, false, not, cond, _&&_}
+use mathlib.Core.Bool.{Bool, true, false, not, cond}
 use mathlib.Core.List.{List, [], _∷_, _++_}
 use Prim.Native.Nat.{ℕ, _≤_, _<_}
 use lib.Dec.{T, eqb, leb, ltb, eqb→eq, eqb-refl, leb→le, ltb→lt}
 use Rattle.text.proofs.Range.{and-left, and-right}
 use Rattle.machine.specs.Tokens.{name}
 use Rattle.machine.specs.Operators.{precedence, assignmentPrecedence, leastBinary, assignmentOperators, binaryOperators, binaryOperatorsBy, prefixOperators, prefixKind, isAmong}
+pub use Rattle.machine.specs.Operators.{eachClass}
 use Rattle.machine.specs.Machinery.Machine.{prefixPrecedence, tightness, Action, fail, Entry, on, otherwise, look, forEach, values, unlessLine, threshold}
 use Rattle.grammar.specs.Grammar.{Leaf, leaf-name, leaf-number, leaf-string, leaf-pattern, leaf-this, leaf-null, leaf-true, leaf-false}
 
@@ -51,11 +52,7 @@ pub unless-entries : (Holds : ℕ → Action → Type 0) (newline : Bool) (row :
 unless-entries Holds true row each = tt
 unless-entries Holds false row each = each tt
 
--- a test that each class of a list passes
-abbrev pub eachClass : (ℕ → Bool) → List ℕ → Bool
-eachClass test [] = true
-eachClass test (x ∷ rest) = test x && eachClass test rest
-
+-- what each class of a list passes, one of them does
 pub at-class : (test : ℕ → Bool) (classes : List ℕ) (class : ℕ) → T (isAmong classes class) → T (eachClass test classes) → T (test class)
 at-class test [] class h each = absurd h
 at-class test (x ∷ rest) class h each =

@@ -208,7 +208,7 @@ pub fn statements(
     requires { ⌜ MayRun (segment (now text) (now trees) base close) closer count top (now waiting) × (scope ≤ 1) ⌝ }
     ensures { λ r. ⌜ RanStatements scope closer (segment (now (text .entry)) (now (trees .entry)) base close) count top (now (syntax .entry)) (now (waiting .entry)) r (now (syntax .exit)) (now (waiting .exit)) ⌝ }
 {
-    let inside = controls::around(scope);
+    let inside = controls::group_of(scope);
     level(
         text,
         trees,

@@ -1,6 +1,6 @@
 -- ES5.1 chapter 11, as document 01 has it and document 02, U4 and U6, adds to it: operators and their precedences, by the table of words and signs.
 use Prim.Native.Nat.{ℕ, zero, suc}
-use mathlib.Core.Bool.{Bool, true, false, cond}
+use mathlib.Core.Bool.{Bool, true, false, cond, _&&_}
 use mathlib.Core.List.{List, [], _∷_, _++_}
 use lib.Dec.{eqb, leb}
 use Rattle.vocabulary.specs.Vocabulary.{Row, words, signs, tokenClass, precedenceOf}
@@ -80,3 +80,8 @@ postfixKind class = cond (eqb class increment) incrementedSyntax decrementedSynt
 abbrev pub isAmong : List ℕ → ℕ → Bool
 isAmong [] class = false
 isAmong (x ∷ rest) class = cond (eqb class x) true (isAmong rest class)
+
+-- a test holds of each class of a list
+abbrev pub eachClass : (ℕ → Bool) → List ℕ → Bool
+eachClass test [] = true
+eachClass test (x ∷ rest) = test x && eachClass test rest

@@ -20,6 +20,7 @@ pub data Counting (all : List Token) (total : ℕ) : ℕ → List Token → Type
 -- the next token is a closer; or it has the next mark
 pub record Marked (all : List Token) (total next class : ℕ) (spot : Spot) (rest : List Token) : Type 0 where
   pub among : List·Memᴰ (token class spot) all
+  pub opens : T (not (isClosing class))
   pub own : spot .mark ≡ next
   pub then : Counting all total (next + 1) rest
 
@@ -32,7 +33,7 @@ module _ {all : List Token} {total : ℕ} where
   pub at-mark : (class : ℕ) {next : ℕ} {spot : Spot} {rest : List Token} → T (not (isClosing class)) → Counting all total next (token class spot ∷ rest)
       → Marked all total next class spot rest
   at-mark class h (counting-closer k counting) = absurd (T-not (isClosing class) h k)
-  at-mark class h (counting-mark k among own counting) = record { among = among; own = own; then = counting }
+  at-mark class h (counting-mark k among own counting) = record { among = among; opens = k; own = own; then = counting }
 
 -- a token that is no closer has this mark
 pub data MarkOf (m : ℕ) : List Token → Type 0 where

@@ -4,5 +4,6 @@ pub mod Counting
 pub mod Firsts
 pub mod OwnMarks
 pub mod Unmarked
+pub mod Markers
 pub mod PartRecords
 pub mod Recorded

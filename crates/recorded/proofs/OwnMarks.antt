@@ -1,13 +1,14 @@
 -- Where tokens count their tree records, each part of a program has a mark of its own, and it is that of a token that is no
 -- closer.
 use mathlib.Core.Path.{_≡_, refl, subst}
-use mathlib.Core.Bool.{Bool, true, false, not}
+use mathlib.Core.Bool.{Bool, true, false, not, _&&_}
 use mathlib.Core.List.{List, [], _∷_, List·Memᴰ}
 use Prim.Native.Nat.{ℕ, _+_, _≤_, _<_}
 use native.Mathlib.Omega.{arith}
-use lib.Dec.{T}
-use Rattle.machine.specs.Tokens.{Token, token, name, newWord, assign, question, varWord, elseWord, doWord, whileWord, forWord, inWord, switchWord, caseWord, defaultWord, throwWord, tryWord, catchWord, finallyWord, debuggerWord, colon, semicolon, dot, openParen, closeParen, openBracket, closeBracket, openBrace, closeBrace, comma, returnWord, functionWord, ifWord}
-use Rattle.machine.specs.Syntax.{Syntax, nil, node, snoc, variableSyntax, marksOf, Distinct}
+use lib.Dec.{T, T-not}
+use Rattle.text.proofs.Range.{and-left, and-right}
+use Rattle.machine.specs.Tokens.{Token, token, Spot, name, newWord, assign, question, varWord, elseWord, doWord, whileWord, forWord, inWord, switchWord, caseWord, defaultWord, throwWord, tryWord, catchWord, finallyWord, debuggerWord, colon, semicolon, dot, openParen, closeParen, openBracket, closeBracket, openBrace, closeBrace, comma, returnWord, functionWord, ifWord}
+use Rattle.machine.specs.Syntax.{Syntax, nil, node, snoc, memberSyntax, variableSyntax, marksOf, Distinct}
 use Rattle.grammar.specs.Grammar.{
   assignmentOperators,
   binaryOperators,
@@ -17,6 +18,9 @@ use Rattle.grammar.specs.Grammar.{
   postfixKind,
   isAmong,
   HeadWord,
+  IdentifierName,
+  identifier,
+  reserved-word,
   while-word,
   with-word,
   JumpWord,
@@ -122,12 +126,13 @@ use Rattle.grammar.specs.Grammar.{
   add-declaration,
   Program,
 }
-use Rattle.recorded.specs.Recorded.{Initialises, Iterates, behindBare}
-use Rattle.grammar.proofs.TableLaws.{at-class, at-leaf, binary-by}
+use Rattle.recorded.specs.Parts.{marking}
+use Rattle.recorded.specs.Recorded.{StandsBefore, StandsBehind, leafKinds, prefixKinds, postfixKinds, infixKinds, operandKinds, Operands, no-operand, operand-behind, operand-before, callee-behind, two-operands, three-operands, Initialises, Iterates, behindBare}
+use Rattle.grammar.proofs.TableLaws.{eachClass, at-class, at-leaf, binary-by}
 use Rattle.recorded.proofs.Counts.{isClosing, leaf-open, operator-open, name-open, head-open, jump-open}
-use Rattle.recorded.proofs.Ranges.{isPlain, plain, bare, initialised, iterated, Fits, Marks, marks-both, from-lower, to-higher, no-marks, before-parts, between-parts, behind-part, inside-parts, Within, within, distinct}
-use Rattle.recorded.proofs.Firsts.{MarkIn, own-first, target-first, expression-first}
-use Rattle.recorded.proofs.Counting.{Counting, counting-none, past-closer, at-mark, MarkOf, mark-of}
+use Rattle.recorded.proofs.Ranges.{isPlain, plain, bare, initialised, iterated, Shape, Fits, Marks, marks-both, from-lower, to-higher, no-marks, before-parts, between-parts, behind-part, inside-parts, Within, within, distinct}
+use Rattle.recorded.proofs.Firsts.{MarkIn, own-first, target-first, binary-first, expression-first}
+use Rattle.recorded.proofs.Counting.{Counting, counting-none, past-closer, Marked, at-mark, MarkOf, mark-of}
 
 -- a part's marks are those from the next mark before it to the next mark behind it
 pub record MarksTo (all : List Token) (total low : ℕ) (after : List Token) (value : Syntax) : Type 0 where
@@ -142,28 +147,39 @@ leaf-marks {low} fits own = let passed : low < low + 1 = omega arith in before-p
 signed : {low middle high : ℕ} {before last : Syntax} {all : List Token} → Marks all low middle before → Marks all middle high last → Marks all low (high + 1) (snoc before last)
 signed {high = high} before last = let up : high ≤ high + 1 = omega arith in to-higher up (marks-both before last)
 
-head-plain : {class : ℕ} → HeadWord class → T (isPlain class)
-head-plain while-word = tt
-head-plain with-word = tt
+-- a token of this class may mark a part of this kind, which holds no operands
+abbrev isOrdinary : ℕ → ℕ → Bool
+isOrdinary kind class = isPlain kind && (isAmong (marking kind) class && not (isAmong operandKinds kind))
 
-jump-plain : {class bare : ℕ} → JumpWord class bare → T (isPlain class)
-jump-plain continue-word = tt
-jump-plain break-word = tt
+name-ordinary : {class : ℕ} → IdentifierName class → T (isOrdinary memberSyntax class)
+name-ordinary identifier = tt
+name-ordinary reserved-word = tt
 
-bare-plain : {class bare : ℕ} → JumpWord class bare → T (isPlain bare)
-bare-plain continue-word = tt
-bare-plain break-word = tt
+head-ordinary : {class : ℕ} → HeadWord class → T (isOrdinary class class)
+head-ordinary while-word = tt
+head-ordinary with-word = tt
+
+jump-ordinary : {class bare : ℕ} → JumpWord class bare → T (isOrdinary class class)
+jump-ordinary continue-word = tt
+jump-ordinary break-word = tt
+
+bare-ordinary : {class bare : ℕ} → JumpWord class bare → T (isOrdinary bare class)
+bare-ordinary continue-word = tt
+bare-ordinary break-word = tt
+
+-- an operand behind a mark, and one before a mark
+stands-behind : {low high mark : ℕ} {value : Syntax} {all : List Token} → mark ≡ low → MarkIn (low + 1) value → Marks all (low + 1) high value → StandsBehind mark value
+stands-behind {low} {mark = mark} {value = value} own first marks =
+    let next : low + 1 ≡ mark + 1 = omega arith in
+    record { next = subst (λ (x : ℕ). List·Memᴰ x (marksOf value)) next (first .member); behind = λ x member. omega (arith, within marks x member) }
+
+stands-before : {low high mark : ℕ} {value : Syntax} {all : List Token} → mark ≡ high → MarkIn low value → Marks all low high value → StandsBefore mark value
+stands-before {low} own first marks = record { some = low; has = first .member; before = λ x member. omega (arith, within marks x member) }
 
 -- the `=` between a variable's name and value, and the `in` between the start and the object of a `for`
 pub initialising : {low high called mark : ℕ} {value : Syntax} {all : List Token} → called ≡ low → mark ≡ low + 1 → MarkIn (low + 1 + 1) value
     → Marks all (low + 1 + 1) high value → Initialises called mark value
-initialising {low} {called = called} {mark = mark} {value = value} own sign first marks =
-    let value-at : low + 1 + 1 ≡ mark + 1 = omega arith in
-    record {
-      beside = omega arith;
-      next = subst (λ (x : ℕ). List·Memᴰ x (marksOf value)) value-at (first .member);
-      behind = λ x member. omega (arith, within marks x member);
-    }
+initialising own sign first marks = record { beside = omega arith; value-behind = stands-behind sign first marks }
 
 pub iterating : {low high middle end word mark : ℕ} {start object inner : Syntax} {all : List Token} → word ≡ low → MarkIn (low + 1 + 1) start
     → Marks all (low + 1 + 1) high start → mark ≡ high → MarkIn (high + 1) object → Marks all (high + 1) middle object → Marks all middle end inner
@@ -233,55 +249,95 @@ module _ {all : List Token} {total : ℕ} where
   parameters-skip no-parameters counting = skips-none counting
   parameters-skip (some-parameters names) counting = names-skip names counting
 
-  bare-fits : {called next : ℕ} (after : List Token) → T (endsBare after) → called + 1 ≡ next
-      → Counting all total next after → Fits all variableSyntax called nil nil
-  bare-fits [] ended behind counting = absurd ended
-  bare-fits {called} (token class spot ∷ rest) ended behind counting =
+  bare-shape : {called next : ℕ} (after : List Token) → T (endsBare after) → called + 1 ≡ next
+      → Counting all total next after → Shape all variableSyntax called nil nil
+  bare-shape [] ended behind counting = absurd ended
+  bare-shape {called} (token class spot ∷ rest) ended behind counting =
       let n = at-mark class (at-class (λ x. not (isClosing x)) behindBare class ended tt) counting in
       let next : called + 1 ≡ spot .mark = omega (arith, n .own) in
       bare (n .among) ended next
+
+  -- a part that this token marks, by what its kind asks; one that holds operands; and one that holds none
+  fits : {kind class low : ℕ} {spot : Spot} {rest : List Token} {left right : Syntax} → T (isAmong (marking kind) class) → Marked all total low class spot rest
+      → Shape all kind (spot .mark) left right → Fits all kind (spot .mark) left right
+  fits {class = class} {spot = spot} marks m shape =
+      record { class = class; spot = spot; among = m .among; opens = m .opens; own = refl; marks = marks; shape = shape }
+
+  holding : {kind class low : ℕ} {spot : Spot} {rest : List Token} {left right : Syntax} → T (isPlain kind) → T (isAmong (marking kind) class)
+      → Marked all total low class spot rest → Operands kind (spot .mark) (snoc left right) → Fits all kind (spot .mark) left right
+  holding other marks m holds = fits marks m (plain other (λ h. holds))
+
+  -- an operator before its operand, after it, and between two
+  prefixed : {class low : ℕ} {spot : Spot} {rest : List Token} {operand : Syntax} → T (isAmong prefixOperators class) → Marked all total low class spot rest
+      → StandsBehind (spot .mark) operand → Fits all (prefixKind class) (spot .mark) nil operand
+  prefixed {class} op m operand =
+      holding (at-class (λ x. isPlain (prefixKind x)) prefixOperators class op tt) (at-class (λ x. isAmong (marking (prefixKind x)) x) prefixOperators class op tt) m
+      (operand-behind (at-class (λ x. isAmong prefixKinds (prefixKind x)) prefixOperators class op tt) operand)
+
+  postfixed : {class low : ℕ} {spot : Spot} {rest : List Token} {operand : Syntax} → T (isAmong postfixOperators class) → Marked all total low class spot rest
+      → StandsBefore (spot .mark) operand → Fits all (postfixKind class) (spot .mark) operand nil
+  postfixed {class} op m operand =
+      holding (at-class (λ x. isPlain (postfixKind x)) postfixOperators class op tt) (at-class (λ x. isAmong (marking (postfixKind x)) x) postfixOperators class op tt) m
+      (operand-before (at-class (λ x. isAmong postfixKinds (postfixKind x)) postfixOperators class op tt) operand)
+
+  infixed : (classes : List ℕ) {class low : ℕ} {spot : Spot} {rest : List Token} {left right : Syntax}
+      → T (eachClass (λ x. isPlain x && (isAmong (marking x) x && isAmong infixKinds x)) classes) → T (isAmong classes class) → Marked all total low class spot rest
+      → StandsBefore (spot .mark) left → StandsBehind (spot .mark) right → Fits all class (spot .mark) left right
+  infixed classes {class} each op m left right =
+      let h = at-class (λ x. isPlain x && (isAmong (marking x) x && isAmong infixKinds x)) classes class op each in
+      let more = and-right (isPlain class) (isAmong (marking class) class && isAmong infixKinds class) h in
+      holding (and-left (isPlain class) (isAmong (marking class) class && isAmong infixKinds class) h) (and-left (isAmong (marking class) class) (isAmong infixKinds class) more) m
+      (two-operands (and-right (isAmong (marking class) class) (isAmong infixKinds class) more) left right)
+
+  pub ordinary : {kind class low : ℕ} {spot : Spot} {rest : List Token} {left right : Syntax} → T (isOrdinary kind class) → Marked all total low class spot rest
+      → Fits all kind (spot .mark) left right
+  ordinary {kind} {class} h m =
+      let more = and-right (isPlain kind) (isAmong (marking kind) class && not (isAmong operandKinds kind)) h in
+      fits (and-left (isAmong (marking kind) class) (not (isAmong operandKinds kind)) more) m
+      (plain (and-left (isPlain kind) (isAmong (marking kind) class && not (isAmong operandKinds kind)) h)
+      (λ some. absurd (T-not (isAmong operandKinds kind) (and-right (isAmong (marking kind) class) (not (isAmong operandKinds kind)) more) some)))
 
   pub marked : {low : ℕ} {form : Form} {before after : List Token} {value : Syntax} → Derives form before after value → T (ends form after)
       → Counting all total low before → MarksTo all total low after value
   marked {low} (chain-leaf {class = class} leaf) ended counting =
       let m = at-mark class (leaf-open leaf) counting in
-      record { high = low + 1; rest = m .then; marks = leaf-marks (plain (at-leaf isPlain tt leaf)) (m .own) }
+      record { high = low + 1; rest = m .then; marks = leaf-marks (holding (at-leaf isPlain tt leaf) (at-leaf (λ x. isAmong (marking x) x) tt leaf) m (no-operand (at-leaf (isAmong leafKinds) tt leaf))) (m .own) }
   marked {low} (chain-array values) ended counting =
       let m = at-mark openBracket tt counting in
       let v = marked values tt (m .then) in
-      record { high = v .high; rest = past-closer closeBracket tt (v .rest); marks = before-parts (plain tt) (m .own) (omega arith) (v .marks) (no-marks (v .high)) }
+      record { high = v .high; rest = past-closer closeBracket tt (v .rest); marks = before-parts (ordinary tt m) (m .own) (omega arith) (v .marks) (no-marks (v .high)) }
   marked {low} (chain-object values) ended counting =
       let m = at-mark openBrace tt counting in
       let v = marked values tt (m .then) in
-      record { high = v .high; rest = past-closer closeBrace tt (v .rest); marks = before-parts (plain tt) (m .own) (omega arith) (v .marks) (no-marks (v .high)) }
+      record { high = v .high; rest = past-closer closeBrace tt (v .rest); marks = before-parts (ordinary tt m) (m .own) (omega arith) (v .marks) (no-marks (v .high)) }
   marked {low} (chain-parens value) ended counting =
       let m = at-mark openParen tt counting in
       let v = marked value tt (m .then) in
-      record { high = v .high; rest = past-closer closeParen tt (v .rest); marks = before-parts (plain tt) (m .own) (omega arith) (v .marks) (no-marks (v .high)) }
+      record { high = v .high; rest = past-closer closeParen tt (v .rest); marks = before-parts (ordinary tt m) (m .own) (omega arith) (v .marks) (no-marks (v .high)) }
   marked {low} (chain-function function) ended counting =
       let m = at-mark functionWord tt counting in
       let n = at-mark name tt (m .then) in
       let v = marked function tt (n .then) in
-      record { high = v .high; rest = v .rest; marks = before-parts (plain tt) (m .own) (omega arith) (v .marks) (no-marks (v .high)) }
+      record { high = v .high; rest = v .rest; marks = before-parts (ordinary tt m) (m .own) (omega arith) (v .marks) (no-marks (v .high)) }
   marked {low} (chain-unnamed function) ended counting =
       let m = at-mark functionWord tt counting in
       let v = marked function tt (m .then) in
-      record { high = v .high; rest = v .rest; marks = before-parts (plain tt) (m .own) (omega arith) (v .marks) (no-marks (v .high)) }
+      record { high = v .high; rest = v .rest; marks = before-parts (ordinary tt m) (m .own) (omega arith) (v .marks) (no-marks (v .high)) }
   marked (chain-index object value) ended counting =
       let o = marked object tt counting in
       let m = at-mark openBracket tt (o .rest) in
       let v = marked value tt (m .then) in
-      record { high = v .high; rest = past-closer closeBracket tt (v .rest); marks = between-parts tt (o .marks) (m .own) (v .marks) }
+      record { high = v .high; rest = past-closer closeBracket tt (v .rest); marks = between-parts (ordinary tt m) (o .marks) (m .own) (v .marks) }
   marked (chain-member {class = class} called object) ended counting =
       let o = marked object tt counting in
       let d = at-mark dot tt (o .rest) in
       let m = at-mark class (name-open called) (d .then) in
-      record { high = o .high + 1 + 1; rest = m .then; marks = behind-part tt (o .marks) (omega arith) (omega arith) }
+      record { high = o .high + 1 + 1; rest = m .then; marks = behind-part (ordinary (name-ordinary called) m) (o .marks) (omega arith) (omega arith) }
   marked (chain-call callee values) ended counting =
       let c = marked callee tt counting in
       let m = at-mark openParen tt (c .rest) in
       let v = marked values tt (m .then) in
-      record { high = v .high; rest = past-closer closeParen tt (v .rest); marks = between-parts tt (c .marks) (m .own) (v .marks) }
+      record { high = v .high; rest = past-closer closeParen tt (v .rest); marks = between-parts (ordinary tt m) (c .marks) (m .own) (v .marks) }
   marked {low} (chain-new callee values) ended counting =
       let m = at-mark newWord tt counting in
       let c = marked callee tt (m .then) in
@@ -290,47 +346,48 @@ module _ {all : List Token} {total : ℕ} where
       record {
         high = v .high;
         rest = past-closer closeParen tt (v .rest);
-        marks = before-parts (plain tt) (m .own) (omega arith) (c .marks) (from-lower (omega arith) (v .marks));
+        marks = before-parts (holding tt tt m (callee-behind (stands-behind (m .own) (target-first (target-chain callee) (m .then)) (c .marks)))) (m .own) (omega arith) (c .marks) (from-lower (omega arith) (v .marks));
       }
   marked (target-chain chain) ended counting = marked chain tt counting
   marked {low} (target-new callee) ended counting =
       let m = at-mark newWord tt counting in
       let c = marked callee tt (m .then) in
-      record { high = c .high; rest = c .rest; marks = before-parts (plain tt) (m .own) (omega arith) (no-marks (low + 1)) (c .marks) }
+      record { high = c .high; rest = c .rest; marks = before-parts (holding tt tt m (operand-behind tt (stands-behind (m .own) (target-first callee (m .then)) (c .marks)))) (m .own) (omega arith) (no-marks (low + 1)) (c .marks) }
   marked (unary-target target) ended counting = marked target tt counting
   marked {low} (unary-prefix {class = class} op operand) ended counting =
       let m = at-mark class (operator-open prefixOperators tt class op) counting in
       let v = marked operand tt (m .then) in
-      record { high = v .high; rest = v .rest; marks = before-parts (plain (at-class (λ x. isPlain (prefixKind x)) prefixOperators class op tt)) (m .own) (omega arith) (no-marks (low + 1)) (v .marks) }
+      record { high = v .high; rest = v .rest; marks = before-parts (prefixed op m (stands-behind (m .own) (binary-first (binary-unary {within = true} {least = 0} operand) (m .then)) (v .marks))) (m .own) (omega arith) (no-marks (low + 1)) (v .marks) }
   marked (unary-postfix {class = class} op same operand) ended counting =
       let v = marked operand tt counting in
       let m = at-mark class (operator-open postfixOperators tt class op) (v .rest) in
-      record { high = v .high + 1; rest = m .then; marks = behind-part (at-class (λ x. isPlain (postfixKind x)) postfixOperators class op tt) (v .marks) (omega arith) (omega arith) }
+      record { high = v .high + 1; rest = m .then; marks = behind-part (postfixed op m (stands-before (m .own) (target-first operand counting) (v .marks))) (v .marks) (omega arith) (omega arith) }
   marked (binary-unary unary) ended counting = marked unary tt counting
   marked (binary-operator {within = within} {class = class} op tight left right) ended counting =
       let l = marked left tt counting in
       let m = at-mark class (operator-open binaryOperators tt class (binary-by within class op)) (l .rest) in
       let r = marked right tt (m .then) in
-      record { high = r .high; rest = r .rest; marks = between-parts (at-class isPlain binaryOperators class (binary-by within class op) tt) (l .marks) (m .own) (r .marks) }
+      record { high = r .high; rest = r .rest; marks = between-parts (infixed binaryOperators tt (binary-by within class op) m (stands-before (m .own) (binary-first left counting) (l .marks)) (stands-behind (m .own) (binary-first right (m .then)) (r .marks))) (l .marks) (m .own) (r .marks) }
   marked (assign-binary binary) ended counting = marked binary tt counting
   marked (assign-to {class = class} op target value) ended counting =
       let t = marked target tt counting in
       let m = at-mark class (operator-open assignmentOperators tt class op) (t .rest) in
       let v = marked value tt (m .then) in
-      record { high = v .high; rest = v .rest; marks = between-parts (at-class isPlain assignmentOperators class op tt) (t .marks) (m .own) (v .marks) }
+      record { high = v .high; rest = v .rest; marks = between-parts (infixed assignmentOperators tt op m (stands-before (m .own) (target-first target counting) (t .marks)) (stands-behind (m .own) (expression-first (expression-assign value) (m .then)) (v .marks))) (t .marks) (m .own) (v .marks) }
   marked (assign-conditional condition first second) ended counting =
       let c = marked condition tt counting in
       let m = at-mark question tt (c .rest) in
       let f = marked first tt (m .then) in
       let a = at-mark colon tt (f .rest) in
       let s = marked second tt (a .then) in
-      record { high = s .high; rest = s .rest; marks = inside-parts tt (c .marks) (m .own) (f .marks) (omega arith) (s .marks) }
+      let inner = expression-first (expression-assign first) (m .then) in
+      record { high = s .high; rest = s .rest; marks = inside-parts (holding tt tt m (three-operands (stands-before (m .own) (binary-first condition counting) (c .marks)) (stands-behind (m .own) inner (f .marks)) (stands-before (a .own) inner (f .marks)) (stands-behind (a .own) (expression-first (expression-assign second) (a .then)) (s .marks)))) (c .marks) (m .own) (f .marks) (omega arith) (s .marks) }
   marked (expression-assign value) ended counting = marked value tt counting
   marked (expression-comma left right) ended counting =
       let l = marked left tt counting in
       let m = at-mark comma tt (l .rest) in
       let r = marked right tt (m .then) in
-      record { high = r .high; rest = r .rest; marks = between-parts tt (l .marks) (m .own) (r .marks) }
+      record { high = r .high; rest = r .rest; marks = between-parts (holding tt tt m (two-operands tt (stands-before (m .own) (expression-first left counting) (l .marks)) (stands-behind (m .own) (expression-first (expression-assign right) (m .then)) (r .marks)))) (l .marks) (m .own) (r .marks) }
   marked {low} (function-all parameters statements) ended counting =
       let o = at-mark openParen tt counting in
       let p = parameters-skip parameters (o .then) in
@@ -341,18 +398,18 @@ module _ {all : List Token} {total : ℕ} where
   marked (block-all statements) ended counting =
       let m = at-mark openBrace tt counting in
       let s = marked statements tt (m .then) in
-      record { high = s .high; rest = past-closer closeBrace tt (s .rest); marks = before-parts (plain tt) (m .own) (omega arith) (s .marks) (no-marks (s .high)) }
+      record { high = s .high; rest = past-closer closeBrace tt (s .rest); marks = before-parts (ordinary tt m) (m .own) (omega arith) (s .marks) (no-marks (s .high)) }
   marked (statement-block inner) ended counting = marked inner tt counting
   marked (statement-expression allowed value) ended counting =
       let v = marked value tt counting in
       let m = at-mark semicolon tt (v .rest) in
-      record { high = v .high + 1; rest = m .then; marks = behind-part tt (v .marks) (omega arith) (omega arith) }
+      record { high = v .high + 1; rest = m .then; marks = behind-part (ordinary tt m) (v .marks) (omega arith) (omega arith) }
   marked (statement-var variables last) ended counting =
       let m = at-mark varWord tt counting in
       let v = marked variables tt (m .then) in
       let l = marked last tt (v .rest) in
       let e = at-mark semicolon tt (l .rest) in
-      record { high = l .high + 1; rest = e .then; marks = before-parts (plain tt) (m .own) (omega arith) (v .marks) (to-higher (omega arith) (l .marks)) }
+      record { high = l .high + 1; rest = e .then; marks = before-parts (ordinary tt m) (m .own) (omega arith) (v .marks) (to-higher (omega arith) (l .marks)) }
   marked {low} no-variables ended counting = record { high = low; rest = counting; marks = no-marks low }
   marked (add-variable variables last) ended counting =
       let v = marked variables tt counting in
@@ -362,22 +419,22 @@ module _ {all : List Token} {total : ℕ} where
   marked {low} (variable-bare {called = called} {after = after}) ended counting =
       let m = at-mark name tt counting in
       let next : called .mark + 1 ≡ low + 1 = omega (arith, m .own) in
-      let behind = bare-fits after ended next (m .then) in
-      record { high = low + 1; rest = m .then; marks = leaf-marks behind (m .own) }
+      let behind = bare-shape after ended next (m .then) in
+      record { high = low + 1; rest = m .then; marks = leaf-marks (fits tt m behind) (m .own) }
   marked {low} (variable-initialised value) ended counting =
       let m = at-mark name tt counting in
       let s = at-mark assign tt (m .then) in
       let v = marked value tt (s .then) in
-      record { high = v .high; rest = v .rest; marks = before-parts (initialised (s .among) (initialising (m .own) (s .own) (expression-first (expression-assign value) (s .then)) (v .marks))) (m .own) (omega arith) (no-marks (low + 1 + 1)) (v .marks) }
+      record { high = v .high; rest = v .rest; marks = before-parts (fits tt m (initialised (s .among) (initialising (m .own) (s .own) (expression-first (expression-assign value) (s .then)) (v .marks)))) (m .own) (omega arith) (no-marks (low + 1 + 1)) (v .marks) }
   marked {low} statement-empty ended counting =
       let m = at-mark semicolon tt counting in
-      record { high = low + 1; rest = m .then; marks = leaf-marks (plain tt) (m .own) }
+      record { high = low + 1; rest = m .then; marks = leaf-marks (ordinary tt m) (m .own) }
   marked (statement-if none condition inner) ended counting =
       let m = at-mark ifWord tt counting in
       let o = at-mark openParen tt (m .then) in
       let c = marked condition tt (o .then) in
       let i = marked inner tt (past-closer closeParen tt (c .rest)) in
-      record { high = i .high; rest = i .rest; marks = before-parts (plain tt) (m .own) (omega arith) (c .marks) (i .marks) }
+      record { high = i .high; rest = i .rest; marks = before-parts (ordinary tt m) (m .own) (omega arith) (c .marks) (i .marks) }
   marked (statement-else condition first second) ended counting =
       let m = at-mark ifWord tt counting in
       let o = at-mark openParen tt (m .then) in
@@ -388,7 +445,7 @@ module _ {all : List Token} {total : ℕ} where
       record {
         high = s .high;
         rest = s .rest;
-        marks = between-parts tt (before-parts (plain tt) (m .own) (omega arith) (c .marks) (f .marks)) (e .own) (s .marks);
+        marks = between-parts (ordinary tt e) (before-parts (ordinary tt m) (m .own) (omega arith) (c .marks) (f .marks)) (e .own) (s .marks);
       }
   marked (statement-do inner condition) ended counting =
       let m = at-mark doWord tt counting in
@@ -400,14 +457,14 @@ module _ {all : List Token} {total : ℕ} where
       record {
         high = c .high + 1;
         rest = e .then;
-        marks = before-parts (plain tt) (m .own) (omega arith) (i .marks) (from-lower (omega arith) (to-higher (omega arith) (c .marks)));
+        marks = before-parts (ordinary tt m) (m .own) (omega arith) (i .marks) (from-lower (omega arith) (to-higher (omega arith) (c .marks)));
       }
   marked (statement-head {class = class} heads head inner) ended counting =
       let m = at-mark class (head-open heads) counting in
       let o = at-mark openParen tt (m .then) in
       let h = marked head tt (o .then) in
       let i = marked inner tt (past-closer closeParen tt (h .rest)) in
-      record { high = i .high; rest = i .rest; marks = before-parts (plain (head-plain heads)) (m .own) (omega arith) (h .marks) (i .marks) }
+      record { high = i .high; rest = i .rest; marks = before-parts (ordinary (head-ordinary heads) m) (m .own) (omega arith) (h .marks) (i .marks) }
   marked {low} (statement-for start condition step inner) ended counting =
       let m = at-mark forWord tt counting in
       let o = at-mark openParen tt (m .then) in
@@ -418,7 +475,7 @@ module _ {all : List Token} {total : ℕ} where
       let t = marked step tt (e .then) in
       let i = marked inner tt (past-closer closeParen tt (t .rest)) in
       let head = marks-both (signed (signed (no-marks (low + 1 + 1)) (s .marks)) (c .marks)) (t .marks) in
-      record { high = i .high; rest = i .rest; marks = before-parts (plain tt) (m .own) (omega arith) head (i .marks) }
+      record { high = i .high; rest = i .rest; marks = before-parts (ordinary tt m) (m .own) (omega arith) head (i .marks) }
   marked {low} (statement-for-var variables last condition step inner) ended counting =
       let m = at-mark forWord tt counting in
       let o = at-mark openParen tt (m .then) in
@@ -430,9 +487,9 @@ module _ {all : List Token} {total : ℕ} where
       let e = at-mark semicolon tt (c .rest) in
       let t = marked step tt (e .then) in
       let i = marked inner tt (past-closer closeParen tt (t .rest)) in
-      let start = before-parts (plain tt) (d .own) (omega arith) (v .marks) (l .marks) in
+      let start = before-parts (ordinary tt d) (d .own) (omega arith) (v .marks) (l .marks) in
       let head = marks-both (signed (signed (no-marks (low + 1 + 1)) start) (c .marks)) (t .marks) in
-      record { high = i .high; rest = i .rest; marks = before-parts (plain tt) (m .own) (omega arith) head (i .marks) }
+      record { high = i .high; rest = i .rest; marks = before-parts (ordinary tt m) (m .own) (omega arith) head (i .marks) }
   marked {low} left-out ended counting = record { high = low; rest = counting; marks = no-marks low }
   marked (not-left-out value) ended counting = marked value tt counting
   marked {low} (statement-for-in target object inner) ended counting =
@@ -444,7 +501,7 @@ module _ {all : List Token} {total : ℕ} where
       let i = marked inner tt (past-closer closeParen tt (v .rest)) in
       let own = iterating (m .own) (target-first target (o .then)) (t .marks) (s .own) (expression-first object (s .then)) (v .marks) (i .marks) in
       let head = marks-both (signed (no-marks (low + 1 + 1)) (t .marks)) (v .marks) in
-      record { high = i .high; rest = i .rest; marks = before-parts (iterated (s .among) own) (m .own) (omega arith) head (i .marks) }
+      record { high = i .high; rest = i .rest; marks = before-parts (fits tt m (iterated (s .among) own)) (m .own) (omega arith) head (i .marks) }
   marked {low} (statement-for-var-in variable object inner) ended counting =
       let m = at-mark forWord tt counting in
       let o = at-mark openParen tt (m .then) in
@@ -453,28 +510,28 @@ module _ {all : List Token} {total : ℕ} where
       let s = at-mark inWord tt (l .rest) in
       let v = marked object tt (s .then) in
       let i = marked inner tt (past-closer closeParen tt (v .rest)) in
-      let start = before-parts (plain tt) (d .own) (omega arith) (no-marks (low + 1 + 1 + 1)) (l .marks) in
+      let start = before-parts (ordinary tt d) (d .own) (omega arith) (no-marks (low + 1 + 1 + 1)) (l .marks) in
       let own = iterating (m .own) (own-first varWord tt (o .then)) (start) (s .own) (expression-first object (s .then)) (v .marks) (i .marks) in
       let head = marks-both (signed (no-marks (low + 1 + 1)) start) (v .marks) in
-      record { high = i .high; rest = i .rest; marks = before-parts (iterated (s .among) own) (m .own) (omega arith) head (i .marks) }
+      record { high = i .high; rest = i .rest; marks = before-parts (fits tt m (iterated (s .among) own)) (m .own) (omega arith) head (i .marks) }
   marked {low} (statement-bare-jump {class = class} jumps) ended counting =
       let m = at-mark class (jump-open jumps) counting in
       let e = at-mark semicolon tt (m .then) in
-      record { high = low + 1 + 1; rest = e .then; marks = to-higher (omega arith) (leaf-marks (plain (bare-plain jumps)) (m .own)) }
+      record { high = low + 1 + 1; rest = e .then; marks = to-higher (omega arith) (leaf-marks (ordinary (bare-ordinary jumps) m) (m .own)) }
   marked {low} (statement-jump {class = class} jumps same) ended counting =
       let m = at-mark class (jump-open jumps) counting in
       let l = at-mark name tt (m .then) in
       let e = at-mark semicolon tt (l .then) in
-      record { high = low + 1 + 1 + 1; rest = e .then; marks = to-higher (omega arith) (leaf-marks (plain (jump-plain jumps)) (m .own)) }
+      record { high = low + 1 + 1 + 1; rest = e .then; marks = to-higher (omega arith) (leaf-marks (ordinary (jump-ordinary jumps) m) (m .own)) }
   marked {low} statement-bare-return ended counting =
       let m = at-mark returnWord tt counting in
       let e = at-mark semicolon tt (m .then) in
-      record { high = low + 1 + 1; rest = e .then; marks = before-parts (plain tt) (m .own) (omega arith) (no-marks (low + 1 + 1)) (no-marks (low + 1 + 1)) }
+      record { high = low + 1 + 1; rest = e .then; marks = before-parts (ordinary tt m) (m .own) (omega arith) (no-marks (low + 1 + 1)) (no-marks (low + 1 + 1)) }
   marked {low} (statement-full-return same value) ended counting =
       let m = at-mark returnWord tt counting in
       let v = marked value tt (m .then) in
       let e = at-mark semicolon tt (v .rest) in
-      record { high = v .high + 1; rest = e .then; marks = before-parts (plain tt) (m .own) (omega arith) (no-marks (low + 1)) (to-higher (omega arith) (v .marks)) }
+      record { high = v .high + 1; rest = e .then; marks = before-parts (ordinary tt m) (m .own) (omega arith) (no-marks (low + 1)) (to-higher (omega arith) (v .marks)) }
   marked (statement-switch subject clauses) ended counting =
       let m = at-mark switchWord tt counting in
       let o = at-mark openParen tt (m .then) in
@@ -484,7 +541,7 @@ module _ {all : List Token} {total : ℕ} where
       record {
         high = c .high;
         rest = past-closer closeBrace tt (c .rest);
-        marks = before-parts (plain tt) (m .own) (omega arith) (s .marks) (from-lower (omega arith) (c .marks));
+        marks = before-parts (ordinary tt m) (m .own) (omega arith) (s .marks) (from-lower (omega arith) (c .marks));
       }
   marked {low} no-clauses ended counting = record { high = low; rest = counting; marks = no-marks low }
   marked (add-case cases test statements) ended counting =
@@ -493,58 +550,58 @@ module _ {all : List Token} {total : ℕ} where
       let t = marked test tt (m .then) in
       let s = at-mark colon tt (t .rest) in
       let v = marked statements tt (s .then) in
-      let clause = before-parts (plain tt) (m .own) (omega arith) (t .marks) (from-lower (omega arith) (v .marks)) in
+      let clause = before-parts (ordinary tt m) (m .own) (omega arith) (t .marks) (from-lower (omega arith) (v .marks)) in
       record { high = v .high; rest = v .rest; marks = marks-both (c .marks) clause }
   marked (add-default cases statements) ended counting =
       let c = marked cases tt counting in
       let m = at-mark defaultWord tt (c .rest) in
       let s = at-mark colon tt (m .then) in
       let v = marked statements tt (s .then) in
-      let clause = before-parts (plain tt) (m .own) (omega arith) (no-marks (c .high + 1 + 1)) (v .marks) in
+      let clause = before-parts (ordinary tt m) (m .own) (omega arith) (no-marks (c .high + 1 + 1)) (v .marks) in
       record { high = v .high; rest = v .rest; marks = marks-both (c .marks) clause }
   marked {low} (statement-throw same value) ended counting =
       let m = at-mark throwWord tt counting in
       let v = marked value tt (m .then) in
       let e = at-mark semicolon tt (v .rest) in
-      record { high = v .high + 1; rest = e .then; marks = before-parts (plain tt) (m .own) (omega arith) (no-marks (low + 1)) (to-higher (omega arith) (v .marks)) }
+      record { high = v .high + 1; rest = e .then; marks = before-parts (ordinary tt m) (m .own) (omega arith) (no-marks (low + 1)) (to-higher (omega arith) (v .marks)) }
   marked {low} (statement-try none inner handler) ended counting =
       let m = at-mark tryWord tt counting in
       let i = marked inner tt (m .then) in
       let h = marked handler tt (i .rest) in
       let parts = marks-both (marks-both (no-marks (low + 1)) (i .marks)) (h .marks) in
-      record { high = h .high; rest = h .rest; marks = before-parts (plain tt) (m .own) (omega arith) parts (no-marks (h .high)) }
+      record { high = h .high; rest = h .rest; marks = before-parts (ordinary tt m) (m .own) (omega arith) parts (no-marks (h .high)) }
   marked {low} (statement-try-finally inner last) ended counting =
       let m = at-mark tryWord tt counting in
       let i = marked inner tt (m .then) in
       let l = marked last tt (i .rest) in
       let parts = marks-both (marks-both (no-marks (low + 1)) (i .marks)) (l .marks) in
-      record { high = l .high; rest = l .rest; marks = before-parts (plain tt) (m .own) (omega arith) parts (no-marks (l .high)) }
+      record { high = l .high; rest = l .rest; marks = before-parts (ordinary tt m) (m .own) (omega arith) parts (no-marks (l .high)) }
   marked {low} (statement-try-all inner handler last) ended counting =
       let m = at-mark tryWord tt counting in
       let i = marked inner tt (m .then) in
       let h = marked handler tt (i .rest) in
       let l = marked last tt (h .rest) in
       let parts = marks-both (marks-both (marks-both (no-marks (low + 1)) (i .marks)) (h .marks)) (l .marks) in
-      record { high = l .high; rest = l .rest; marks = before-parts (plain tt) (m .own) (omega arith) parts (no-marks (l .high)) }
+      record { high = l .high; rest = l .rest; marks = before-parts (ordinary tt m) (m .own) (omega arith) parts (no-marks (l .high)) }
   marked {low} (catch-all inner) ended counting =
       let m = at-mark catchWord tt counting in
       let o = at-mark openParen tt (m .then) in
       let n = at-mark name tt (o .then) in
       let i = marked inner tt (past-closer closeParen tt (n .then)) in
-      record { high = i .high; rest = i .rest; marks = before-parts (plain tt) (m .own) (omega arith) (no-marks (low + 1 + 1 + 1)) (i .marks) }
+      record { high = i .high; rest = i .rest; marks = before-parts (ordinary tt m) (m .own) (omega arith) (no-marks (low + 1 + 1 + 1)) (i .marks) }
   marked {low} (finally-all inner) ended counting =
       let m = at-mark finallyWord tt counting in
       let i = marked inner tt (m .then) in
-      record { high = i .high; rest = i .rest; marks = before-parts (plain tt) (m .own) (omega arith) (no-marks (low + 1)) (i .marks) }
+      record { high = i .high; rest = i .rest; marks = before-parts (ordinary tt m) (m .own) (omega arith) (no-marks (low + 1)) (i .marks) }
   marked {low} statement-debugger ended counting =
       let m = at-mark debuggerWord tt counting in
       let e = at-mark semicolon tt (m .then) in
-      record { high = low + 1 + 1; rest = e .then; marks = to-higher (omega arith) (leaf-marks (plain tt) (m .own)) }
+      record { high = low + 1 + 1; rest = e .then; marks = to-higher (omega arith) (leaf-marks (ordinary tt m) (m .own)) }
   marked {low} (statement-label inner) ended counting =
       let m = at-mark name tt counting in
       let s = at-mark colon tt (m .then) in
       let i = marked inner tt (s .then) in
-      record { high = i .high; rest = i .rest; marks = before-parts (plain tt) (m .own) (omega arith) (no-marks (low + 1 + 1)) (i .marks) }
+      record { high = i .high; rest = i .rest; marks = before-parts (ordinary tt m) (m .own) (omega arith) (no-marks (low + 1 + 1)) (i .marks) }
   marked {low} no-statements ended counting = record { high = low; rest = counting; marks = no-marks low }
   marked (add-statement statements last) ended counting =
       let s = marked statements tt counting in
@@ -558,7 +615,7 @@ module _ {all : List Token} {total : ℕ} where
       record {
         high = f .high;
         rest = f .rest;
-        marks = marks-both (s .marks) (before-parts (plain tt) (m .own) (omega arith) (f .marks) (no-marks (f .high)));
+        marks = marks-both (s .marks) (before-parts (ordinary tt m) (m .own) (omega arith) (f .marks) (no-marks (f .high)));
       }
   marked {low} no-items ended counting = record { high = low; rest = counting; marks = no-marks low }
   marked (add-item values starts last) ended counting =

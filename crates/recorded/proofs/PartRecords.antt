@@ -1,9 +1,9 @@
--- The parts of a syntax tree (Recorded.antt) are its records.
+-- The parts of a syntax tree (Parts.antt) are its records.
 use mathlib.Core.Path.{_≡_, refl}
 use mathlib.Core.List.{List, [], _∷_, _++_}
 use Prim.Native.Nat.{ℕ, _+_}
 use Rattle.machine.specs.Syntax.{Syntax, nil, node, snoc, size, syntaxRecords}
-use Rattle.recorded.specs.Recorded.{Part, part, partsOf}
+use Rattle.recorded.specs.Parts.{Part, part, partsOf}
 
 -- "kind; index of its marking tree record; syntax records in it with itself"
 abbrev pub written : List Part → List ℕ

@@ -20,25 +20,38 @@ use lib.Dec.{T, eqb}
 use Rattle.machine.specs.Tokens.{Token, token, Spot, assign, inWord}
 use Rattle.machine.specs.Syntax.{Syntax, nil, node, snoc, variableSyntax, forInSyntax, size, marksOf, Distinct, distinct-none, distinct-more}
 use Rattle.machine.specs.Operators.{isAmong}
-use Rattle.recorded.specs.Recorded.{Initialises, Iterates, behindBare}
+use Rattle.recorded.specs.Parts.{marking, InOrder, order-none, order-part, order-both}
+use Rattle.recorded.specs.Recorded.{operandKinds, Operands, Initialises, Iterates, behindBare}
+use Rattle.recorded.proofs.Counts.{isClosing}
 
 -- the kinds of the parts that are neither
 abbrev pub isPlain : ℕ → Bool
 isPlain kind = not (eqb kind variableSyntax || eqb kind forInSyntax)
 
--- A variable's part has a `=` among all tokens, between its name and its value, or another token behind its name; and that of a `for` with an `in` has that
--- `in`.
-pub data Fits (all : List Token) : ℕ → ℕ → Syntax → Syntax → Type 0 where
-  plain : {kind mark : ℕ} {left right : Syntax} → T (isPlain kind) → Fits all kind mark left right
+-- A plain part holds its operands, if its kind has some. A variable's part has a `=` among all tokens, between its name and its value, or another token behind
+-- its name; and that of a `for` with an `in` has that `in`.
+pub data Shape (all : List Token) : ℕ → ℕ → Syntax → Syntax → Type 0 where
+  plain : {kind mark : ℕ} {left right : Syntax} → T (isPlain kind) → (T (isAmong operandKinds kind) → Operands kind mark (snoc left right))
+      → Shape all kind mark left right
   bare : {called class : ℕ} {next : Spot} → List·Memᴰ (token class next) all → T (isAmong behindBare class) → called + 1 ≡ next .mark
-      → Fits all variableSyntax called nil nil
+      → Shape all variableSyntax called nil nil
   initialised : {called : ℕ} {sign : Spot} {value : Syntax} → List·Memᴰ (token assign sign) all → Initialises called (sign .mark) value
-      → Fits all variableSyntax called nil value
+      → Shape all variableSyntax called nil value
   iterated : {word : ℕ} {sign : Spot} {start object inner : Syntax} → List·Memᴰ (token inWord sign) all → Iterates word (sign .mark) start object inner
-      → Fits all forInSyntax word (snoc (snoc nil start) object) inner
+      → Shape all forInSyntax word (snoc (snoc nil start) object) inner
+
+-- and each part is marked by a token that may mark it and is no closer
+pub record Fits (all : List Token) (kind mark : ℕ) (left right : Syntax) : Type 0 where
+  pub class : ℕ
+  pub spot : Spot
+  pub among : List·Memᴰ (token class spot) all
+  pub opens : T (not (isClosing class))
+  pub own : spot .mark ≡ mark
+  pub marks : T (isAmong (marking kind) class)
+  pub shape : Shape all kind mark left right
 
 -- The marks of parts side by side lie in ranges side by side, and a part's own mark before, between or behind those of its parts, or between the
--- two pieces of its left part. Each part fits its kind.
+-- two pieces of its left part.
 pub data Marks (all : List Token) : ℕ → ℕ → Syntax → Type 0 where
   marks-none : {low high : ℕ} → low ≤ high → Marks all low high nil
   marks-before : {low next middle high kind mark : ℕ} {left right : Syntax} → Fits all kind mark left right → low ≤ mark → mark < next
@@ -78,23 +91,23 @@ before-parts {low} {next} {mark = mark} fits own over left right =
     let passed : mark < next = omega arith in
     marks-before fits here passed left right
 
-pub between-parts : {low middle high kind mark : ℕ} {left right : Syntax} {all : List Token} → T (isPlain kind) → Marks all low middle left → mark ≡ middle
+pub between-parts : {low middle high kind mark : ℕ} {left right : Syntax} {all : List Token} → Fits all kind mark left right → Marks all low middle left → mark ≡ middle
     → Marks all (middle + 1) high right → Marks all low high (node kind mark left right)
-between-parts {middle = middle} {mark = mark} other left own right =
+between-parts {middle = middle} {mark = mark} fits left own right =
     let here : middle ≤ mark = omega arith in
     let passed : mark < middle + 1 = omega arith in
-    marks-between (plain other) left here passed right
+    marks-between fits left here passed right
 
-pub behind-part : {low middle high kind mark : ℕ} {left : Syntax} {all : List Token} → T (isPlain kind) → Marks all low middle left → middle ≤ mark
+pub behind-part : {low middle high kind mark : ℕ} {left : Syntax} {all : List Token} → Fits all kind mark left nil → Marks all low middle left → middle ≤ mark
     → mark < high → Marks all low high (node kind mark left nil)
-behind-part {middle = middle} other left here passed = marks-behind (plain other) left (no-marks middle) here passed
+behind-part {middle = middle} fits left here passed = marks-behind fits left (no-marks middle) here passed
 
-pub inside-parts : {low middle next end high kind mark : ℕ} {before last right : Syntax} {all : List Token} → T (isPlain kind) → Marks all low middle before
+pub inside-parts : {low middle next end high kind mark : ℕ} {before last right : Syntax} {all : List Token} → Fits all kind mark (snoc before last) right → Marks all low middle before
     → mark ≡ middle → Marks all (middle + 1) end last → end ≤ next → Marks all next high right → Marks all low high (node kind mark (snoc before last) right)
-inside-parts {middle = middle} {mark = mark} other before own last up right =
+inside-parts {middle = middle} {mark = mark} fits before own last up right =
     let here : middle ≤ mark = omega arith in
     let passed : mark < middle + 1 = omega arith in
-    marks-inside (plain other) before here passed last (from-lower up right)
+    marks-inside fits before here passed last (from-lower up right)
 
 -- as many records as the range has room for
 pub range-size : {low high : ℕ} {value : Syntax} {all : List Token} → Marks all low high value → low + size value ≤ high
@@ -184,3 +197,16 @@ distinct (marks-inside {mark = mark} {before = first} {last = second} {right = t
     (λ e. omega (arith, within right mark e, range-size last))
 distinct (marks-both before last) =
     distinct-append (distinct before) (distinct last) λ m e f. omega (arith, within before m e, within last m f)
+
+-- so each piece is behind the one before it
+pub ordered : {low high : ℕ} {value : Syntax} {all : List Token} → Marks all low high value → InOrder value
+ordered (marks-none h) = order-none
+ordered (marks-before fits h k left right) = order-part (ordered left) (ordered right) λ m n e f. omega (arith, within left m e, within right n f)
+ordered (marks-between fits left h k right) = order-part (ordered left) (ordered right) λ m n e f. omega (arith, within left m e, within right n f)
+ordered (marks-behind fits left right h k) = order-part (ordered left) (ordered right) λ m n e f. omega (arith, within left m e, within right n f)
+ordered (marks-inside {before = first} {last = second} fits before h k last right) =
+    order-part (order-both (ordered before) (ordered last) λ m n e f. omega (arith, within before m e, within last n f)) (ordered right)
+    λ m n e f.
+    in-either (marksOf first) (marksOf second) (λ g. omega (arith, within before m g, within right n f, range-size last))
+    (λ g. omega (arith, within last m g, within right n f)) e
+ordered (marks-both before last) = order-both (ordered before) (ordered last) λ m n e f. omega (arith, within before m e, within last n f)

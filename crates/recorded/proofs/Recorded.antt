@@ -1,9 +1,9 @@
 -- Document 02, U4: "each added operator and value word makes one syntax record": each token of a program that is one marks a part, whose kind its
 -- class and its place in the part tell. No two parts have the same mark (OwnMarks.antt).
 use mathlib.Core.Path.{_≡_, refl, subst}
-use mathlib.Core.Bool.{Bool, true, not}
-use mathlib.Core.List.{List, [], _∷_, _++_, List·Memᴰ, List·Memᴰ·head, Memᴰ·append-left, Memᴰ·append-right, append-assoc}
-use Prim.Native.Nat.{ℕ, _+_, _<_}
+use mathlib.Core.Bool.{Bool, not, _&&_}
+use mathlib.Core.List.{List, [], _∷_, _++_, List·Memᴰ, List·Memᴰ·head, Memᴰ·append-left, Memᴰ·append-right}
+use Prim.Native.Nat.{ℕ, _+_}
 use native.Mathlib.Omega.{arith}
 use lib.Dec.{T, T-not}
 use Rattle.machine.specs.Tokens.{Token, token, Spot, name, assign, comma, varWord, elseWord, doWord, whileWord, forWord, inWord, switchWord, caseWord, defaultWord, throwWord, tryWord, catchWord, finallyWord, debuggerWord, colon, semicolon, dot, openParen, closeParen, openBracket, closeBracket, openBrace, closeBrace, returnWord, functionWord, ifWord}
@@ -110,14 +110,16 @@ use Rattle.grammar.specs.Grammar.{
   Expression,
   Program,
 }
-use Rattle.recorded.specs.Recorded.{recordedClasses, isRecorded, firstKinds, behindKind, Part, part, partsOf, Makes, makes-first, makes-behind, Assigns, assigns, initialises, Iterates, Relates, relates, iterates}
-use Rattle.grammar.proofs.TableLaws.{at-class, at-leaf, number-at, binary-by}
-use Rattle.recorded.proofs.Counts.{isClosing, leaf-open, operator-open}
-use Rattle.recorded.proofs.Ranges.{plain, no-marks, before-parts, within}
+use Rattle.recorded.specs.Parts.{Part, part, partsOf, marking}
+use Rattle.recorded.specs.Recorded.{recordedClasses, isRecorded, operandKinds, Makes, Assigns, assigns, initialises, Iterates, Relates, relates, iterates}
+use Rattle.text.proofs.Range.{and-left, and-right}
+use Rattle.grammar.proofs.TableLaws.{at-class, at-leaf, binary-by}
+use Rattle.recorded.proofs.Ranges.{no-marks, before-parts}
+use Rattle.recorded.proofs.Markers.{part-holds}
 use Rattle.recorded.proofs.Counting.{Counting, counting-closer, counting-mark, past-closer, at-mark}
 use Rattle.recorded.proofs.Unmarked.{Gaps, gaps, assign-unmarked, in-unmarked}
-use Rattle.recorded.proofs.Firsts.{MarkIn, own-first, target-first, binary-first, expression-first}
-use Rattle.recorded.proofs.OwnMarks.{MarksTo, initialising, iterating, marked}
+use Rattle.recorded.proofs.Firsts.{MarkIn, own-first, target-first, expression-first}
+use Rattle.recorded.proofs.OwnMarks.{MarksTo, initialising, iterating, ordinary, marked}
 
 -- a token that is to have a record, or a `=` or `in`
 abbrev mayMark : ℕ → Bool
@@ -125,7 +127,8 @@ mayMark class = isAmong (assign ∷ inWord ∷ recordedClasses) class
 
 -- it has it among these, or initialises a variable, or is the `in` of a `for`
 data Has (class mark : ℕ) (parts : List Part) : Type 0 where
-  has-part : Makes class mark parts → Has class mark parts
+  has-part : {kind : ℕ} {inside : Syntax} → List·Memᴰ (part kind mark inside) parts → T (isAmong (marking kind) class) → T (isAmong operandKinds kind)
+      → Has class mark parts
   has-assign : class ≡ assign → Assigns mark parts → Has class mark parts
   has-in : class ≡ inWord → Relates mark parts → Has class mark parts
 
@@ -184,30 +187,14 @@ module _ {all : List Token} {total : ℕ} {parts : List Part} (free : Gaps parts
   taken has r low (counting-closer closing counting) = recorded-more has (r low counting)
   taken has r low (counting-mark opens among own counting) = recorded-more has (r (low + 1) counting)
 
-  -- a token that marks no part, one that marks a part from its start, one that marks a part behind an operand, and the `=` behind the name of a variable
+  -- a token that marks no part, one that marks a part, and the `=` behind the name of a variable
   other : (class : ℕ) {spot : Spot} {rest : List Token} → T (not (mayMark class)) → Held all total parts rest → Held all total parts (token class spot ∷ rest)
   other class none = taken (λ h. absurd (T-not (mayMark class) none h))
 
-  starting : {kind class : ℕ} {spot : Spot} {left right : Syntax} {rest after : List Token} → T (isAmong (firstKinds class) kind) → T (not (isClosing class))
-      → ((low : ℕ) → Counting all total low (token class spot ∷ rest) → MarksTo all total low after (node kind (spot .mark) left right))
+  making : {kind class : ℕ} {spot : Spot} {left right : Syntax} {rest : List Token} → T (isAmong (marking kind) class && isAmong operandKinds kind)
       → Among parts (node kind (spot .mark) left right) → Held all total parts rest → Held all total parts (token class spot ∷ rest)
-  starting {class = class} {spot = spot} kinds opens marks among r low counting =
-      let m = at-mark class opens counting in
-      let each = within (marks low counting .marks) in
-      taken (λ h. has-part (makes-first (own-part among) kinds λ x member. omega (arith, each x (rw append-assoc at (Memᴰ·append-left (spot .mark ∷ []) member))))) r
-      low counting
-
-  behind : {kind class : ℕ} {spot : Spot} {operand left right : Syntax} {before rest : List Token} → kind ≡ behindKind class → T (not (isClosing class))
-      → ((low : ℕ) → Counting all total low before → MarkIn low operand) → ((m : ℕ) → List·Memᴰ m (marksOf operand) → List·Memᴰ m (marksOf left))
-      → ((low : ℕ) → Counting all total low before → MarksTo all total low (token class spot ∷ rest) operand)
-      → Among parts (node kind (spot .mark) left right) → (Held all total parts (token class spot ∷ rest) → Held all total parts before) → Held all total parts rest
-      → Held all total parts before
-  behind {class = class} {spot = spot} {right = right} same opens first inside marks among before r low counting =
-      let to = marks low counting in
-      let m = at-mark class opens (to .rest) in
-      let some = first low counting .member in
-      let under : low < spot .mark = omega (arith, within (to .marks) low some) in
-      before (taken (λ h. has-part (makes-behind (rw same at (own-part among)) (Memᴰ·append-left (marksOf right) (inside low some)) under)) r) low counting
+  making {kind} {class} h among =
+      taken (λ may. has-part (own-part among) (and-left (isAmong (marking kind) class) (isAmong operandKinds kind) h) (and-right (isAmong (marking kind) class) (isAmong operandKinds kind) h))
 
   initialised : {more : Bool} {called sign : Spot} {value : Syntax} {rest after : List Token} → Derives (assignForm more) rest after value
       → Among parts (node variableSyntax (called .mark) nil value) → Held all total parts rest
@@ -252,7 +239,7 @@ module _ {all : List Token} {total : ℕ} {parts : List Part} (free : Gaps parts
 
   -- where those behind a part have their records, those from its start on have theirs
   derived : {form : Form} {before after : List Token} {value : Syntax} → Derives form before after value → Among parts value → Held all total parts after → Held all total parts before
-  derived (chain-leaf leaf) a r = starting (at-leaf (λ x. isAmong (firstKinds x) x) tt leaf) (leaf-open leaf) (λ low. marked (chain-leaf {calls = true} leaf) tt) a r
+  derived (chain-leaf leaf) a r = making (at-leaf (λ x. isAmong (marking x) x && isAmong operandKinds x) tt leaf) a r
   derived (chain-array values) a r = other openBracket tt (derived values (in-left a) (other closeBracket tt r))
   derived (chain-object values) a r = other openBrace tt (derived values (in-left a) (other closeBrace tt r))
   derived (chain-parens value) a r = other openParen tt (derived value (in-left a) (other closeParen tt r))
@@ -263,29 +250,24 @@ module _ {all : List Token} {total : ℕ} {parts : List Part} (free : Gaps parts
   derived (chain-member {class = class} called object) a r = derived object (in-left a) (other dot tt (other class (name-other called) r))
   derived (chain-call callee values) a r = derived callee (in-left a) (other openParen tt (derived values (in-right a) (other closeParen tt r)))
   derived (chain-new callee values) a r =
-      starting tt tt (λ low. marked (chain-new {calls = true} callee values) tt) a
-      (derived callee (in-left a) (other openParen tt (derived values (in-right a) (other closeParen tt r))))
+      making tt a (derived callee (in-left a) (other openParen tt (derived values (in-right a) (other closeParen tt r))))
   derived (target-chain chain) a r = derived chain a r
-  derived (target-new callee) a r = starting tt tt (λ low. marked (target-new {calls = true} callee) tt) a (derived callee (in-right a) r)
+  derived (target-new callee) a r = making tt a (derived callee (in-right a) r)
   derived (unary-target target) a r = derived target a r
   derived (unary-prefix {class = class} op operand) a r =
-      starting (at-class (λ x. isAmong (firstKinds x) (prefixKind x)) prefixOperators class op tt) (operator-open prefixOperators tt class op)
-      (λ low. marked (unary-prefix op operand) tt) a (derived operand (in-right a) r)
+      making (at-class (λ x. isAmong (marking (prefixKind x)) x && isAmong operandKinds (prefixKind x)) prefixOperators class op tt) a (derived operand (in-right a) r)
   derived (unary-postfix {class = class} op same operand) a r =
-      behind (number-at postfixKind behindKind postfixOperators tt class op) (operator-open postfixOperators tt class op) (λ low. target-first operand) (λ m e. e)
-      (λ low. marked operand tt) a (λ t. derived operand (in-left a) t) r
+      derived operand (in-left a) (making (at-class (λ x. isAmong (marking (postfixKind x)) x && isAmong operandKinds (postfixKind x)) postfixOperators class op tt) a r)
   derived (binary-unary unary) a r = derived unary a r
   derived (binary-operator {within = within} {class = class} op tight left right) a r =
-      let among = binary-by within class op in
-      behind (number-at (λ x. x) behindKind binaryOperators tt class among) (operator-open binaryOperators tt class among) (λ low. binary-first left) (λ m e. e)
-      (λ low. marked left tt) a (λ t. derived left (in-left a) t) (derived right (in-right a) r)
+      derived left (in-left a)
+      (making (at-class (λ x. isAmong (marking x) x && isAmong operandKinds x) binaryOperators class (binary-by within class op) tt) a (derived right (in-right a) r))
   derived (assign-binary binary) a r = derived binary a r
   derived (assign-to {class = class} op target value) a r =
-      behind (number-at (λ x. x) behindKind assignmentOperators tt class op) (operator-open assignmentOperators tt class op) (λ low. target-first target) (λ m e. e)
-      (λ low. marked target tt) a (λ t. derived target (in-left a) t) (derived value (in-right a) r)
-  derived (assign-conditional {first = inner} condition first second) a r =
-      behind refl tt (λ low. binary-first condition) (λ m e. Memᴰ·append-left (marksOf inner) e) (λ low. marked condition tt) a (λ t. derived condition (in-before (in-left a)) t)
-      (derived first (in-last (in-left a)) (other colon tt (derived second (in-right a) r)))
+      derived target (in-left a)
+      (making (at-class (λ x. isAmong (marking x) x && isAmong operandKinds x) assignmentOperators class op tt) a (derived value (in-right a) r))
+  derived (assign-conditional condition first second) a r =
+      derived condition (in-before (in-left a)) (making tt a (derived first (in-last (in-left a)) (other colon tt (derived second (in-right a) r))))
   derived (expression-assign value) a r = derived value a r
   derived (expression-comma left right) a r = derived left (in-left a) (other comma tt (derived right (in-right a) r))
   derived (function-all parameters statements) a r =
@@ -338,7 +320,7 @@ module _ {all : List Token} {total : ℕ} {parts : List Part} (free : Gaps parts
       (λ low counting.
       let d = at-mark varWord tt counting in
       let v = marked variable tt (d .then) in
-      record { high = v .high; rest = v .rest; marks = before-parts (plain tt) (d .own) (omega arith) (no-marks (low + 1)) (v .marks) })
+      record { high = v .high; rest = v .rest; marks = before-parts (ordinary tt d) (d .own) (omega arith) (no-marks (low + 1)) (v .marks) })
       (λ t. other varWord tt (derived variable (in-right (in-last (in-before (in-left a)))) t))
       (derived object (in-last (in-left a)) (other closeParen tt (derived inner (in-right a) r)))
   derived (statement-bare-jump {class = class} jumps) a r = other class (jump-other jumps) (other semicolon tt r)
@@ -388,12 +370,18 @@ module _ {total low : ℕ} {all : List Token} {value : Syntax} (counting : Count
       recorded-at before class spot after
       (subst (Recorded (partsOf value)) split (derived (gaps (marked program tt counting .marks)) program (record { each = λ p member. member }) (λ end none. recorded-none) low counting)) h
 
+  -- what has its part there makes it: the part holds what it must
+  makes : {class mark kind : ℕ} {inside : Syntax} → List·Memᴰ (part kind mark inside) (partsOf value) → T (isAmong (marking kind) class)
+      → T (isAmong operandKinds kind) → Makes class mark (partsOf value)
+  makes {kind = kind} {inside = inside} is marks some =
+      record { kind = kind; inside = inside; among = is; marks = marks; holds = part-holds counting program is some }
+
   pub token-recorded : (class : ℕ) (spot : Spot) (after : List Token) → all ≡ before ++ (token class spot ∷ after) → T (isRecorded class)
       → Makes class (spot .mark) (partsOf value)
   token-recorded class spot after split h = made (has-at class spot after split (at-class mayMark recordedClasses class h tt))
     where
-      made : {mark : ℕ} {parts : List Part} → Has class mark parts → Makes class mark parts
-      made (has-part makes) = makes
+      made : {mark : ℕ} → Has class mark (partsOf value) → Makes class mark (partsOf value)
+      made (has-part is marks some) = makes is marks some
       made (has-assign same assigned) = absurd (subst (λ (x : ℕ). T (isRecorded x)) same h)
       made (has-in same related) = absurd (subst (λ (x : ℕ). T (isRecorded x)) same h)
 
@@ -401,8 +389,8 @@ module _ {total low : ℕ} {all : List Token} {value : Syntax} (counting : Count
   pub assign-recorded : (spot : Spot) (after : List Token) → all ≡ before ++ (token assign spot ∷ after) → Assigns (spot .mark) (partsOf value)
   assign-recorded spot after split = made (has-at assign spot after split tt)
     where
-      made : {mark : ℕ} {parts : List Part} → Has assign mark parts → Assigns mark parts
-      made (has-part makes) = assigns makes
+      made : {mark : ℕ} → Has assign mark (partsOf value) → Assigns mark (partsOf value)
+      made (has-part is marks some) = assigns (makes is marks some)
       made (has-assign same assigned) = assigned
       made (has-in same related) = absurd (omega arith)
 
@@ -410,8 +398,8 @@ module _ {total low : ℕ} {all : List Token} {value : Syntax} (counting : Count
   pub in-recorded : (spot : Spot) (after : List Token) → all ≡ before ++ (token inWord spot ∷ after) → Relates (spot .mark) (partsOf value)
   in-recorded spot after split = made (has-at inWord spot after split tt)
     where
-      made : {mark : ℕ} {parts : List Part} → Has inWord mark parts → Relates mark parts
-      made (has-part makes) = relates makes
+      made : {mark : ℕ} → Has inWord mark (partsOf value) → Relates mark (partsOf value)
+      made (has-part is marks some) = relates (makes is marks some)
       made (has-assign same assigned) = absurd (omega arith)
       made (has-in same related) = related
 

@@ -6,11 +6,12 @@ use native.Mathlib.Omega.{arith}
 use lib.Dec.{T}
 use Rattle.machine.specs.Tokens.{Token}
 use Rattle.machine.specs.Syntax.{Syntax, nil, node, snoc, variableSyntax, forInSyntax, marksOf}
-use Rattle.recorded.specs.Recorded.{Part, part, partsOf, Initialises, Iterates, Unmarked, Variable, bare-variable, initialised-variable, ForIn, for-in}
+use Rattle.recorded.specs.Parts.{Part, part, partsOf}
+use Rattle.recorded.specs.Recorded.{Initialises, Iterates, Unmarked, Variable, bare-variable, initialised-variable, ForIn, for-in}
 use Rattle.grammar.specs.Grammar.{Program}
 use Rattle.recorded.proofs.Counting.{Counting}
 use Rattle.recorded.proofs.OwnMarks.{marked}
-use Rattle.recorded.proofs.Ranges.{isPlain, Fits, plain, bare, initialised, iterated, Marks, marks-none, marks-before, marks-between, marks-behind, marks-inside, marks-both, range-size, Within, within, in-either, in-node}
+use Rattle.recorded.proofs.Ranges.{isPlain, Shape, Fits, plain, bare, initialised, iterated, Marks, marks-none, marks-before, marks-between, marks-behind, marks-inside, marks-both, range-size, Within, within, in-either, in-node}
 
 -- a part's marks, with its own
 abbrev partMarks : Part → List ℕ
@@ -174,7 +175,7 @@ module _ {parts : List Part} (free : Gaps parts) where
       → Unmarked mark parts
   assign-unmarked {called} {mark} {value} is own =
       let over : called < mark = omega (arith, own .beside) in
-      free .unmarked variableSyntax called mark (mark + 1) (snoc nil value) is over (λ e. omega (arith, own .behind mark e)) (own .next) (omega arith)
+      free .unmarked variableSyntax called mark (mark + 1) (snoc nil value) is over (λ e. omega (arith, own .value-behind .behind mark e)) (own .value-behind .next) (omega arith)
 
   pub in-unmarked : {word mark : ℕ} {start object inner : Syntax} → List·Memᴰ (part forInSyntax word (snoc (snoc (snoc nil start) object) inner)) parts
       → Iterates word mark start object inner → Unmarked mark parts
@@ -190,7 +191,7 @@ module _ {parts : List Part} (free : Gaps parts) where
       (Memᴰ·append-left (marksOf inner) (Memᴰ·append-right (marksOf start) (own .next))) (omega arith)
 
 -- a part's pieces fit its kind (Ranges.antt)
-data Fitting (all : List Token) : Part → Type 0 where
+pub data Fitting (all : List Token) : Part → Type 0 where
   fitting : {kind mark : ℕ} {left right : Syntax} → Fits all kind mark left right → Fitting all (part kind mark (snoc left right))
 
 module _ {all : List Token} {p : Part} where
@@ -201,7 +202,7 @@ module _ {all : List Token} {p : Part} where
       in-either (partsOf left) (partsOf right ++ own) f
       (in-either (partsOf right) own g λ e. subst (Fitting all) (sym (List·Memᴰ·eq-of-singleton e)) (fitting fits))
 
-  part-fits : {low high : ℕ} {value : Syntax} → Marks all low high value → List·Memᴰ p (partsOf value) → Fitting all p
+  pub part-fits : {low high : ℕ} {value : Syntax} → Marks all low high value → List·Memᴰ p (partsOf value) → Fitting all p
   part-fits (marks-none h) member = absurd (List·Memᴰ·not-nil member)
   part-fits (marks-before {left = first} {right = second} fits h k left right) member = node-fits first second fits (part-fits left) (part-fits right) member
   part-fits (marks-between {left = first} {right = second} fits left h k right) member = node-fits first second fits (part-fits left) (part-fits right) member
@@ -220,27 +221,27 @@ module _ {total low : ℕ} {all : List Token} {value : Syntax} (counting : Count
       → Variable all (partsOf value) called inside
   variable-signed called inside is = go (part-fits (marked program tt counting .marks) is) is
     where
-      by : {kind : ℕ} {left right : Syntax} → Fits all kind called left right → kind ≡ variableSyntax
+      by : {kind : ℕ} {left right : Syntax} → Shape all kind called left right → kind ≡ variableSyntax
           → List·Memᴰ (part kind called (snoc left right)) (partsOf value) → Variable all (partsOf value) called (snoc left right)
-      by (plain h) same is = absurd (subst (λ (k : ℕ). T (isPlain k)) same h)
+      by (plain h holds) same is = absurd (subst (λ (k : ℕ). T (isPlain k)) same h)
       by (bare among class next) same is = bare-variable among class next
       by (initialised among own) same is = initialised-variable among own (assign-unmarked free is own)
       by (iterated among own) same is = absurd (omega arith)
 
       go : {inside : Syntax} → Fitting all (part variableSyntax called inside) → List·Memᴰ (part variableSyntax called inside) (partsOf value)
           → Variable all (partsOf value) called inside
-      go (fitting fits) is = by fits refl is
+      go (fitting fits) is = by (fits .shape) refl is
 
   pub for-in-signed : (word : ℕ) (inside : Syntax) → List·Memᴰ (part forInSyntax word inside) (partsOf value) → ForIn all (partsOf value) word inside
   for-in-signed word inside is = go (part-fits (marked program tt counting .marks) is) is
     where
-      by : {kind : ℕ} {left right : Syntax} → Fits all kind word left right → kind ≡ forInSyntax
+      by : {kind : ℕ} {left right : Syntax} → Shape all kind word left right → kind ≡ forInSyntax
           → List·Memᴰ (part kind word (snoc left right)) (partsOf value) → ForIn all (partsOf value) word (snoc left right)
-      by (plain h) same is = absurd (subst (λ (k : ℕ). T (isPlain k)) same h)
+      by (plain h holds) same is = absurd (subst (λ (k : ℕ). T (isPlain k)) same h)
       by (bare among class next) same is = absurd (omega arith)
       by (initialised among own) same is = absurd (omega arith)
       by (iterated among own) same is = for-in among own (in-unmarked free is own)
 
       go : {inside : Syntax} → Fitting all (part forInSyntax word inside) → List·Memᴰ (part forInSyntax word inside) (partsOf value)
           → ForIn all (partsOf value) word inside
-      go (fitting fits) is = by fits refl is
+      go (fitting fits) is = by (fits .shape) refl is

@@ -1,13 +1,14 @@
 -- Document 02, U4: "each added operator and value word makes one syntax record"; and U6, whose variables and heads of `for` have a `=` and an `in` that
 -- are no operators.
-use Prim.Native.Nat.{ℕ, _+_, _≤_, _<_}
+use Prim.Native.Nat.{ℕ, _+_, _<_}
 use mathlib.Core.Path.{_≡_}
-use mathlib.Core.Bool.{Bool, false, cond}
-use mathlib.Core.List.{List, [], _∷_, _++_, List·Memᴰ}
-use lib.Dec.{T, eqb}
-use Rattle.machine.specs.Tokens.{Token, token, Spot, comma, semicolon, assign, inWord, thisWord, nullWord, trueWord, falseWord, newWord, plus, minus, increment, decrement, question}
-use Rattle.machine.specs.Operators.{assignmentOperators, binaryOperatorsBy, prefixOperators, postfixOperators, without, isAmong}
-use Rattle.machine.specs.Syntax.{Syntax, nil, node, snoc, constructSyntax, variableSyntax, forInSyntax, incrementedSyntax, decrementedSyntax, positiveSyntax, negativeSyntax, marksOf}
+use mathlib.Core.Bool.{Bool, false}
+use mathlib.Core.List.{List, [], _∷_, _++_, map, List·Memᴰ}
+use lib.Dec.{T}
+use Rattle.machine.specs.Tokens.{Token, token, Spot, name, number, string, pattern, comma, semicolon, assign, inWord, thisWord, nullWord, trueWord, falseWord, newWord, question}
+use Rattle.machine.specs.Operators.{assignmentOperators, binaryOperators, binaryOperatorsBy, prefixOperators, prefixKind, postfixOperators, postfixKind, without, isAmong}
+use Rattle.machine.specs.Syntax.{Syntax, nil, snoc, constructSyntax, variableSyntax, forInSyntax, marksOf}
+use Rattle.recorded.specs.Parts.{Part, part, marking}
 
 -- "`this`, `null`, `true`, `false`"
 abbrev pub valueWords : List ℕ
@@ -23,42 +24,67 @@ recordedClasses =
 abbrev pub isRecorded : ℕ → Bool
 isRecorded class = isAmong recordedClasses class
 
--- a record's kind and mark, and what is in it
-pub data Part : Type 0 where
-  part : ℕ → ℕ → Syntax → Part
+-- an operand before a mark: it has a mark, and all are before that one
+pub record StandsBefore (mark : ℕ) (operand : Syntax) : Type 0 where
+  pub some : ℕ
+  pub has : List·Memᴰ some (marksOf operand)
+  pub before : (m : ℕ) → List·Memᴰ m (marksOf operand) → m < mark
 
--- those of a tree, in the order of its records, which they are (`parts-written` of PartRecords.antt)
-abbrev pub partsOf : Syntax → List Part
-partsOf nil = []
-partsOf (node kind mark left right) = partsOf left ++ (partsOf right ++ (part kind mark (snoc left right) ∷ []))
-partsOf (snoc before last) = partsOf before ++ partsOf last
+-- an operand behind a mark: it has the next, and all are behind that one
+pub record StandsBehind (mark : ℕ) (operand : Syntax) : Type 0 where
+  pub next : List·Memᴰ (mark + 1) (marksOf operand)
+  pub behind : (m : ℕ) → List·Memᴰ m (marksOf operand) → mark < m
 
--- the kinds of a part that starts with its mark, a token of a class: the class, but for `+` and `-` that before one operand; `new` may have arguments
-abbrev pub firstKinds : ℕ → List ℕ
-firstKinds class =
-    cond (eqb class plus) (positiveSyntax ∷ []) (cond (eqb class minus) (negativeSyntax ∷ []) (class ∷ cond (eqb class newWord) (constructSyntax ∷ []) []))
+-- the kinds of parts that are one token; of operators before their operand, and of `new` without arguments; of those after it; of those between two
+abbrev pub leafKinds : List ℕ
+leafKinds = name ∷ number ∷ string ∷ pattern ∷ valueWords
 
--- the kind of a part that has an operand before its mark: the class, but for `++` and `--` that after one
-abbrev pub behindKind : ℕ → ℕ
-behindKind class = cond (eqb class increment) incrementedSyntax (cond (eqb class decrement) decrementedSyntax class)
+abbrev pub prefixKinds : List ℕ
+prefixKinds = newWord ∷ map prefixKind prefixOperators
 
--- a token of this class makes one of these, with this mark: nothing in it is marked before the token, or an operand is
-pub data Makes (class mark : ℕ) (parts : List Part) : Type 0 where
-  makes-first : {kind : ℕ} {inside : Syntax} → List·Memᴰ (part kind mark inside) parts → T (isAmong (firstKinds class) kind)
-      → ((m : ℕ) → List·Memᴰ m (marksOf inside) → mark ≤ m) → Makes class mark parts
-  makes-behind : {operand : ℕ} {inside : Syntax} → List·Memᴰ (part (behindKind class) mark inside) parts → List·Memᴰ operand (marksOf inside)
-      → operand < mark → Makes class mark parts
+abbrev pub postfixKinds : List ℕ
+postfixKinds = map postfixKind postfixOperators
+
+abbrev pub infixKinds : List ℕ
+infixKinds = comma ∷ (binaryOperators ++ assignmentOperators)
+
+abbrev pub operandKinds : List ℕ
+operandKinds = leafKinds ++ (prefixKinds ++ (postfixKinds ++ (constructSyntax ∷ question ∷ infixKinds)))
+
+-- What a part of such a kind holds: nothing; its operand; what `new` makes, before the arguments; both operands; or the three of a conditional, of which the last
+-- two stand before and behind its `:`
+pub data Operands : ℕ → ℕ → Syntax → Type 0 where
+  no-operand : {kind mark : ℕ} → T (isAmong leafKinds kind) → Operands kind mark (snoc nil nil)
+  operand-behind : {kind mark : ℕ} {operand : Syntax} → T (isAmong prefixKinds kind) → StandsBehind mark operand → Operands kind mark (snoc nil operand)
+  operand-before : {kind mark : ℕ} {operand : Syntax} → T (isAmong postfixKinds kind) → StandsBefore mark operand → Operands kind mark (snoc operand nil)
+  callee-behind : {mark : ℕ} {callee arguments : Syntax} → StandsBehind mark callee → Operands constructSyntax mark (snoc callee arguments)
+  two-operands : {kind mark : ℕ} {left right : Syntax} → T (isAmong infixKinds kind) → StandsBefore mark left → StandsBehind mark right
+      → Operands kind mark (snoc left right)
+  three-operands : {mark sign : ℕ} {condition first second : Syntax} → StandsBefore mark condition → StandsBehind mark first → StandsBefore sign first → StandsBehind sign second
+      → Operands question mark (snoc (snoc condition first) second)
+
+-- a token of this class makes a part with this mark, of a kind that tokens of this class mark (Parts.antt), which holds what such a part must
+pub record Makes (class mark : ℕ) (parts : List Part) : Type 0 where
+  pub kind : ℕ
+  pub inside : Syntax
+  pub among : List·Memᴰ (part kind mark inside) parts
+  pub marks : T (isAmong (marking kind) class)
+  pub holds : Operands kind mark inside
 
 -- no part has this mark
 abbrev pub Unmarked : ℕ → List Part → Type 0
 Unmarked mark parts = (kind : ℕ) (inside : Syntax) → List·Memᴰ (part kind mark inside) parts → ⊥
 
 -- Document 02, U6, "as in ES5.1 chapter 12"; 12.2, a variable with an Initialiser: the `=` stands directly behind the name, which marks the variable, and
--- before all marks of the value, which has the next
+-- before the value
 pub record Initialises (called mark : ℕ) (value : Syntax) : Type 0 where
   pub beside : called + 1 ≡ mark
-  pub next : List·Memᴰ (mark + 1) (marksOf value)
-  pub behind : (m : ℕ) → List·Memᴰ m (marksOf value) → mark < m
+  pub value-behind : StandsBehind mark value
+
+-- a `,` is the comma operator, and makes a record as other operators do; or it stands in a list or between variables or parameters, and makes none
+pub data Joins (mark : ℕ) (parts : List Part) : Type 0 where
+  joins : Makes comma mark parts → Joins mark parts
+  separates : Unmarked mark parts → Joins mark parts
 
 -- a `=` makes a record as other operators do; or it makes none and initialises a variable
 pub data Assigns (mark : ℕ) (parts : List Part) : Type 0 where

@@ -46,7 +46,7 @@ past-words which h =
     (at-other (λ row. isClass Class.other (ruleClass row)) (λ number. ltb number 37) words tt tt which (le-ltb which 37 (omega arith)))
 
 -- a number, string or regular expression
-pub literal-kinds : (e : Element) → (e .kind ≡ 1 → ⊥) → (e .kind ≡ 2 → ⊥) → e .kind < 6 → elementClass e ≡ Class.literal
+pub value-kinds : (e : Element) → (e .kind ≡ 1 → ⊥) → (e .kind ≡ 2 → ⊥) → e .kind < 6 → elementClass e ≡ Class.value
 unfolding elementClass
-literal-kinds e a b h =
+value-kinds e a b h =
     rw (ne-eqb (e .kind) 1 a, ne-eqb (e .kind) 2 b, ne-eqb (e .kind) 6 (λ q. omega arith), ne-eqb (e .kind) 11 (λ q. omega arith), ne-eqb (e .kind) 13 (λ q. omega arith))

@@ -4,7 +4,7 @@ use mathlib.Core.List.{List, [], _∷_}
 use lib.Dec.{T}
 use Rattle.text.proofs.Range.{and-left, and-right}
 use Rattle.text.proofs.Members.{Has, here, there, allIn, at}
-use Rattle.rule.specs.Rule.{Class, name, literal, operator, question, answer, colon, dot, comma, semicolon, other, returnWord, functionWord, headWord, parens, brackets, object, block}
+use Rattle.rule.specs.Rule.{Class, name, value, operator, question, answer, colon, dot, comma, semicolon, other, returnWord, functionWord, headWord, parens, brackets, object, block}
 use Rattle.rule.specs.Machinery.Summary.{
   Summary,
   nothing,
@@ -37,11 +37,11 @@ pub at-bool : (P : Bool → Bool) → T (bothBools P) → (b : Bool) → T (P b)
 at-bool P t b = at P (a-bool b) t
 
 abbrev classes : List Class
-classes = name ∷ literal ∷ operator ∷ question ∷ answer ∷ colon ∷ dot ∷ comma ∷ semicolon ∷ other ∷ returnWord ∷ functionWord ∷ headWord ∷ parens ∷ brackets ∷ object ∷ block ∷ []
+classes = name ∷ value ∷ operator ∷ question ∷ answer ∷ colon ∷ dot ∷ comma ∷ semicolon ∷ other ∷ returnWord ∷ functionWord ∷ headWord ∷ parens ∷ brackets ∷ object ∷ block ∷ []
 
 a-class : (c : Class) → Has c classes
 a-class name = here
-a-class literal = there here
+a-class value = there here
 a-class operator = there (there here)
 a-class question = there (there (there here))
 a-class answer = there (there (there (there here)))

@@ -10,7 +10,7 @@ use Rattle.elements.specs.Elements.{signKind}
 use Rattle.elements.specs.declared.Element.{Element}
 use Rattle.elements.proofs.Choices.{cond-both}
 use Rattle.rule.specs.Trees.{Trees, none, leaf, group, count, parenKind, objectKind, bracketKind}
-use Rattle.rule.specs.Rule.{Class, name, literal, operator, question, answer, colon, dot, comma, semicolon, other, returnWord, functionWord, headWord, parens, brackets, object, block, is, elementClass, groupClass, backwards, leaving, unanswered, settledKind}
+use Rattle.rule.specs.Rule.{Class, name, value, operator, question, answer, colon, dot, comma, semicolon, other, returnWord, functionWord, headWord, parens, brackets, object, block, is, elementClass, groupClass, backwards, leaving, unanswered, settledKind}
 use Rattle.rule.specs.Levels.{Levels, wholeText, inside, isExpression, kindOf, treesOf, slashOpens, wordIsName, statedBy, braceOpens, settledIn, countSoFar, onTop}
 use Rattle.rule.specs.Machinery.Summary.{Summary, nothing, afterDot, afterFunctionParens, braceBy, slashBy, nameBy, addName, addParens, addBlock, add, summary, operand, afterOperator, afterSeparator, afterComma, afterOther, afterReturn, afterHeadWord, afterFunction, code, summaries, kinds, oneQuestion, levelFor, levelCode}
 use Rattle.rule.specs.Machinery.LevelCodes.{kindIn, questionsIn, with, levelIn, slashByLevel, nameByLevel, statedByLevel, braceByCode, braceByLevel, settledByLevel, nameCode, levelAfterName, parensCode, levelAfterParens, blockCode, levelAfterBlock, levelAfter}
@@ -142,7 +142,7 @@ module _ (k : ℕ) (s : Summary) (n : ℕ) where
         → levelAfter (levelFor k s n) class newline ≡ levelFor k (add (isExpression k) s class newline) (leaving class n)
     unfolding levelAfter
     level-after name newline = name-level
-    level-after literal newline = plain-level (code false operand)
+    level-after value newline = plain-level (code false operand)
     level-after operator newline = plain-level (code false afterOperator)
     level-after question newline = question-level
     level-after answer newline = answer-level

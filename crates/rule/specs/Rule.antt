@@ -8,7 +8,7 @@ use Rattle.signs.specs.Signs.{longestSign}
 use Rattle.text.specs.Quoted.{bytes}
 use Rattle.elements.specs.declared.Element.{Element}
 use Rattle.vocabulary.specs.Vocabulary.{words, signs, ruleClass, rowAt}
-pub use Rattle.vocabulary.specs.RuleClasses.{Class, name, literal, operator, question, answer, colon, dot, comma, semicolon, other, returnWord, functionWord, headWord, parens, brackets, object, block, rank}
+pub use Rattle.vocabulary.specs.RuleClasses.{Class, name, value, operator, question, answer, colon, dot, comma, semicolon, other, returnWord, functionWord, headWord, parens, brackets, object, block, rank}
 use Rattle.rule.specs.Trees.{Trees, none, leaf, group, parenKind, objectKind, bracketKind, beforeKind, afterKind, answerKind}
 
 -- the class of the reserved word, and of the sign, of a number
@@ -28,7 +28,7 @@ elementClass e =
     (cond (eqb (e .kind) signKind) (signClass (e .which))
     (cond (eqb (e .kind) beforeKind) operator
     (cond (eqb (e .kind) answerKind) answer
-    literal))))
+    value))))
 
 -- the class of a group: kinds 7, 8 and 10, and else a block, kind 9
 unfoldable pub groupClass : ℕ → Class
@@ -50,7 +50,7 @@ backwards (group before kind first end newline within) = tree (groupClass kind) 
 -- after `throw` as after `return`." `newline` says whether a line end lies between last and the brace.
 abbrev pub objectAfter : Bool → Class → Bool → Bool
 objectAfter expression name newline = false
-objectAfter expression literal newline = false
+objectAfter expression value newline = false
 objectAfter expression operator newline = true
 objectAfter expression question newline = true
 objectAfter expression answer newline = true
@@ -87,7 +87,7 @@ endsWith class (tree last l ∷ before) = is class last
 -- preceded by `while`, `for` or `with` opens a pattern."
 abbrev pub patternAfter : Class → List Before → Bool
 patternAfter name before = false
-patternAfter literal before = false
+patternAfter value before = false
 patternAfter operator before = true
 patternAfter question before = true
 patternAfter answer before = true

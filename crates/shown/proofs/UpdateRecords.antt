@@ -104,7 +104,7 @@ use Rattle.grammar.specs.Grammar.{
   add-statement,
   add-declaration,
 }
-use Rattle.recorded.specs.Recorded.{part, partsOf}
+use Rattle.recorded.specs.Parts.{part, partsOf}
 use Rattle.agreement.proofs.TreeClasses.{holds, fails}
 use Rattle.grammar.proofs.TableLaws.{at-class, at-leaf, binary-by}
 use Rattle.recorded.proofs.Counts.{isClosing, operator-open}

@@ -56,7 +56,7 @@ pub const ASSIGN: u32 = 36;
 
 pub const SLASH: u32 = 47;
 
-// The table of the 48 signs, a row for each: its bytes, with 0 after the last; its length; its number. Signs with the same first byte stand together, the longest
+// The table of the 48 signs, a row for each: four bytes, those of the sign and 0 for the others; its length; its number. Signs with the same first byte stand together, the longest
 // first, so that the first of them that a text has at a place is the longest.
 #[rattlefmt::skip]
 const SIGNS: [u8; 288] = [

@@ -5,18 +5,18 @@ use mathlib.Core.List.{[], _∷_}
 use Prim.Native.Nat.{ℕ}
 use lib.Dec.{T, eqb, eqb→eq}
 use lib.ListN.{getD}
-use Rattle.vocabulary.specs.RuleClasses.{Class, name, literal, operator, question, answer, colon, dot, comma, semicolon, other, returnWord, functionWord, headWord, parens, brackets, object, block, rank}
+use Rattle.vocabulary.specs.RuleClasses.{Class, name, value, operator, question, answer, colon, dot, comma, semicolon, other, returnWord, functionWord, headWord, parens, brackets, object, block, rank}
 
 abbrev pub isClass : Class → Class → Bool
 isClass class x = eqb (rank x) (rank class)
 
 classAt : ℕ → Class
-classAt n = getD (name ∷ literal ∷ operator ∷ question ∷ answer ∷ colon ∷ dot ∷ comma ∷ semicolon ∷ other ∷ returnWord ∷ functionWord ∷ headWord ∷ parens ∷ brackets ∷ object ∷ block ∷ []) n other
+classAt n = getD (name ∷ value ∷ operator ∷ question ∷ answer ∷ colon ∷ dot ∷ comma ∷ semicolon ∷ other ∷ returnWord ∷ functionWord ∷ headWord ∷ parens ∷ brackets ∷ object ∷ block ∷ []) n other
 
 at-rank : (x : Class) → classAt (rank x) ≡ x
 unfolding classAt
 at-rank name = refl
-at-rank literal = refl
+at-rank value = refl
 at-rank operator = refl
 at-rank question = refl
 at-rank answer = refl

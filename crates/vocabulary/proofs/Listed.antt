@@ -54,8 +54,8 @@ pub operator-rows : classed Class.operator
 operator-rows = refl
 
 -- document 02, U4: "The four value words are followed by a divide"
-pub literal-rows : classed Class.literal ≡ "this" ∷ "null" ∷ "true" ∷ "false" ∷ []
-literal-rows = refl
+pub value-rows : classed Class.value ≡ "this" ∷ "null" ∷ "true" ∷ "false" ∷ []
+value-rows = refl
 
 -- document 02, U4: "A `:` answering an unanswered `?`"; and "last is `:`"
 pub question-rows : classed Class.question ≡ "?" ∷ []

@@ -5,7 +5,7 @@ pub data Class : Type 0 where
   -- a name
   name : Class
   -- a number, string or regular expression; by document 02, U4, also what stands as one does: `this`, `null`, `true` or `false`, and `++` or `--` after its operand
-  literal : Class
+  value : Class
   -- `/`, `+`, `=`, `++` or `--` before its operand, or any other operator but those below; by document 02, U6, also what a brace stands behind as
   -- behind one: `case`
   operator : Class
@@ -35,7 +35,7 @@ pub data Class : Type 0 where
 -- classes told apart by numbers
 abbrev pub rank : Class → ℕ
 rank name = 0
-rank literal = 1
+rank value = 1
 rank operator = 2
 rank question = 3
 rank answer = 4

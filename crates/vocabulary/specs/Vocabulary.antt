@@ -27,12 +27,12 @@ words =
     taken "case" Class.operator caseWord 0 ∷ taken "else" Class.other elseWord 0 ∷ taken "new" Class.operator newWord 0 ∷ taken "var" Class.other varWord 0 ∷
     taken "catch" Class.other catchWord 0 ∷ taken "finally" Class.other finallyWord 0 ∷ taken "return" Class.returnWord returnWord 0 ∷ taken "void" Class.operator voidWord 0 ∷
     taken "continue" Class.other continueWord 0 ∷ taken "for" Class.headWord forWord 0 ∷ taken "switch" Class.other switchWord 0 ∷ taken "while" Class.headWord whileWord 0 ∷
-    taken "debugger" Class.other debuggerWord 0 ∷ taken "function" Class.functionWord functionWord 0 ∷ taken "this" Class.literal thisWord 0 ∷ taken "with" Class.headWord withWord 0 ∷
+    taken "debugger" Class.other debuggerWord 0 ∷ taken "function" Class.functionWord functionWord 0 ∷ taken "this" Class.value thisWord 0 ∷ taken "with" Class.headWord withWord 0 ∷
     taken "default" Class.other defaultWord 0 ∷ taken "if" Class.headWord ifWord 0 ∷ taken "throw" Class.returnWord throwWord 0 ∷
     taken "delete" Class.operator deleteWord 0 ∷ taken "in" Class.operator inWord 9 ∷ taken "try" Class.other tryWord 0 ∷
     barred "class" ∷ barred "enum" ∷ barred "extends" ∷ barred "super" ∷
     barred "const" ∷ barred "export" ∷ barred "import" ∷
-    taken "null" Class.literal nullWord 0 ∷ taken "true" Class.literal trueWord 0 ∷ taken "false" Class.literal falseWord 0 ∷
+    taken "null" Class.value nullWord 0 ∷ taken "true" Class.value trueWord 0 ∷ taken "false" Class.value falseWord 0 ∷
     []
 
 -- "the 48 signs of ES5.1 section 7.7", in the order of that section. "Legal here: `/ + : ; = .` and `( ) { }`."; document 02, U2: "Add `[`, `]`

@@ -3,7 +3,7 @@ use borrow.Author.Needs.{needs}
 use borrow.Author.Tests.{ne-eqb}
 use Rattle.rule.specs.Rule.{elementClass}
 use Rattle.rule.specs.Machinery.LevelCodes.{levelAfter}
-use Rattle.rule.proofs.ClassNumbers.{literal-kinds}
+use Rattle.rule.proofs.ClassNumbers.{value-kinds}
 use Rattle.leaves.proofs.after_leaf.Statement.{statement}
 use Rattle.leaves.proofs.after_leaf.Tie as tie
 
@@ -29,7 +29,7 @@ add-result c = search needs
 
 returns-3 : tie.Need-returns-3
 unfolding levelAfter
-returns-3 c = rw (literal-kinds (c .before .before .before .before .before .before .args .e) (c .before .before .before .before .if1 .left) (c .before .before .if2 .left) (c .if3 .taken))
+returns-3 c = rw (value-kinds (c .before .before .before .before .before .before .args .e) (c .before .before .before .before .if1 .left) (c .before .before .if2 .left) (c .if3 .taken))
 
 after-sign-requires : tie.Need-after-sign-requires
 after-sign-requires c κs = search needs

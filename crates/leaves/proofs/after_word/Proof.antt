@@ -91,7 +91,7 @@ add-result-6 c = search needs
 
 returns-6 : tie.Need-returns-6
 unfolding levelAfter rowAt
-returns-6 c = rw (class-by Class.literal isValue tt _ (c .before .before .before .before .before .before .if3 .left) (sym (c .before .has3 .ensures) ∙ c .if6 .taken))
+returns-6 c = rw (class-by Class.value isValue tt _ (c .before .before .before .before .before .before .if3 .left) (sym (c .before .has3 .ensures) ∙ c .if6 .taken))
 
 has-requires-4 : tie.Need-has-requires-4
 has-requires-4 c κs = search needs

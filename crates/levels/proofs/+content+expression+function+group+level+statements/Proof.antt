@@ -32,7 +32,7 @@ use Rattle.levels.proofs.statements.Kinds as statements-kinds
 use Rattle.levels.proofs.+content+expression+function+group+level+statements.Lts-statements as statements-lts
 use Rattle.controls.proofs.inside_of.Reads as inside-of-reads
 use Rattle.rows.proofs.row.Reads as row-reads
-use Rattle.controls.proofs.around.Reads as around-reads
+use Rattle.controls.proofs.group_of.Reads as group-of-reads
 use Rattle.effects.proofs.affect.Reads as affect-reads
 use Rattle.groups.proofs.close.Reads as close-reads
 use Rattle.groups.proofs.closing_by.Reads as closing-by-reads
@@ -129,7 +129,7 @@ abbrev level-claims : ℕ → level-lts.Claims
 level-claims t = (inside-of-reads.Asked, inside-of-reads.Learnt, empty-reads.Asked, empty-reads.Learnt, class-at-reads.Asked, class-at-reads.Learnt, newline-at-reads.Asked, newline-at-reads.Learnt, ready-reads.Asked, ready-reads.Learnt, row-reads.Asked, row-reads.Learnt, place-at-reads.Asked, place-at-reads.Learnt, affect-reads.Asked, affect-reads.Learnt, entered-reads.Asked, entered-reads.Learnt, inside-entered-reads.Asked, inside-entered-reads.Learnt, asked-reads.Asked, asked-reads.Learnt, turned-reads.Asked, turned-reads.Learnt, group-below t, group.Post, closing-by-reads.Asked, closing-by-reads.Learnt, close-reads.Asked, close-reads.Learnt, size-at-reads.Asked, size-at-reads.Learnt, at-closer-reads.Asked, at-closer-reads.Learnt)
 
 abbrev statements-claims : ℕ → statements-lts.Claims
-statements-claims t = (around-reads.Asked, around-reads.Learnt, level-below t, level.Post)
+statements-claims t = (group-of-reads.Asked, group-of-reads.Learnt, level-below t, level.Post)
 
 content-inside-requires : (t : ℕ) → content-lts.Need-inside-requires (content-claims t) (content-at t) content.Post
 content-inside-requires t c κs = let f = (c .before .before .before .before) .pre .1 .fine .at ((c .before .before .before .before) .args .at) ((c .before .before .before .before) .pre .1 .here) in (f .some, f .fits)
@@ -439,8 +439,8 @@ level-same-length-6 t c = c .before .syntax8 .given ∙ c .before .before .befor
 level-returns-3 : (t : ℕ) → level-lts.Need-returns-3 (level-claims t) (level-at t) level.Post level-Inv-loop level-μ-loop
 level-returns-3 t c = ran-to-closer (c .before .before .before .before .before .before .before .before .loop .control) (c .before .before .before .before .before .before .before .before .loop .inv .2) (c .before .before .before .before .before .before .before .loop-test .left) (c .before .before .before .before .before .before .before .before .before .before .before .before .before .before .before .args .closer) (c .before .before .before .before .at-closer .ensures)
 
-statements-around-requires : (t : ℕ) → statements-lts.Need-around-requires (statements-claims t) (statements-at t) statements.Post
-statements-around-requires t c κs = tt
+statements-group-of-requires : (t : ℕ) → statements-lts.Need-group-of-requires (statements-claims t) (statements-at t) statements.Post
+statements-group-of-requires t c κs = tt
 
 statements-level-requires : (t : ℕ) → statements-lts.Need-level-requires (statements-claims t) (statements-at t) statements.Post
 statements-level-requires t c κs = let s = c .before .before .before .before .before .before .before in (omega (arith, s .pre .0), s .pre .1 .0)
@@ -452,7 +452,7 @@ statements-same-length-2 : (t : ℕ) → statements-lts.Need-same-length-2 (stat
 statements-same-length-2 t c = c .before .syntax .given
 
 statements-returns : (t : ℕ) → statements-lts.Need-returns (statements-claims t) (statements-at t) statements.Post
-statements-returns t c = ran-as ((c .before .before .before .before .level) .ensures) ((c .before .before .before .before .before .before .before .around) .ensures ((c .before .before .before .before .before .before .before .before .before .before .before .before) .pre .1 .1))
+statements-returns t c = ran-as ((c .before .before .before .before .level) .ensures) ((c .before .before .before .before .before .before .before .group-of) .ensures ((c .before .before .before .before .before .before .before .before .before .before .before .before) .pre .1 .1))
 
 pub +content+expression+function+group+level+statements-spec : {M : Type 1} → statement M
 +content+expression+function+group+level+statements-spec =
@@ -625,10 +625,10 @@ pub +content+expression+function+group+level+statements-spec : {M : Type 1} → 
     (level-same-length-6 t)
     (level-returns-3 t))
     λ t. statements-lts.spec
-    (around-reads.Asked, around-reads.Learnt, level-below t, level.Post)
+    (group-of-reads.Asked, group-of-reads.Learnt, level-below t, level.Post)
     (statements-at t)
     statements.Post
-    (statements-around-requires t)
+    (statements-group-of-requires t)
     (statements-level-requires t)
     (statements-same-length t)
     (statements-same-length-2 t)

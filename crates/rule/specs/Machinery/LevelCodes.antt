@@ -4,7 +4,7 @@ use mathlib.Core.Bool.{Bool, true, false, not, cond, _||_}
 use lib.Dec.{eqb, ltb, leb}
 use Rattle.elements.specs.Elements.{stating}
 use Rattle.elements.specs.declared.Stated.{Stated}
-use Rattle.rule.specs.Rule.{Class, name, literal, operator, question, answer, colon, dot, comma, semicolon, other, returnWord, functionWord, headWord, parens, brackets, object, block, settledSign}
+use Rattle.rule.specs.Rule.{Class, name, value, operator, question, answer, colon, dot, comma, semicolon, other, returnWord, functionWord, headWord, parens, brackets, object, block, settledSign}
 use Rattle.rule.specs.Trees.{objectKind}
 use Rattle.rule.specs.Levels.{isExpression}
 use Rattle.rule.specs.Machinery.Summary.{nothing, operand, afterOperator, afterSeparator, afterDot, afterComma, afterOther, afterReturn, afterHeadWord, afterHead, afterBlock, afterFunction, afterFunctionName, afterFunctionParens, code, summaries, kinds, oneQuestion}
@@ -77,7 +77,7 @@ levelAfterBlock level = with level (blockCode (level % summaries))
 -- after a tree of a class, before which a line end lies or not
 unfoldable pub levelAfter : ℕ → Class → Bool → ℕ
 levelAfter level name newline = levelAfterName level
-levelAfter level literal newline = with level (code false operand)
+levelAfter level value newline = with level (code false operand)
 levelAfter level operator newline = with level (code false afterOperator)
 levelAfter level question newline = with level (code false afterOperator) + oneQuestion
 levelAfter level answer newline = with (cond (ltb level oneQuestion) level (level - oneQuestion)) (code false afterOperator)

@@ -3,7 +3,7 @@ use Prim.Native.Nat.{ℕ, _+_, _*_}
 use mathlib.Core.Bool.{Bool, true, false, not, cond}
 use mathlib.Core.List.{List, [], _∷_}
 use lib.Dec.{eqb}
-use Rattle.rule.specs.Rule.{Class, name, literal, operator, question, answer, colon, dot, comma, semicolon, other, returnWord, functionWord, headWord, parens, brackets, object, block, Before, tree, backwards, unanswered}
+use Rattle.rule.specs.Rule.{Class, name, value, operator, question, answer, colon, dot, comma, semicolon, other, returnWord, functionWord, headWord, parens, brackets, object, block, Before, tree, backwards, unanswered}
 use Rattle.rule.specs.Trees.{objectKind}
 use Rattle.rule.specs.Levels.{Levels, isExpression, kindOf, treesOf}
 
@@ -103,7 +103,7 @@ addBlock (afterFunctionParens inObject) = functionBlock inObject
 -- after a tree of a class, before which a line end lies or not
 abbrev pub add : Bool → Summary → Class → Bool → Summary
 add expression s name newline = addName s
-add expression s literal newline = operand
+add expression s value newline = operand
 add expression s operator newline = afterOperator
 add expression s question newline = afterOperator
 add expression s answer newline = afterOperator

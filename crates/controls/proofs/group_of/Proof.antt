@@ -1,10 +1,10 @@
--- `around` is a group of statements, by the scope.
+-- `group_of` is a group of statements, by the scope.
 use Prim.Native.Nat.{ℕ, _≤_}
 use mathlib.Core.Path.{_≡_, refl}
 use native.Mathlib.Omega.{arith}
 use Rattle.controls.specs.Machinery.Numbers.{settingBy, insideBy}
-use Rattle.controls.proofs.around.Statement.{statement}
-use Rattle.controls.proofs.around.Tie as tie
+use Rattle.controls.proofs.group_of.Statement.{statement}
+use Rattle.controls.proofs.group_of.Tie as tie
 
 returns : tie.Need-returns
 unfolding insideBy settingBy
@@ -17,5 +17,5 @@ returns-2 : tie.Need-returns-2
 unfolding insideBy settingBy
 returns-2 c = λ small. rw (one _ small (c .if1 .left))
 
-pub around-spec : {M : Type 1} → statement M
-around-spec = tie.close (tie.spec returns returns-2)
+pub group-of-spec : {M : Type 1} → statement M
+group-of-spec = tie.close (tie.spec returns returns-2)
