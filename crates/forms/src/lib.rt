@@ -1,41 +1,28 @@
 // Rows of the machine's table inside a form: operands, members, labels, heads of statements, items of lists, functions and their parameters.
-ghost use mathlib.Core.Bool.{Bool, true, false};
+ghost use mathlib.Core.Bool.{Bool, true};
 ghost use mathlib.Core.List.{[], _∷_};
-ghost use Prim.Native.Nat.{ℕ, _≤_, _<_};
-ghost use mathlib.Core.Path.{_≡_};
+ghost use Prim.Native.Nat.{_≤_, _<_};
 ghost use lib.Dec.{T};
-ghost use Rattle.machine.specs.Tokens.{openParen, openBrace};
-ghost use Rattle.machine.specs.Scopes.{block, arrayElements};
-ghost use Rattle.machine.specs.Machinery.Machine.{among, someTarget, byCase, toBlock, statementDue, operandDue, itemDue, operandIn, functionFirst, switchPast, clauseDue, defaultFirst, tryDone, on, goto, push, look, names, operand, member, itemRow, row};
-ghost use Rattle.controls.specs.Machinery.Numbers.{settingBy, itemsBy, endingBy, targetBy, controlBy, effectBy, closingBy, insideBy};
+ghost use Rattle.machine.specs.Tokens.{openParen};
+ghost use Rattle.machine.specs.Scopes.{arrayElements};
+ghost use Rattle.machine.specs.Machinery.Machine.{itemDue, on, goto, push, look, names, operand, member, itemRow, row};
+ghost use Rattle.controls.specs.Machinery.Numbers.{itemsBy, endingBy, targetBy, controlBy, effectBy, closingBy, insideBy};
 ghost use Rattle.machine.specs.Machinery.Classes.{isOpener, isSingle};
 ghost use Rattle.controls.specs.Machinery.Steps.{Due, takesPrefix, Leads, Spans, Means, Goes, Opens, SettledAt};
+
+mod functions;
+mod statements;
+
 use controls::BODY;
-use controls::BODY_DONE;
 use controls::BY_ARGUMENT;
-use controls::BY_CASE;
 use controls::BY_ELEMENT;
-use controls::BY_LAST_CASE;
-use controls::BY_PAREN;
 use controls::BY_PROPERTY;
 use controls::BY_STATEMENT;
 use controls::CATCH_DONE;
-use controls::CATCH_DUE;
-use controls::CATCH_FIRST;
-use controls::CATCH_NAMED;
-use controls::CATCH_PAST;
-use controls::CLAUSE_DUE;
-use controls::DECLARED_FIRST;
-use controls::DECLARED_NAMED;
-use controls::DECLARED_PAST;
-use controls::DEFAULT_FIRST;
 use controls::DOT_LAST;
 use controls::ELSE_NEST;
 use controls::FINALLY_FIRST;
-use controls::FOR_FIRST;
 use controls::FUNCTION_FIRST;
-use controls::FUNCTION_NAMED;
-use controls::HEAD_FIRST;
 use controls::HOLD_WORD;
 use controls::IF_FIRST;
 use controls::IF_NEST;
@@ -43,18 +30,12 @@ use controls::ITEM_DUE;
 use controls::KEEP;
 use controls::MEMBER_DUE;
 use controls::NAME_FIRST;
-use controls::OF_LAST_CLAUSE;
 use controls::OPERAND_DONE;
 use controls::OPERAND_DUE;
-use controls::PARAMETER_DUE;
-use controls::PARAMETER_NAMED;
-use controls::PARAMETER_PAST;
 use controls::PROPERTY_NAMED;
-use controls::SEMICOLON_DUE;
 use controls::START_STATEMENT;
 use controls::STATEMENT_DONE;
 use controls::STATEMENT_DUE;
-use controls::SWITCH_FIRST;
 use controls::SWITCH_PAST;
 use controls::Step;
 use controls::TAKE_ELSE;
@@ -62,26 +43,11 @@ use controls::TAKE_LABEL;
 use controls::TAKE_LEAF;
 use controls::TAKE_MEMBER;
 use controls::TAKE_PREFIX;
-use controls::TEST_FIRST;
 use controls::TO_ARRAY;
-use controls::TO_BLOCK;
-use controls::TO_CATCH;
-use controls::TO_CLAUSES;
 use controls::TO_CONDITION;
-use controls::TO_DECLARATION;
-use controls::TO_FOR;
-use controls::TO_FUNCTION;
-use controls::TO_HEAD;
 use controls::TO_OBJECT;
-use controls::TO_PARAMETER;
 use controls::TO_PARENS;
-use controls::TO_TEST;
-use controls::TRY_DONE;
 use controls::TRY_ENDED;
-use controls::TRY_FIRST;
-use controls::VARIABLE_DUE;
-use controls::VARIABLE_NAMED;
-use controls::behind_statement;
 use controls::bindings;
 use controls::stand;
 use machine::tokens;
@@ -264,242 +230,10 @@ fn later_row(place: u32, ending: u32, setting: u32, flag: bool, class: u32) -> S
     ensures { λ r. ⌜ (17 ≤ place → place < 41 → (newline : Bool) → Means (controlBy place ending setting flag) class r (look class (row (controlBy place ending setting flag) newline))) ⌝ }
 {
     if place <= SWITCH_PAST {
-        return word_form_row(place, ending, setting, class);
+        return statements::word_form_row(place, ending, setting, class);
     }
     if place <= FINALLY_FIRST {
-        return try_row(place, flag, class);
+        return statements::try_row(place, flag, class);
     }
-    function_row(place, ending, setting, flag, class)
-}
-
-// The places behind the word of a statement at which one class alone goes on: a head, a variable's name, the `while` of a `do` and its
-// test, the block of a `switch`.
-fn word_form_row(place: u32, ending: u32, setting: u32, class: u32) -> Step
-    ensures { λ r. ⌜ (17 ≤ place → place ≤ 23 → (flag newline : Bool) → Means (controlBy place ending setting flag) class r (look class (row (controlBy place ending setting flag) newline))) ⌝ }
-{
-    match place {
-        HEAD_FIRST => head_row(class, STATEMENT_DUE, setting, TO_HEAD),
-        VARIABLE_DUE => only(
-            class,
-            tokens::NAME,
-            VARIABLE_NAMED,
-            ending,
-            setting,
-            true,
-            START_STATEMENT,
-        ),
-        BODY_DONE => only(
-            class,
-            tokens::WHILE,
-            TEST_FIRST,
-            BY_STATEMENT,
-            setting,
-            true,
-            KEEP,
-        ),
-        TEST_FIRST => head_row(class, SEMICOLON_DUE, setting, TO_TEST),
-        FOR_FIRST => head_row(class, STATEMENT_DUE, setting, TO_FOR),
-        SWITCH_FIRST => head_row(class, SWITCH_PAST, setting, TO_HEAD),
-        _ => switch_row(class, setting),
-    }
-}
-
-// The block of a `switch`.
-fn switch_row(class: u32, setting: u32) -> Step
-    ensures { λ r. ⌜ Means (switchPast (settingBy setting)) class r (look class (row (switchPast (settingBy setting)) false)) ⌝ }
-{
-    if class == tokens::OPEN_BRACE {
-        return Step::Push(behind_statement(setting), TO_CLAUSES);
-    }
-    Step::Fail
-}
-
-// Where a clause of a `switch` is due: no other `default` may come behind one.
-fn clause_row(class: u32, seen: bool) -> Step
-    ensures { λ r. ⌜ Means (clauseDue seen) class r (look class (row (clauseDue seen) false)) ⌝ }
-{
-    if class == tokens::CASE {
-        return case_row(seen);
-    }
-    if seen {
-        return Step::Fail;
-    }
-    only(
-        class,
-        tokens::DEFAULT,
-        DEFAULT_FIRST,
-        BY_STATEMENT,
-        BODY,
-        true,
-        START_STATEMENT,
-    )
-}
-
-// The value of a `case` tells whether a `default` has come.
-fn case_row(seen: bool) -> Step
-    ensures { λ r. ⌜ Goes r (operandDue (byCase seen) someTarget) 7 ⌝ }
-{
-    if seen {
-        return goto(OPERAND_DUE, BY_LAST_CASE, BODY, true, START_STATEMENT);
-    }
-    goto(OPERAND_DUE, BY_CASE, BODY, true, START_STATEMENT)
-}
-
-// Behind `default`.
-fn default_row(class: u32) -> Step
-    ensures { λ r. ⌜ Means defaultFirst class r (look class (row defaultFirst false)) ⌝ }
-{
-    if class == tokens::COLON {
-        return Step::Enter(OF_LAST_CLAUSE, BODY);
-    }
-    Step::Fail
-}
-
-// The places of a clause and of a `try`.
-fn try_row(place: u32, flag: bool, class: u32) -> Step
-    ensures { λ r. ⌜ (24 ≤ place → place ≤ 32 → (ending setting : ℕ) (newline : Bool) → Means (controlBy place ending setting flag) class r (look class (row (controlBy place ending setting flag) newline))) ⌝ }
-{
-    match place {
-        CLAUSE_DUE => clause_row(class, flag),
-        DEFAULT_FIRST => default_row(class),
-        TRY_FIRST => block_row(class, TRY_DONE),
-        TRY_DONE => handler_row(class),
-        CATCH_FIRST => head_row(class, CATCH_PAST, BODY, TO_CATCH),
-        CATCH_DUE => only(class, tokens::NAME, CATCH_NAMED, BY_PAREN, BODY, true, KEEP),
-        CATCH_PAST => block_row(class, CATCH_DONE),
-        FINALLY_FIRST => block_row(class, TRY_ENDED),
-        _ => Step::Fail,
-    }
-}
-
-// A block of a `try`, behind which the machine stands at a place.
-fn block_row(class: u32, place: u32) -> Step
-    ensures { λ r. ⌜ ((from : Rattle.machine.specs.Machinery.Machine.Control) → Spans toBlock from (controlBy place 0 0 true) → Means from class r (look class (on openBrace (push (statementDue false (among block)) (controlBy place 0 0 true) toBlock) ∷ []))) ⌝ }
-{
-    opens(
-        class,
-        tokens::OPEN_BRACE,
-        place,
-        BY_STATEMENT,
-        BODY,
-        true,
-        TO_BLOCK,
-    )
-}
-
-// Behind the block of a `try`.
-fn handler_row(class: u32) -> Step
-    ensures { λ r. ⌜ Means tryDone class r (look class (row tryDone false)) ⌝ }
-{
-    if class == tokens::CATCH {
-        return goto(CATCH_FIRST, BY_STATEMENT, BODY, true, START_STATEMENT);
-    }
-    only(
-        class,
-        tokens::FINALLY,
-        FINALLY_FIRST,
-        BY_STATEMENT,
-        BODY,
-        true,
-        START_STATEMENT,
-    )
-}
-
-// The places of a function's parameters, and of a function that is an operand.
-fn function_row(place: u32, ending: u32, setting: u32, flag: bool, class: u32) -> Step
-    ensures { λ r. ⌜ (33 ≤ place → place < 41 → (newline : Bool) → Means (controlBy place ending setting flag) class r (look class (row (controlBy place ending setting flag) newline))) ⌝ }
-{
-    match place {
-        PARAMETER_DUE => only(
-            class,
-            tokens::NAME,
-            PARAMETER_NAMED,
-            BY_PAREN,
-            BODY,
-            true,
-            KEEP,
-        ),
-        PARAMETER_NAMED => only(
-            class,
-            tokens::COMMA,
-            PARAMETER_DUE,
-            BY_PAREN,
-            BODY,
-            true,
-            KEEP,
-        ),
-        FUNCTION_FIRST => unnamed_row(ending, setting, flag, class),
-        FUNCTION_NAMED => opens(
-            class,
-            tokens::OPEN_PAREN,
-            PARAMETER_PAST,
-            ending,
-            setting,
-            flag,
-            TO_PARAMETER,
-        ),
-        PARAMETER_PAST => opens(
-            class,
-            tokens::OPEN_BRACE,
-            OPERAND_DONE,
-            ending,
-            setting,
-            flag,
-            TO_FUNCTION,
-        ),
-        _ => declared_row(place, class),
-    }
-}
-
-// Behind `function` in an expression, which needs no name.
-fn unnamed_row(ending: u32, setting: u32, flag: bool, class: u32) -> Step
-    ensures { λ r. ⌜ Means (functionFirst (operandIn (endingBy ending setting) (targetBy ending flag))) class r (look class (row (functionFirst (operandIn (endingBy ending setting) (targetBy ending flag))) false)) ⌝ }
-{
-    if class == tokens::NAME {
-        return goto(FUNCTION_NAMED, ending, setting, flag, KEEP);
-    }
-    opens(
-        class,
-        tokens::OPEN_PAREN,
-        PARAMETER_PAST,
-        ending,
-        setting,
-        flag,
-        TO_PARAMETER,
-    )
-}
-
-// The places of a function that is declared.
-fn declared_row(place: u32, class: u32) -> Step
-    ensures { λ r. ⌜ (38 ≤ place → place < 41 → (ending setting : ℕ) (flag newline : Bool) → Means (controlBy place ending setting flag) class r (look class (row (controlBy place ending setting flag) newline))) ⌝ }
-{
-    match place {
-        DECLARED_FIRST => only(
-            class,
-            tokens::NAME,
-            DECLARED_NAMED,
-            BY_STATEMENT,
-            BODY,
-            false,
-            KEEP,
-        ),
-        DECLARED_NAMED => opens(
-            class,
-            tokens::OPEN_PAREN,
-            DECLARED_PAST,
-            BY_STATEMENT,
-            BODY,
-            false,
-            TO_PARAMETER,
-        ),
-        _ => opens(
-            class,
-            tokens::OPEN_BRACE,
-            STATEMENT_DUE,
-            BY_STATEMENT,
-            BODY,
-            false,
-            TO_DECLARATION,
-        ),
-    }
+    functions::function_row(place, ending, setting, flag, class)
 }

@@ -3,5 +3,7 @@ pub mod CarryLaws
 pub mod AtLaws
 pub mod EffectLaws
 pub mod NestLaws
+pub mod LevelEndLaws
+pub mod ReadyLaws
 pub mod AskLaws
 pub mod ParameterLaws

@@ -1,6 +1,6 @@
 -- A level ends once its operators are closed.
 use borrow.Author.Needs.{needs}
-use Rattle.frames.proofs.NestLaws.{ends}
+use Rattle.frames.proofs.LevelEndLaws.{ends}
 use Rattle.frames.proofs.ended.Statement.{statement}
 use Rattle.frames.proofs.ended.Tie as tie
 

@@ -5,7 +5,7 @@ use Prim.Native.Nat.{_+_, _-_, _*_}
 use lib.ListN.{getD}
 use native.Mathlib.Omega.{arith}
 use Rattle.waiting.proofs.HoldLaws.{backed}
-use Rattle.frames.proofs.NestLaws.{around-may, try-asks, try-held, plain-leaves, try-leaves, do-leaves}
+use Rattle.frames.proofs.ReadyLaws.{around-may, try-asks, try-held, plain-leaves, try-leaves, do-leaves}
 use Rattle.frames.proofs.left.Statement.{statement}
 use Rattle.frames.proofs.left.Tie as tie
 

@@ -4,7 +4,7 @@ use native.Mathlib.Omega.{arith}
 use lib.ListN.{length}
 use Rattle.controls.specs.Machinery.Numbers.{controlOf}
 use Rattle.frames.specs.Machinery.Effects.{StandsSomewhere, Moves, toLeave}
-use Rattle.frames.proofs.NestLaws.{done-here, done-somewhere, settled-here, moves-none, moves-on, leaves-somewhere}
+use Rattle.frames.proofs.ReadyLaws.{done-here, done-somewhere, settled-here, moves-none, moves-on, leaves-somewhere}
 use Rattle.frames.proofs.left_all.Statement.{statement}
 use Rattle.frames.proofs.left_all.Tie as tie
 

@@ -1,6 +1,6 @@
 -- A label's name stays held, another is an operand.
 use borrow.Author.Needs.{needs}
-use Rattle.frames.proofs.NestLaws.{stays, settled-name}
+use Rattle.frames.proofs.ReadyLaws.{stays, settled-name}
 use Rattle.frames.proofs.name_ready.Statement.{statement}
 use Rattle.frames.proofs.name_ready.Tie as tie
 

@@ -1,6 +1,6 @@
 -- The record of the name that is held is put.
 use borrow.Author.Needs.{needs}
-use Rattle.frames.proofs.NestLaws.{name-readies}
+use Rattle.frames.proofs.ReadyLaws.{name-readies}
 use Rattle.frames.proofs.named.Statement.{statement}
 use Rattle.frames.proofs.named.Tie as tie
 

@@ -1,7 +1,7 @@
 -- Before a token: what is settled stays, a name is made ready, and nests that are done are left.
 use borrow.Author.Needs.{needs}
 use denote.Ref.{now}
-use Rattle.frames.proofs.NestLaws.{stays, settled-below}
+use Rattle.frames.proofs.ReadyLaws.{stays, settled-below}
 use Rattle.frames.proofs.ready.Statement.{statement}
 use Rattle.frames.proofs.ready.Tie as tie
 

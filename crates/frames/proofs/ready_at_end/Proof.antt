@@ -1,7 +1,7 @@
 -- As `ready`.
 use borrow.Author.Needs.{needs}
 use denote.Ref.{now}
-use Rattle.frames.proofs.NestLaws.{stays, settled-below}
+use Rattle.frames.proofs.ReadyLaws.{stays, settled-below}
 use Rattle.frames.proofs.ready_at_end.Statement.{statement}
 use Rattle.frames.proofs.ready_at_end.Tie as tie
 

@@ -1,7 +1,7 @@
 -- The head of a clause ends; the nest waits, and its word is held.
 use borrow.Author.Needs.{needs}
 use native.Mathlib.Omega.{arith}
-use Rattle.frames.proofs.NestLaws.{nest-enters, enter-asks}
+use Rattle.frames.proofs.ReadyLaws.{nest-enters, enter-asks}
 use Rattle.groups.proofs.entered.Statement.{statement}
 use Rattle.groups.proofs.entered.Tie as tie
 

@@ -4,8 +4,8 @@ use borrow.Author.Tests.{ne-eqb}
 use Rattle.machine.specs.Tokens.{colon}
 use Rattle.controls.specs.Machinery.Numbers.{enteredBy, wordedBy, outsideBy, behindBy, leftBy}
 use Rattle.controls.specs.Machinery.Steps.{enters-default, means-enter, means-fail}
-use Rattle.forms.proofs.default_row.Statement.{statement}
-use Rattle.forms.proofs.default_row.Tie as tie
+use Rattle.forms.proofs.statements.default_row.Statement.{statement}
+use Rattle.forms.proofs.statements.default_row.Tie as tie
 
 returns : tie.Need-returns
 unfolding enteredBy wordedBy outsideBy behindBy leftBy

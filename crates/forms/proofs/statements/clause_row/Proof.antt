@@ -9,8 +9,8 @@ use Rattle.machine.specs.Machinery.Machine.{startStatement, defaultFirst, fail,
 use Rattle.controls.specs.Machinery.Numbers.{startKind, controlBy, effectBy}
 use Rattle.controls.specs.Machinery.Steps.{to-case, to-default}
 use Rattle.controls.proofs.EndLaws.{at-closers, besides-closers, only-closers}
-use Rattle.forms.proofs.clause_row.Statement.{statement}
-use Rattle.forms.proofs.clause_row.Tie as tie
+use Rattle.forms.proofs.statements.clause_row.Statement.{statement}
+use Rattle.forms.proofs.statements.clause_row.Tie as tie
 
 case-row-requires : tie.Need-case-row-requires
 case-row-requires c κs = search needs

@@ -4,8 +4,8 @@ use borrow.Author.Tests.{ne-eqb}
 use Rattle.machine.specs.Tokens.{name}
 use Rattle.controls.specs.Machinery.Numbers.{controlBy, effectBy, closingBy, insideBy}
 use Rattle.controls.specs.Machinery.Steps.{to-function-name, past-unnamed}
-use Rattle.forms.proofs.unnamed_row.Statement.{statement}
-use Rattle.forms.proofs.unnamed_row.Tie as tie
+use Rattle.forms.proofs.functions.unnamed_row.Statement.{statement}
+use Rattle.forms.proofs.functions.unnamed_row.Tie as tie
 
 goto-requires : tie.Need-goto-requires
 goto-requires c κs = search needs

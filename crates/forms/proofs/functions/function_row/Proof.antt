@@ -11,8 +11,8 @@ use Rattle.controls.specs.Machinery.Steps.{to-parameter, to-next-parameter, pas
 use Rattle.controls.proofs.EndLaws.{at-closers, besides-closers}
 use Rattle.forms.proofs.FormLaws.{parameter-closers}
 use Rattle.controls.proofs.NumberLaws.{beyond}
-use Rattle.forms.proofs.function_row.Statement.{statement}
-use Rattle.forms.proofs.function_row.Tie as tie
+use Rattle.forms.proofs.functions.function_row.Statement.{statement}
+use Rattle.forms.proofs.functions.function_row.Tie as tie
 
 only-requires : tie.Need-only-requires
 only-requires c κs = search needs

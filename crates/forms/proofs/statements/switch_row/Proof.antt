@@ -5,8 +5,8 @@ use Rattle.machine.specs.Tokens.{openBrace}
 use Rattle.controls.specs.Machinery.Numbers.{closingBy, insideBy}
 use Rattle.controls.specs.Machinery.Steps.{past-clauses, means-fail}
 use Rattle.controls.proofs.StepLaws.{opens-group}
-use Rattle.forms.proofs.switch_row.Statement.{statement}
-use Rattle.forms.proofs.switch_row.Tie as tie
+use Rattle.forms.proofs.statements.switch_row.Statement.{statement}
+use Rattle.forms.proofs.statements.switch_row.Tie as tie
 
 behind-statement-requires : tie.Need-behind-statement-requires
 behind-statement-requires c κs = search needs

@@ -5,8 +5,8 @@ use native.Mathlib.Omega.{arith}
 use Rattle.controls.specs.Machinery.Numbers.{mustBy, startKind, controlBy, effectBy, closingBy, insideBy}
 use Rattle.controls.specs.Machinery.Steps.{to-variable, to-test, past-head, past-test, past-for, past-subject}
 use Rattle.controls.proofs.NumberLaws.{beyond}
-use Rattle.forms.proofs.word_form_row.Statement.{statement}
-use Rattle.forms.proofs.word_form_row.Tie as tie
+use Rattle.forms.proofs.statements.word_form_row.Statement.{statement}
+use Rattle.forms.proofs.statements.word_form_row.Tie as tie
 
 head-row-requires : tie.Need-head-row-requires
 head-row-requires c κs = search needs

@@ -1,8 +1,8 @@
 -- `block_row` is a row of one entry.
 use borrow.Author.Needs.{needs}
 use Rattle.controls.specs.Machinery.Numbers.{closingBy, insideBy}
-use Rattle.forms.proofs.block_row.Statement.{statement}
-use Rattle.forms.proofs.block_row.Tie as tie
+use Rattle.forms.proofs.statements.block_row.Statement.{statement}
+use Rattle.forms.proofs.statements.block_row.Tie as tie
 
 opens-requires : tie.Need-opens-requires
 opens-requires c κs = search needs

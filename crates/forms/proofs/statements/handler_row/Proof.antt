@@ -4,8 +4,8 @@ use borrow.Author.Tests.{ne-eqb}
 use Rattle.machine.specs.Tokens.{catchWord}
 use Rattle.controls.specs.Machinery.Numbers.{startKind, controlBy, effectBy}
 use Rattle.controls.specs.Machinery.Steps.{to-catch, to-finally}
-use Rattle.forms.proofs.handler_row.Statement.{statement}
-use Rattle.forms.proofs.handler_row.Tie as tie
+use Rattle.forms.proofs.statements.handler_row.Statement.{statement}
+use Rattle.forms.proofs.statements.handler_row.Tie as tie
 
 goto-requires : tie.Need-goto-requires
 goto-requires c κs = search needs

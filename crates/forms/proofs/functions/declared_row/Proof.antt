@@ -6,8 +6,8 @@ use native.Mathlib.Omega.{arith}
 use Rattle.controls.specs.Machinery.Numbers.{settingBy, mustBy, controlBy, effectBy, closingBy, insideBy}
 use Rattle.controls.specs.Machinery.Steps.{to-function-name, past-parameter, past-declaration}
 use Rattle.controls.proofs.NumberLaws.{beyond}
-use Rattle.forms.proofs.declared_row.Statement.{statement}
-use Rattle.forms.proofs.declared_row.Tie as tie
+use Rattle.forms.proofs.functions.declared_row.Statement.{statement}
+use Rattle.forms.proofs.functions.declared_row.Tie as tie
 
 only-requires : tie.Need-only-requires
 only-requires c κs = search needs

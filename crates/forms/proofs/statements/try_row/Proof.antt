@@ -6,8 +6,8 @@ use Rattle.controls.specs.Machinery.Numbers.{controlBy, effectBy, closingBy, in
 use Rattle.controls.specs.Machinery.Steps.{to-caught, past-tried, past-caught, past-handled, past-finally}
 use Rattle.controls.proofs.EndLaws.{only-closers}
 use Rattle.controls.proofs.NumberLaws.{beyond}
-use Rattle.forms.proofs.try_row.Statement.{statement}
-use Rattle.forms.proofs.try_row.Tie as tie
+use Rattle.forms.proofs.statements.try_row.Statement.{statement}
+use Rattle.forms.proofs.statements.try_row.Tie as tie
 
 clause-row-requires : tie.Need-clause-row-requires
 clause-row-requires c κs = search needs

@@ -1,8 +1,8 @@
 -- `case_row` goes to the value of a `case`, by whether a `default` has come.
 use borrow.Author.Needs.{needs}
 use Rattle.controls.specs.Machinery.Numbers.{endingBy, targetBy, controlBy}
-use Rattle.forms.proofs.case_row.Statement.{statement}
-use Rattle.forms.proofs.case_row.Tie as tie
+use Rattle.forms.proofs.statements.case_row.Statement.{statement}
+use Rattle.forms.proofs.statements.case_row.Tie as tie
 
 goto-requires : tie.Need-goto-requires
 goto-requires c κs = search needs
