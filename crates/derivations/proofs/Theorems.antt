@@ -17,8 +17,8 @@ use Rattle.machine.specs.Tokens.{inWord}
 use Rattle.machine.specs.Operators.{eachClass}
 use Rattle.machine.specs.Syntax.{Syntax, variableSyntax, forInSyntax}
 use Rattle.grammar.specs.Grammar.{Program, isAmong}
-use Rattle.recorded.specs.Parts.{part, partsOf, MarkedBy, InOrder}
-use Rattle.recorded.specs.Recorded.{isRecorded, operandKinds, Operands, Makes, Joins, Assigns, Relates, Variable, ForIn}
+use Rattle.recorded.specs.Parts.{part, partsOf, MarkedByToken, InOrder}
+use Rattle.recorded.specs.Recorded.{isRecorded, operandKinds, Operands, Makes, unrecordedClasses, Unmarked, Joins, Assigns, Relates, Variable, ForIn}
 use Rattle.derivations.specs.Derivations.{Derivation, countTrees, BeginsProgram}
 use Rattle.derivations.specs.TreeElements.{elementsOf}
 use Rattle.machine.specs.Machinery.Machine.{frame}
@@ -29,7 +29,7 @@ use Rattle.derivations.proofs.ReadCuts.{reading-cuts}
 use Rattle.derivations.proofs.SameChoice.{same-choice}
 use Rattle.recorded.proofs.Counts.{few-parts}
 use Rattle.recorded.proofs.Unmarked.{variable-signed, for-in-signed}
-use Rattle.recorded.proofs.Markers.{part-holds, part-marked-by, program-order, comma-joins}
+use Rattle.recorded.proofs.Markers.{part-holds, part-marked-by, program-order, comma-joins, never-marks}
 use Rattle.recorded.proofs.Recorded.{token-recorded, assign-recorded, in-recorded}
 use Rattle.derivations.specs.Demand3.{answersOf, ReadAs, OneDerivation, FewParts, RuleTakes}
 use Rattle.derivations.proofs.TokenLaws.{elements-counting, element-marks}
@@ -98,16 +98,16 @@ few-parts-each-marked text d =
       marked-by = λ m member. omega (arith, marks .within-all m member);
     }
 
--- Document 01, Records: "Kinds with marks": each record is marked by a token that may mark its kind.
+-- Document 01, Records: "Kinds with marks": each record but the program's is marked by a token that may mark its kind.
 pub kinds-marked : (text : List ℕ) (d : Derivation text) (kind mark : ℕ) (inside : Syntax) → List·Memᴰ (part kind mark inside) (partsOf (d .parts))
-    → MarkedBy (tokens (d .elements)) kind mark
+    → MarkedByToken (tokens (d .elements)) kind mark
 kinds-marked text d kind mark inside = part-marked-by (elements-counting (d .elements)) (d .steps)
 
 -- "parts before the whole and in text order": the parts of a record stand in the order of their marks.
 pub in-text-order : (text : List ℕ) (d : Derivation text) → InOrder (d .parts)
 in-text-order text d = program-order (elements-counting (d .elements)) (d .steps)
 
--- Each record of an operator has its operands in it, before its mark and behind it, and that of a name, literal or value word nothing.
+-- Each record of an operator, a member, a call or an index has its operands in it, before its mark and behind it, and that of a name, literal or value word nothing.
 pub operands-held : (text : List ℕ) (d : Derivation text) (kind mark : ℕ) (inside : Syntax) → List·Memᴰ (part kind mark inside) (partsOf (d .parts))
     → T (isAmong operandKinds kind) → Operands kind mark inside
 operands-held text d kind mark inside = part-holds (elements-counting (d .elements)) (d .steps)
@@ -121,13 +121,21 @@ operators-recorded text d before e after split h =
     token-recorded (elements-counting (d .elements)) (d .steps) (tokens before) (classOf e)
     (record { newline = e .newline; mark = countTrees before; first = e .first }) (t .0) (ap tokens split ∙ t .1) h
 
--- a `,` does so too where it is an operator, and makes none elsewhere
+-- a `,` does so too, or makes none
 pub commas-recorded : (text : List ℕ) (d : Derivation text) (before : List Element) (e : Element) (after : List Element)
     → d .elements ≡ before ++ (e ∷ after) → classOf e ≡ comma → Joins (countTrees before) (partsOf (d .parts))
 commas-recorded text d before e after split h =
     let t = token-marked before e after in
     comma-joins (elements-counting (d .elements)) (d .steps) (tokens before)
     (record { newline = e .newline; mark = countTrees before; first = e .first }) (t .0) (rw h at (ap tokens split ∙ t .1))
+
+-- `:` and `.` make none
+pub none-recorded : (text : List ℕ) (d : Derivation text) (before : List Element) (e : Element) (after : List Element)
+    → d .elements ≡ before ++ (e ∷ after) → T (isAmong unrecordedClasses (classOf e)) → Unmarked (countTrees before) (partsOf (d .parts))
+none-recorded text d before e after split h =
+    let t = token-marked before e after in
+    never-marks (elements-counting (d .elements)) (d .steps) (classOf e) (tokens before)
+    (record { newline = e .newline; mark = countTrees before; first = e .first }) (t .0) (ap tokens split ∙ t .1) h
 
 -- a `=` does so too, but where a variable's name stands before it: there it makes none
 pub assignments-recorded : (text : List ℕ) (d : Derivation text) (before : List Element) (e : Element) (after : List Element)
@@ -154,7 +162,7 @@ pub for-ins-signed : (text : List ℕ) (d : Derivation text) (word : ℕ) (insid
     → List·Memᴰ (part forInSyntax word inside) (partsOf (d .parts)) → ForIn (tokens (d .elements)) (partsOf (d .parts)) word inside
 for-ins-signed text d = for-in-signed (elements-counting (d .elements)) (d .steps)
 
--- Of the words and signs these are all but those that no program takes, those of statements and functions, delimiters, `;`, `.`, `:`, `,`, `=` and `in`.
+-- Of the words and signs the classes of `isRecorded` are all but those that no program takes, those of statements and functions, delimiters, `;`, `.`, `:`, `,`, `=` and `in`.
 abbrev otherClasses : List ℕ
 otherClasses =
     0 ∷ assign ∷ inWord ∷ varWord ∷ elseWord ∷ doWord ∷ whileWord ∷ forWord ∷ continueWord ∷ breakWord ∷ withWord ∷ switchWord ∷ caseWord ∷ defaultWord ∷ throwWord ∷ tryWord ∷ catchWord ∷ finallyWord ∷ debuggerWord ∷ returnWord ∷ functionWord ∷ ifWord ∷ openParen ∷ closeParen ∷ openBracket ∷ closeBracket ∷ openBrace ∷ closeBrace ∷ semicolon ∷ dot ∷ colon ∷ comma ∷ []

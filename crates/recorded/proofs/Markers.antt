@@ -1,18 +1,19 @@
--- Each part is marked by a token that may mark it, and holds what its kind asks; so a `,` marks a part with both operands, or none.
+-- Each part is marked by a token that may mark it, and holds what its kind asks; so a `,` marks a part with both operands, or none, and `:` and `.` mark none.
 use mathlib.Core.Path.{_≡_, refl, sym, ap, subst}
 use mathlib.Core.Logic.{_⊎_, inl, inr}
 use mathlib.Core.Bool.{Bool, true, false, not, cond, _&&_}
 use mathlib.Core.List.{List, [], _∷_, _++_, Memᴰ·append-right, List·Memᴰ, List·Memᴰ·head, List·Memᴰ·tail, List·Memᴰ·not-nil, List·Memᴰ·cases-cons}
 use Prim.Native.Nat.{ℕ, _+_, _≤_}
 use native.Mathlib.Omega.{arith}
-use lib.Dec.{T, T-not, eqb, eqb→eq, eqb-refl}
+use lib.Dec.{T, T-not, eqb, leb, ltb, eqb→eq, eqb-refl, leb→le, ltb→lt}
 use Rattle.text.proofs.Range.{and-left, and-right}
 use Rattle.machine.specs.Tokens.{Token, token, Spot, comma}
 use Rattle.machine.specs.Operators.{isAmong}
 use Rattle.machine.specs.Syntax.{Syntax, snoc}
 use Rattle.grammar.specs.Grammar.{Program}
-use Rattle.recorded.specs.Parts.{Part, part, partsOf, Marker, marker, markers, marksIn, marking, MarkedBy, InOrder}
-use Rattle.recorded.specs.Recorded.{operandKinds, Operands, Unmarked, Joins, joins, separates}
+use Rattle.grammar.proofs.TableLaws.{at-class}
+use Rattle.recorded.specs.Parts.{Part, part, partsOf, Marker, marker, markers, lastKind, classesIn, marking, MarkedByToken, InOrder}
+use Rattle.recorded.specs.Recorded.{operandKinds, Operands, unrecordedClasses, Unmarked, Joins, joins, separates}
 use Rattle.recorded.proofs.Counts.{isClosing}
 use Rattle.recorded.proofs.Counting.{Counting, counting-none, counting-closer, counting-mark}
 use Rattle.recorded.proofs.Ranges.{Shape, plain, bare, initialised, iterated, ordered}
@@ -66,23 +67,27 @@ module _ {all : List Token} {total : ℕ} where
       go more (inr e) (inl f) = let here : s .mark ≡ t .mark = cc in absurd (omega (arith, mark-above counting e h, here, own, same))
       go more (inr e) (inr f) = more e f
 
--- a part that a `,` marks is of the comma operator
-abbrev noComma : List Marker → Bool
-noComma [] = true
-noComma (marker kind classes ∷ rest) = not (isAmong classes comma) && noComma rest
+-- a class that no row of the table has marks parts of its own number alone, up to the last
+abbrev noneHas : ℕ → List Marker → Bool
+noneHas class [] = true
+noneHas class (marker kind classes ∷ rest) = not (isAmong classes class) && noneHas class rest
 
-comma-kind : (rows : List Marker) (kind : ℕ) → T (noComma rows) → T (isAmong (marksIn rows kind) comma) → kind ≡ comma
-comma-kind [] kind none h = go (eqb comma kind) (λ same. same) h
+own-kind : (class : ℕ) (rows : List Marker) (kind : ℕ) → T (noneHas class rows) → T (isAmong (classesIn rows kind) class) → (class ≡ kind) × (kind ≤ lastKind)
+own-kind class [] kind none h = go (leb kind lastKind) (λ small. leb→le kind lastKind small) h
   where
-    go : (b : Bool) → (T b → T (eqb comma kind)) → T (cond b true false) → kind ≡ comma
-    go true same h = sym (eqb→eq comma kind (same tt))
-    go false same h = absurd h
-comma-kind (marker k classes ∷ rest) kind none h =
-    go (eqb kind k) (λ here. absurd (T-not (isAmong classes comma) (and-left (not (isAmong classes comma)) (noComma rest) none) here))
-    (λ later. comma-kind rest kind (and-right (not (isAmong classes comma)) (noComma rest) none) later) h
+    go : (b : Bool) → (T b → kind ≤ lastKind) → T (isAmong (cond b (kind ∷ []) []) class) → (class ≡ kind) × (kind ≤ lastKind)
+    go true small h = (is (eqb class kind) (λ e. eqb→eq class kind e) h, small tt)
+      where
+        is : (b : Bool) → (T b → class ≡ kind) → T (cond b true false) → class ≡ kind
+        is true same h = same tt
+        is false same h = absurd h
+    go false small h = absurd h
+own-kind class (marker k classes ∷ rest) kind none h =
+    go (eqb kind k) (λ here. absurd (T-not (isAmong classes class) (and-left (not (isAmong classes class)) (noneHas class rest) none) here))
+    (λ later. own-kind class rest kind (and-right (not (isAmong classes class)) (noneHas class rest) none) later) h
   where
-    go : (b : Bool) → (T (isAmong classes comma) → kind ≡ comma) → (T (isAmong (marksIn rest kind) comma) → kind ≡ comma)
-        → T (isAmong (cond b classes (marksIn rest kind)) comma) → kind ≡ comma
+    go : (b : Bool) → (T (isAmong classes class) → (class ≡ kind) × (kind ≤ lastKind)) → (T (isAmong (classesIn rest kind) class) → (class ≡ kind) × (kind ≤ lastKind))
+        → T (isAmong (cond b classes (classesIn rest kind)) class) → (class ≡ kind) × (kind ≤ lastKind)
     go true here later h = here h
     go false here later h = later h
 
@@ -115,30 +120,33 @@ module _ {total low : ℕ} {all : List Token} {value : Syntax} (counting : Count
       go : {inside : Syntax} → Fitting all (part kind mark inside) → Operands kind mark inside
       go (fitting fits) = shape-holds (fits .shape) some
 
-  pub part-marked-by : {kind mark : ℕ} {inside : Syntax} → List·Memᴰ (part kind mark inside) (partsOf value) → MarkedBy all kind mark
+  pub part-marked-by : {kind mark : ℕ} {inside : Syntax} → List·Memᴰ (part kind mark inside) (partsOf value) → MarkedByToken all kind mark
   part-marked-by {kind} {mark} is = go (fits-at is)
     where
-      go : {inside : Syntax} → Fitting all (part kind mark inside) → MarkedBy all kind mark
+      go : {inside : Syntax} → Fitting all (part kind mark inside) → MarkedByToken all kind mark
       go (fitting fits) = record { class = fits .class; spot = fits .spot; among = fits .among; own = fits .own; marks = fits .marks }
 
   pub program-order : InOrder value
   program-order = ordered (marked program tt counting .marks)
 
+  -- of a token of a class that no row of the table has: a part that it marks is of its class, and there is one or none
+  module _ (before : List Token) (class : ℕ) (spot : Spot) (after : List Token) (split : all ≡ before ++ (token class spot ∷ after)) (opens : T (not (isClosing class)))
+      (none : T (noneHas class markers)) where
+    here : List·Memᴰ (token class spot) all
+    here = subst (λ (ts : List Token). List·Memᴰ (token class spot) ts) (sym split) (Memᴰ·append-right before (List·Memᴰ·head refl))
+
+    part-kind : {kind : ℕ} {inside : Syntax} → Fitting all (part kind (spot .mark) inside) → (class ≡ kind) × (kind ≤ lastKind)
+    part-kind {kind} (fitting fits) =
+        own-kind class markers kind none
+        (subst (λ (c : ℕ). T (isAmong (marking kind) c)) (same-class counting (fits .among) (fits .opens) here opens (fits .own)) (fits .marks))
+
   pub comma-joins : (before : List Token) (spot : Spot) (after : List Token) → all ≡ before ++ (token comma spot ∷ after) → Joins (spot .mark) (partsOf value)
   comma-joins before spot after split = go (sought (spot .mark) (partsOf value))
     where
-      here : List·Memᴰ (token comma spot) all
-      here = subst (λ (ts : List Token). List·Memᴰ (token comma spot) ts) (sym split) (Memᴰ·append-right before (List·Memᴰ·head refl))
-
-      kinds : {kind : ℕ} {inside : Syntax} → Fitting all (part kind (spot .mark) inside) → kind ≡ comma
-      kinds {kind} (fitting fits) =
-          comma-kind markers kind tt
-          (subst (λ (c : ℕ). T (isAmong (marking kind) c)) (same-class counting (fits .among) (fits .opens) here tt (fits .own)) (fits .marks))
-
       go : Sought (spot .mark) (partsOf value) → Joins (spot .mark) (partsOf value)
       go (missing none) = separates none
       go (found {kind = kind} {inside = inside} is) =
-          let same = kinds (fits-at is) in
+          let same : kind ≡ comma = sym (part-kind before comma spot after split tt tt (fits-at is) .0) in
           joins
           (record {
             kind = kind;
@@ -147,3 +155,13 @@ module _ {total low : ℕ} {all : List Token} {value : Syntax} (counting : Count
             marks = rw same tt;
             holds = part-holds is (rw same tt);
           })
+
+  -- above the last kind it marks none
+  pub never-marks : (class : ℕ) (before : List Token) (spot : Spot) (after : List Token) → all ≡ before ++ (token class spot ∷ after)
+      → T (isAmong unrecordedClasses class) → Unmarked (spot .mark) (partsOf value)
+  never-marks class before spot after split h kind inside is =
+      let own =
+      part-kind before class spot after split (at-class (λ x. not (isClosing x)) unrecordedClasses class h tt) (at-class (λ x. noneHas x markers) unrecordedClasses class h tt)
+      (fits-at is) in
+      let above = ltb→lt lastKind class (at-class (λ x. ltb lastKind x) unrecordedClasses class h tt) in
+      omega (arith, own .0, own .1, above)

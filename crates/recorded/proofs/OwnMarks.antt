@@ -127,10 +127,10 @@ use Rattle.grammar.specs.Grammar.{
   Program,
 }
 use Rattle.recorded.specs.Parts.{marking}
-use Rattle.recorded.specs.Recorded.{StandsBefore, StandsBehind, leafKinds, prefixKinds, postfixKinds, infixKinds, operandKinds, Operands, no-operand, operand-behind, operand-before, callee-behind, two-operands, three-operands, Initialises, Iterates, behindBare}
+use Rattle.recorded.specs.Recorded.{StandsBefore, StandsBehind, leafKinds, prefixKinds, postfixKinds, infixKinds, operandKinds, Operands, no-operand, operand-behind, operand-before, member-of, callee-before, object-and-index, callee-behind, two-operands, three-operands, Initialises, Iterates, behindBare}
 use Rattle.grammar.proofs.TableLaws.{eachClass, at-class, at-leaf, binary-by}
 use Rattle.recorded.proofs.Counts.{isClosing, leaf-open, operator-open, name-open, head-open, jump-open}
-use Rattle.recorded.proofs.Ranges.{isPlain, plain, bare, initialised, iterated, Shape, Fits, Marks, marks-both, from-lower, to-higher, no-marks, before-parts, between-parts, behind-part, inside-parts, Within, within, distinct}
+use Rattle.recorded.proofs.Ranges.{isPlain, plain, bare, initialised, iterated, Shape, Fits, Marks, marks-both, from-lower, to-higher, no-marks, before-parts, between-parts, behind-part, inside-parts, range-size, Within, within, distinct}
 use Rattle.recorded.proofs.Firsts.{MarkIn, own-first, target-first, binary-first, expression-first}
 use Rattle.recorded.proofs.Counting.{Counting, counting-none, past-closer, Marked, at-mark, MarkOf, mark-of}
 
@@ -151,9 +151,9 @@ signed {high = high} before last = let up : high ≤ high + 1 = omega arith in t
 abbrev isOrdinary : ℕ → ℕ → Bool
 isOrdinary kind class = isPlain kind && (isAmong (marking kind) class && not (isAmong operandKinds kind))
 
-name-ordinary : {class : ℕ} → IdentifierName class → T (isOrdinary memberSyntax class)
-name-ordinary identifier = tt
-name-ordinary reserved-word = tt
+name-marks : {class : ℕ} → IdentifierName class → T (isAmong (marking memberSyntax) class)
+name-marks identifier = tt
+name-marks reserved-word = tt
 
 head-ordinary : {class : ℕ} → HeadWord class → T (isOrdinary class class)
 head-ordinary while-word = tt
@@ -327,17 +327,17 @@ module _ {all : List Token} {total : ℕ} where
       let o = marked object tt counting in
       let m = at-mark openBracket tt (o .rest) in
       let v = marked value tt (m .then) in
-      record { high = v .high; rest = past-closer closeBracket tt (v .rest); marks = between-parts (ordinary tt m) (o .marks) (m .own) (v .marks) }
-  marked (chain-member {class = class} called object) ended counting =
+      record { high = v .high; rest = past-closer closeBracket tt (v .rest); marks = between-parts (holding tt tt m (object-and-index (stands-before (m .own) (target-first (target-chain object) counting) (o .marks)) (stands-behind (m .own) (expression-first value (m .then)) (v .marks)))) (o .marks) (m .own) (v .marks) }
+  marked {low} (chain-member {class = class} called object) ended counting =
       let o = marked object tt counting in
       let d = at-mark dot tt (o .rest) in
       let m = at-mark class (name-open called) (d .then) in
-      record { high = o .high + 1 + 1; rest = m .then; marks = behind-part (ordinary (name-ordinary called) m) (o .marks) (omega arith) (omega arith) }
+      record { high = o .high + 1 + 1; rest = m .then; marks = behind-part (holding tt (name-marks called) m (member-of (record { some = low; has = target-first (target-chain object) counting .member; before = λ x member. omega (arith, m .own, within (o .marks) x member) }))) (o .marks) (omega arith) (omega arith) }
   marked (chain-call callee values) ended counting =
       let c = marked callee tt counting in
       let m = at-mark openParen tt (c .rest) in
       let v = marked values tt (m .then) in
-      record { high = v .high; rest = past-closer closeParen tt (v .rest); marks = between-parts (ordinary tt m) (c .marks) (m .own) (v .marks) }
+      record { high = v .high; rest = past-closer closeParen tt (v .rest); marks = between-parts (holding tt tt m (callee-before (stands-before (m .own) (target-first (target-chain callee) counting) (c .marks)) (λ x member. omega (arith, m .own, within (v .marks) x member)))) (c .marks) (m .own) (v .marks) }
   marked {low} (chain-new callee values) ended counting =
       let m = at-mark newWord tt counting in
       let c = marked callee tt (m .then) in
@@ -346,7 +346,7 @@ module _ {all : List Token} {total : ℕ} where
       record {
         high = v .high;
         rest = past-closer closeParen tt (v .rest);
-        marks = before-parts (holding tt tt m (callee-behind (stands-behind (m .own) (target-first (target-chain callee) (m .then)) (c .marks)))) (m .own) (omega arith) (c .marks) (from-lower (omega arith) (v .marks));
+        marks = before-parts (holding tt tt m (callee-behind (stands-behind (m .own) (target-first (target-chain callee) (m .then)) (c .marks)) (λ x member. omega (arith, m .own, o .own, within (v .marks) x member, range-size (c .marks))))) (m .own) (omega arith) (c .marks) (from-lower (omega arith) (v .marks));
       }
   marked (target-chain chain) ended counting = marked chain tt counting
   marked {low} (target-new callee) ended counting =

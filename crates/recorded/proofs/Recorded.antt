@@ -178,7 +178,7 @@ module _ {parts : List Part} where
   own-part {left = left} {right = right} among =
       among .each _ (Memᴰ·append-right (partsOf left) (Memᴰ·append-right (partsOf right) (List·Memᴰ·head refl)))
 
--- the same of tokens whose marks count their tree records, by which those of an operand are under a later token's
+-- the same of tokens whose marks count their tree records
 abbrev Held : List Token → ℕ → List Part → List Token → Type 0
 Held all total parts tokens = (low : ℕ) → Counting all total low tokens → Recorded parts tokens
 

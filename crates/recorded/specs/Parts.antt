@@ -5,8 +5,8 @@ use Prim.Native.Nat.{ℕ, _<_}
 use mathlib.Core.Path.{_≡_}
 use mathlib.Core.Bool.{cond}
 use mathlib.Core.List.{List, [], _∷_, _++_, List·Memᴰ}
-use lib.Dec.{T, eqb}
-use Rattle.machine.specs.Tokens.{Token, token, Spot, name, newWord, plus, minus, increment, decrement, forWord, continueWord, breakWord, semicolon, openParen, openBrace, openBracket, returnWord, functionWord, ifWord, wordName}
+use lib.Dec.{T, eqb, leb}
+use Rattle.machine.specs.Tokens.{Token, token, Spot, name, newWord, plus, minus, increment, decrement, forWord, continueWord, breakWord, debuggerWord, semicolon, openParen, openBrace, openBracket, returnWord, functionWord, ifWord, wordName}
 use Rattle.machine.specs.Operators.{isAmong}
 use Rattle.machine.specs.Syntax.{
   Syntax,
@@ -56,7 +56,7 @@ pub data Marker : Type 0 where
 
 -- "5 object, 6 parenthesised (itself or its group); 7 function expression and 19 declaration (`function`); 8 member (name after the dot); 9 call (its group);
 -- .. 13 expression statement (`;`); 14 bare and 15 full return (word); 16 block (group); 17 label (name); 18 if (word)"; document 02, U2: "21 array and 22 index
--- are marked by their group"; a group stands at its opener. 27 and 28 are marked by `new`, 29 and 30 by `++` and `--` after their operand, 36 and 37 by `+` and `-`
+-- are marked by their group"; a group stands at its opener. 27 is marked by `new`, as 28 is, 29 and 30 by `++` and `--` after their operand, 36 and 37 by `+` and `-`
 -- before it; 75, a variable, by its name, 76 by its `;`, 81 by `for`, 82 and 84 by `continue` and `break`
 abbrev pub markers : List Marker
 markers =
@@ -86,16 +86,20 @@ markers =
     marker bareBreakSyntax (breakWord ∷ []) ∷
     []
 
--- of all other kinds the class is the kind's own number: names, numbers, strings and regular expressions, value words, operators and words of statements
-abbrev pub marksIn : List Marker → ℕ → List ℕ
-marksIn [] kind = kind ∷ []
-marksIn (marker k classes ∷ rest) kind = cond (eqb kind k) classes (marksIn rest kind)
+-- of all other kinds the class is the kind's own number: names, numbers, strings and regular expressions, value words, operators and words of statements; no kind
+-- is above the last
+abbrev pub lastKind : ℕ
+lastKind = debuggerWord
+
+abbrev pub classesIn : List Marker → ℕ → List ℕ
+classesIn [] kind = cond (leb kind lastKind) (kind ∷ []) []
+classesIn (marker k classes ∷ rest) kind = cond (eqb kind k) classes (classesIn rest kind)
 
 abbrev pub marking : ℕ → List ℕ
-marking kind = marksIn markers kind
+marking kind = classesIn markers kind
 
 -- among all tokens is one with this mark, of a class that marks parts of the kind
-pub record MarkedBy (all : List Token) (kind mark : ℕ) : Type 0 where
+pub record MarkedByToken (all : List Token) (kind mark : ℕ) : Type 0 where
   pub class : ℕ
   pub spot : Spot
   pub among : List·Memᴰ (token class spot) all

@@ -1,13 +1,13 @@
--- Document 02, U4: "each added operator and value word makes one syntax record"; and U6, whose variables and heads of `for` have a `=` and an `in` that
--- are no operators.
+-- Document 02, U4: "each added operator and value word makes one syntax record", in which its operands are; and U6, whose variables and heads of `for` have a
+-- `=` and an `in` that are no operators.
 use Prim.Native.Nat.{ℕ, _+_, _<_}
 use mathlib.Core.Path.{_≡_}
 use mathlib.Core.Bool.{Bool, false}
 use mathlib.Core.List.{List, [], _∷_, _++_, map, List·Memᴰ}
 use lib.Dec.{T}
-use Rattle.machine.specs.Tokens.{Token, token, Spot, name, number, string, pattern, comma, semicolon, assign, inWord, thisWord, nullWord, trueWord, falseWord, newWord, question}
+use Rattle.machine.specs.Tokens.{Token, token, Spot, name, number, string, pattern, comma, colon, semicolon, dot, assign, inWord, thisWord, nullWord, trueWord, falseWord, newWord, question}
 use Rattle.machine.specs.Operators.{assignmentOperators, binaryOperators, binaryOperatorsBy, prefixOperators, prefixKind, postfixOperators, postfixKind, without, isAmong}
-use Rattle.machine.specs.Syntax.{Syntax, nil, snoc, constructSyntax, variableSyntax, forInSyntax, marksOf}
+use Rattle.machine.specs.Syntax.{Syntax, nil, snoc, memberSyntax, callSyntax, indexSyntax, constructSyntax, variableSyntax, forInSyntax, marksOf}
 use Rattle.recorded.specs.Parts.{Part, part, marking}
 
 -- "`this`, `null`, `true`, `false`"
@@ -16,7 +16,7 @@ valueWords = thisWord ∷ nullWord ∷ trueWord ∷ falseWord ∷ []
 
 -- The tokens that mark a part wherever they stand: value words and operators, those of document 01 too, but `,`, which is an operator only "where
 -- ES5.1 has Expression", and `=` and `in`, which behind the name of a variable and behind the start of a `for` are no operators (`Assigns` and `Relates`
--- below). `?` marks the conditional, and the `:` that answers it nothing
+-- below). `?` marks the conditional
 abbrev pub recordedClasses : List ℕ
 recordedClasses =
     valueWords ++ (newWord ∷ question ∷ (prefixOperators ++ (postfixOperators ++ (binaryOperatorsBy false ++ without assign assignmentOperators))))
@@ -24,13 +24,13 @@ recordedClasses =
 abbrev pub isRecorded : ℕ → Bool
 isRecorded class = isAmong recordedClasses class
 
--- an operand before a mark: it has a mark, and all are before that one
+-- an operand before a mark: it has marks, and all are before the given one
 pub record StandsBefore (mark : ℕ) (operand : Syntax) : Type 0 where
   pub some : ℕ
   pub has : List·Memᴰ some (marksOf operand)
   pub before : (m : ℕ) → List·Memᴰ m (marksOf operand) → m < mark
 
--- an operand behind a mark: it has the next, and all are behind that one
+-- an operand behind a mark: it has the next, and all its marks are behind the given one
 pub record StandsBehind (mark : ℕ) (operand : Syntax) : Type 0 where
   pub next : List·Memᴰ (mark + 1) (marksOf operand)
   pub behind : (m : ℕ) → List·Memᴰ m (marksOf operand) → mark < m
@@ -49,19 +49,28 @@ abbrev pub infixKinds : List ℕ
 infixKinds = comma ∷ (binaryOperators ++ assignmentOperators)
 
 abbrev pub operandKinds : List ℕ
-operandKinds = leafKinds ++ (prefixKinds ++ (postfixKinds ++ (constructSyntax ∷ question ∷ infixKinds)))
+operandKinds =
+    leafKinds ++ (prefixKinds ++ (postfixKinds ++ (memberSyntax ∷ callSyntax ∷ indexSyntax ∷ constructSyntax ∷ question ∷ infixKinds)))
 
--- What a part of such a kind holds: nothing; its operand; what `new` makes, before the arguments; both operands; or the three of a conditional, of which the last
--- two stand before and behind its `:`
+-- all marks of a list of arguments, which may have none, are behind a mark
+abbrev pub AllBehind : ℕ → Syntax → Type 0
+AllBehind mark arguments = (m : ℕ) → List·Memᴰ m (marksOf arguments) → mark < m
+
+-- What a part of such a kind holds: nothing; its operand; what is constructed, called or indexed, or what a member is of, and the arguments or the index; both
+-- operands; or the three of a conditional, of which the last two stand before and behind a mark that is in neither
 pub data Operands : ℕ → ℕ → Syntax → Type 0 where
   no-operand : {kind mark : ℕ} → T (isAmong leafKinds kind) → Operands kind mark (snoc nil nil)
   operand-behind : {kind mark : ℕ} {operand : Syntax} → T (isAmong prefixKinds kind) → StandsBehind mark operand → Operands kind mark (snoc nil operand)
   operand-before : {kind mark : ℕ} {operand : Syntax} → T (isAmong postfixKinds kind) → StandsBefore mark operand → Operands kind mark (snoc operand nil)
-  callee-behind : {mark : ℕ} {callee arguments : Syntax} → StandsBehind mark callee → Operands constructSyntax mark (snoc callee arguments)
+  member-of : {mark : ℕ} {object : Syntax} → StandsBefore mark object → Operands memberSyntax mark (snoc object nil)
+  callee-before : {mark : ℕ} {callee arguments : Syntax} → StandsBefore mark callee → AllBehind mark arguments → Operands callSyntax mark (snoc callee arguments)
+  object-and-index : {mark : ℕ} {object value : Syntax} → StandsBefore mark object → StandsBehind mark value → Operands indexSyntax mark (snoc object value)
+  callee-behind : {mark : ℕ} {callee arguments : Syntax} → StandsBehind mark callee → AllBehind mark arguments
+      → Operands constructSyntax mark (snoc callee arguments)
   two-operands : {kind mark : ℕ} {left right : Syntax} → T (isAmong infixKinds kind) → StandsBefore mark left → StandsBehind mark right
       → Operands kind mark (snoc left right)
-  three-operands : {mark sign : ℕ} {condition first second : Syntax} → StandsBefore mark condition → StandsBehind mark first → StandsBefore sign first → StandsBehind sign second
-      → Operands question mark (snoc (snoc condition first) second)
+  three-operands : {mark between : ℕ} {condition first second : Syntax} → StandsBefore mark condition → StandsBehind mark first → StandsBefore between first
+      → StandsBehind between second → Operands question mark (snoc (snoc condition first) second)
 
 -- a token of this class makes a part with this mark, of a kind that tokens of this class mark (Parts.antt), which holds what such a part must
 pub record Makes (class mark : ℕ) (parts : List Part) : Type 0 where
@@ -70,6 +79,10 @@ pub record Makes (class mark : ℕ) (parts : List Part) : Type 0 where
   pub among : List·Memᴰ (part kind mark inside) parts
   pub marks : T (isAmong (marking kind) class)
   pub holds : Operands kind mark inside
+
+-- the tokens that mark no part wherever they stand, but for closers: `:`, that of a conditional too, and `.`
+abbrev pub unrecordedClasses : List ℕ
+unrecordedClasses = colon ∷ dot ∷ []
 
 -- no part has this mark
 abbrev pub Unmarked : ℕ → List Part → Type 0
@@ -81,7 +94,7 @@ pub record Initialises (called mark : ℕ) (value : Syntax) : Type 0 where
   pub beside : called + 1 ≡ mark
   pub value-behind : StandsBehind mark value
 
--- a `,` is the comma operator, and makes a record as other operators do; or it stands in a list or between variables or parameters, and makes none
+-- a `,` makes a record as other operators do, the comma operator's; or it makes none
 pub data Joins (mark : ℕ) (parts : List Part) : Type 0 where
   joins : Makes comma mark parts → Joins mark parts
   separates : Unmarked mark parts → Joins mark parts
