@@ -1,4 +1,6 @@
 // Runs of bytes of one class, and two texts compared byte for byte.
+#![tactic(auto)]
+
 ghost use Rattle.std.specs.Prelude.{◌≡◌, ◌+◌, drop};
 ghost use Rattle.text.specs.Bytes.{digit, name_byte};
 ghost use Rattle.text.specs.Machinery.Codes.{byte_codes, code_over};

@@ -1,4 +1,6 @@
 // Bytes of a text, by their codes.
+#![tactic(auto)]
+
 ghost use Rattle.std.specs.Prelude.{◌≡◌};
 ghost use Rattle.text.specs.Machinery.Codes.{code_of, byte_codes};
 
