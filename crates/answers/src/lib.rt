@@ -1,4 +1,6 @@
 // The answer of reading, respacing and parsing, what the scanners of literals answer, and the numbers of the faults of elements.
+#![tactic(auto)]
+
 ghost use Rattle.std.specs.Prelude.{◌≡◌};
 ghost use Rattle.answers.specs.Answers.{number_of, value_of};
 

@@ -1,4 +1,6 @@
 // What stands between elements: blanks, line ends and both comments.
+#![tactic(auto)]
+
 ghost use Rattle.std.specs.Prelude.{◌≡◌, Bool, true, false, ◌+◌, ◌<◌, length, drop, get_or};
 ghost use Rattle.text.specs.Machinery.Codes.{byte_codes};
 ghost use Rattle.gaps.specs.Gaps.{gap, in_line, in_block};

@@ -1,4 +1,6 @@
 // Numbers, as in ES5.1 section 7.8.3. Each part is asked for its end; where there is none, that is the place where it would start.
+#![tactic(auto)]
+
 ghost use Rattle.std.specs.Prelude.{◌≡◌, cond, ◌||◌, ◌+◌, ◌<◌, eqb, length, drop};
 ghost use Rattle.text.specs.Bytes.{digit};
 ghost use Rattle.text.specs.Runs.{run};

@@ -1,4 +1,6 @@
 // An answer as one number, for callers from other languages.
+#![tactic(auto)]
+
 ghost use Rattle.std.specs.Prelude.{◌≡◌, ◌<◌, ◌^◌};
 ghost use Rattle.answers.specs.Answers.{value_of};
 ghost use Rattle.packing.specs.Packed.{packed};
