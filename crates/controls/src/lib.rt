@@ -1,5 +1,7 @@
 // Where the token machine stands, and what it does: places and effects are named after those of machine/specs/Machinery/Machine.antt
 // where there is one, so that the two can be laid side by side; specs/Machinery/Numbers.antt ties them.
+#![tactic(auto)]
+
 ghost use Rattle.std.specs.Prelude.{◌≡◌, false, ℕ, ◌≤◌};
 ghost use Rattle.machine.specs.Machinery.Machine.{behind_statement, statement_due};
 ghost use Rattle.machine.specs.Machinery.Classes.{is_leaf};

@@ -1,4 +1,6 @@
 // Tree and syntax records, and the lent tables that they are written to.
+#![tactic(auto)]
+
 ghost use Rattle.std.specs.Prelude.{◌≡◌, cond, length, replicate};
 ghost use Rattle.tables.specs.Records.{room_for, syntax_room};
 

@@ -3,8 +3,8 @@ use Rattle.std.specs.Prelude.{ℕ, ◌≤◌, ◌≡◌, Bool, true, false, T}
 use Rattle.machine.specs.Tokens.{new_word, comma, colon, var_word, else_word, for_word, switch_word, case_word, default_word, throw_word, catch_word, finally_word, debugger_word, close_brace}
 use Rattle.machine.specs.Syntax.{full_return_syntax, variable_syntax}
 use Rattle.machine.specs.Operators.{assignment_operators, binary_operators_by, prefix_operators, prefix_kind, postfix_operators, postfix_kind, is_among}
-use Rattle.machine.specs.Scopes.{Items, arrayElements, objectProperties, Scope, body, block}
-use Rattle.machine.specs.Machinery.Machine.{end_of_text, ifNest, elseNest, Setting, among, in_clause, in_nest, Variables, in_statement, in_head, Target, noTarget, someTarget, loneTarget, is_target, takes_in, allows_in, behind_variables, later_variables, behind_statement, Effect, keep, takeName, takeMember, endExpression, endValue, endBare, endEmpty, endVariable, takeLabel, takeElse, holdWord, takeLeaf, takeOperator, takePrefix, takePostfix, startStatement, Closing, toParens, toCall, toObject, toArray, toIndex, toBlock, toCondition, toHead, toFor, toForIn, toTest, toStatement, toParameter, toDeclaration, toFunction, noValue, expressionValue, doneValue, listValue, Ending, byStatement, byReturn, by_variable, byStart, byTest, by_step, byObject, by_case, byParen, byBracket, byColon, by_item, behind_comma, Role, declared, operand_in, Control, statement_due, statement_done, nameFirst, returnFirst, throwFirst, jumpFirst, headFirst, variableDue, variableNamed, bodyDone, testFirst, semicolonDue, forFirst, startDue, testDue, stepDue, switchFirst, switchPast, clause_due, defaultFirst, tryFirst, tryDone, catchFirst, catchDue, catchNamed, catchPast, catchDone, finallyFirst, tryEnded, ifFirst, operandDue, memberDue, operandDone, postfix_done, dotLast, functionFirst, functionNamed, parameterPast, item_due, propertyNamed, parameter_due, parameterNamed, Action, fail, goto, push, enter, pop, popIn, ask, turn, finish, head_words, jump_words}
+use Rattle.machine.specs.Scopes.{Items, arrayElements, objectProperties, Scope, body}
+use Rattle.machine.specs.Machinery.Machine.{end_of_text, ifNest, elseNest, Setting, among, in_nest, Variables, in_statement, in_head, Target, noTarget, someTarget, loneTarget, is_target, takes_in, allows_in, behind_variables, later_variables, behind_statement, Effect, keep, takeName, takeMember, endExpression, endValue, endBare, endEmpty, endVariable, takeLabel, takeElse, holdWord, takeLeaf, takeOperator, takePrefix, takePostfix, startStatement, Closing, toParens, toCall, toObject, toArray, toIndex, toBlock, toCondition, toHead, toFor, toForIn, toTest, toStatement, toParameter, toDeclaration, toFunction, noValue, expressionValue, doneValue, listValue, Ending, byStatement, byReturn, by_variable, byStart, byTest, by_step, byObject, by_case, byParen, byBracket, byColon, by_item, behind_comma, Role, declared, operand_in, Control, statement_due, statement_done, nameFirst, returnFirst, throwFirst, jumpFirst, headFirst, variableDue, variableNamed, bodyDone, testFirst, semicolonDue, forFirst, startDue, testDue, stepDue, switchFirst, switchPast, clause_due, defaultFirst, tryFirst, tryDone, catchFirst, catchDue, catchNamed, catchPast, catchDone, finallyFirst, tryEnded, ifFirst, operandDue, memberDue, operandDone, postfix_done, dotLast, functionFirst, functionNamed, parameterPast, item_due, propertyNamed, parameter_due, parameterNamed, Action, fail, goto, push, enter, pop, popIn, ask, turn, finish, head_words, jump_words}
 use Rattle.machine.specs.Machinery.Classes.{is_opener, is_end, is_single}
 use Rattle.controls.specs.Machinery.Numbers.{setting_by, control_of, effect_by, closing_by, inside_by, entered_by, worded_by, outside_by, behind_by, left_by}
 use Rattle.controls.specs.declared.Control as code
