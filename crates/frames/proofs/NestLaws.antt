@@ -105,7 +105,7 @@ module _ {g : Frame} {nests : List machine.Open} {table stack₀ : List ℕ} {fi
   head_outside {nest = nest} setting mark many heads e =
       let k = heads.clause many in
       let b = e.within.0 in
-      let light = closes_lightens e.carries.holds k.same_floor k.closes in
+      let light = closes_lightens _ e.carries.holds k.same_floor k.closes in
       rw (k.is, le-ltb nest 3 many)
       (record {
         done = e.done;

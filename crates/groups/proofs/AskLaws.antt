@@ -250,7 +250,7 @@ module _ (at : code.Control) {mark : ℕ} {l r : Level} {stack cells after : Lis
       → ((r.top + 1) * width ≤ length stack) × (number < 65536) × (mark ≤ most_trees) × (r.start ≤ most_trees)
   ask_asks may closes small =
       let s = may.somewhere.stands in
-      let light = closes_lightens s.holds closes.0 closes.2 in
+      let light = closes_lightens _ s.holds closes.0 closes.2 in
       (omega (arith, light, may.room), small, omega (arith, may.marked), omega (arith, light, s.holds.few))
 
   pub asks_there : {number : ℕ} {level : Level} {stack' : List ℕ} {c : code.Control} → mark ≤ most_trees → (l.top + 1) * width ≤ length stack
