@@ -338,16 +338,16 @@ pub threshold_small : {class mark : ℕ} {l : Level} {stack cells : List ℕ} �
 threshold_small may = (operator_fine may.leads).small
 
 module _ {mark : ℕ} {l r : Level} {stack cells after : List ℕ} where
-  pub operator_asks : {class least : ℕ} → MayAffect (takeOperator class) mark l stack cells → (r.floor ≡ l.floor) × (r.held ≡ l.held) × Closes least l stack cells r after
+  pub operator_asks : (least : ℕ) {class : ℕ} → MayAffect (takeOperator class) mark l stack cells → (r.floor ≡ l.floor) × (r.held ≡ l.held) × Closes least l stack cells r after
       → ((r.top + 1) * width ≤ length stack) × (class < 65536) × (mark ≤ most_trees) × (r.start ≤ most_trees)
-  operator_asks {class = class} may closes =
+  operator_asks least {class = class} may closes =
       let s = may.somewhere.stands in
       let light = closes_lightens _ s.holds closes.0 closes.2 in
       (omega (arith, light, may.room), omega (arith, operator_small class (operator_fine may.leads).tight), omega (arith, may.marked), omega (arith, light, s.holds.few))
 
-  pub operand_asks : {effect : machine.Effect} {least : ℕ} → MayAffect effect mark l stack cells → (r.floor ≡ l.floor) × (r.held ≡ l.held) × Closes least l stack cells r after
+  pub operand_asks : (least : ℕ) {effect : machine.Effect} → MayAffect effect mark l stack cells → (r.floor ≡ l.floor) × (r.held ≡ l.held) × Closes least l stack cells r after
       → (r.start ≤ r.count) × (r.count < most_syntax) × (mark ≤ most_trees)
-  operand_asks may closes =
+  operand_asks least may closes =
       let s = may.somewhere.stands in
       let light = closes_lightens _ s.holds closes.0 closes.2 in
       (light.started, omega (arith, light, s.holds.few), omega (arith, may.marked))
