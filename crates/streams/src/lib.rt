@@ -1,7 +1,10 @@
 // Standard input and standard output of the programs. Where one cannot be read or written, a line on standard error says so.
+#![tactic(auto)]
+
 ghost use Rattle.streams.specs.Streams.{InBuffer};
 
-use libc::{STDIN_FILENO, STDOUT_FILENO};
+use std::io;
+use std::io::Read;
 
 // How many bytes were read; or that they could not be.
 #[derive(Drop)]
@@ -11,28 +14,37 @@ pub enum Input {
 }
 
 // Reads standard input to the start of a buffer, until the input ends or the buffer is full.
-pub fn read_input(buffer: &mut [u8]) -> Input
+pub fn read_input<R: io::Input + Eprint>(rt: &R, buffer: &mut [u8]) -> Input
     ensures { InBuffer buffer.new result }
 {
+    let mut reader = rt.reader();
     let mut done = 0;
     while done < buffer.len() {
-        let got = libc::read(STDIN_FILENO, &mut buffer[done..]);
-        if got < 0 {
-            os::fail(b"standard input");
-            return Input::Failed;
+        let got = reader.read(&mut buffer[done..]);
+        match got {
+            Ok(more) => {
+                if more == 0 {
+                    return Input::Bytes(done);
+                }
+                done += more;
+            }
+            Err(error) => {
+                fail(rt, "standard input", &error);
+                return Input::Failed;
+            }
         }
-        let more = io::count(got, &buffer[done..]);
-        if more == 0 {
-            return Input::Bytes(done);
-        }
-        done += more;
     }
     Input::Bytes(done)
 }
 
 // Writes bytes to standard output.
-pub fn write_output(bytes: &[u8]) {
-    if !io::write_all(STDOUT_FILENO, bytes) {
-        os::fail(b"standard output");
+pub fn write_output<R: Print + Eprint>(rt: &R, bytes: &[u8]) {
+    if let Err(error) = rt.write_all(bytes) {
+        fail(rt, "standard output", &error);
     }
+}
+
+// Says on standard error what failed, and why.
+fn fail<R: Eprint>(rt: &R, what: &str, error: &io::Error) {
+    let _ = eprintln!(rt; "{what}: {error}");
 }

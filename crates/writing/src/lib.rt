@@ -1,4 +1,6 @@
 // Bytes and numbers written to an output from a place on, as far as it has room.
+#![tactic(auto)]
+
 ghost use Rattle.std.specs.Prelude.{[], ◌∷◌};
 ghost use Rattle.writing.specs.Machinery.Writing.{Adds};
 
