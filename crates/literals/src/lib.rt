@@ -1,3 +1,5 @@
 // Strings and regular expressions: where each ends.
+#![tactic(auto)]
+
 pub mod patterns;
 pub mod strings;

@@ -1,4 +1,6 @@
 // The 48 signs of ES5.1 section 7.7: the longest that stands at a place of a text.
+#![tactic(auto)]
+
 ghost use Rattle.std.specs.Prelude.{◌≡◌, List, ◌∷◌, ℕ, ◌<◌, ◌≤◌, drop, get_or, length};
 ghost use Rattle.signs.specs.declared.Longest.TheVariants.{Sign};
 ghost use Rattle.signs.specs.Signs.{longest_sign, starts_with};

@@ -1,4 +1,6 @@
 // The 36 reserved words of ES5.1 section 7.6.1, held as one run of their letters with their lengths, and compared byte for byte with a name.
+#![tactic(auto)]
+
 ghost use Rattle.std.specs.Prelude.{◌≡◌, true, List, ℕ, ◌+◌, ◌*◌, ◌≤◌, ◌<◌, T, length, get_or};
 ghost use Rattle.text.specs.Runs.{same};
 ghost use Rattle.words.specs.Words.{word_number, taken};

@@ -10,8 +10,7 @@ use lib.ListN.{get_or-eq_default}
 use Rattle.text.proofs.Range.{agree}
 use Rattle.vocabulary.specs.Vocabulary.{words, row_at, no_row}
 use Rattle.words.specs.Words.{taken}
-use Rattle.words.proofs.is_taken.Statement.{statement}
-use Rattle.words.proofs.is_taken.Tie as tie
+use Rattle.words.proofs.is_taken.Goals as goal
 
 from_null : (n : ℕ) → 34 ≤ n → leb n 36 ≡ taken n
 unfolding taken row_at
@@ -21,16 +20,13 @@ from_null n h = go (leb n 36) refl
     go true e = agree (λ k. true) taken 34 36 n tt h (leb-true n 36 e)
     go false e = let past = leb-false n 36 e in rw (get_or-eq_default (no_row ∷ words) no_row {n = n} (omega arith))
 
-returns : tie.Need-returns
+pub returns-then-number-lt-CLASS : goal.returns-then-number-lt-CLASS
 unfolding taken row_at
-returns c = let below = c.if1.true in agree (ltb 0) taken 0 26 c.before.args.number tt (omega arith) (omega arith)
+returns-then-number-lt-CLASS c = let below = c.if-number-lt-CLASS.true in agree (ltb 0) taken 0 26 c.args.number tt (omega arith) (omega arith)
 
-returns-2 : tie.Need-returns-2
+pub returns-then-number-lt-NULL : goal.returns-then-number-lt-NULL
 unfolding taken row_at
-returns-2 c = let below = c.if2.true in agree (λ k. false) taken 27 33 _ tt c.before.if1.false (omega arith)
+returns-then-number-lt-NULL c = let below = c.if-number-lt-NULL.true in agree (λ k. false) taken 27 33 _ tt c.if-number-lt-CLASS.false (omega arith)
 
-returns-3 : tie.Need-returns-3
-returns-3 c = from_null _ c.if2.false
-
-pub is-taken-spec : {M : Type 1} → statement M
-is-taken-spec = tie.close (tie.spec returns returns-2 returns-3)
+pub returns : goal.returns
+returns c = from_null _ c.if-number-lt-NULL.false
