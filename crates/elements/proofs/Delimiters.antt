@@ -6,9 +6,9 @@ use mathlib.Core.Bool.{Bool, true, false, cond, ◌&&◌, ◌||◌, not, or-true
 use Prim.Native.Nat.{ℕ, ◌+◌, ◌<◌}
 use native.Mathlib.Omega.{arith}
 use lib.Dec.{eqb, T, leb, leb→le}
-use lib.ListN.{get_or, take, drop, length}
+use lib.ListN.{take, drop, length}
 use Rattle.text.specs.Quoted.{byte}
-use Rattle.text.specs.Bytes.{letter, digit, name_byte}
+use Rattle.text.specs.Bytes.{letter, name_byte}
 use Rattle.text.specs.Runs.{run, same}
 use Rattle.words.specs.Words.{word_number, taken}
 use Rattle.signs.specs.Signs.{longest_sign, longest_of}

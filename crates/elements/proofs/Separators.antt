@@ -8,7 +8,7 @@ use lib.Dec.{eqb}
 use lib.ListN.{length, get_or, take, drop, length-append}
 use lib.Seq.{get_or-append_seam}
 use Rattle.text.specs.Quoted.{byte}
-use Rattle.text.specs.Bytes.{blank, line_end, illegal, letter, digit, name_byte}
+use Rattle.text.specs.Bytes.{blank, line_end, illegal, letter, name_byte}
 use Rattle.text.specs.Runs.{run}
 use Rattle.words.specs.Words.{word_number, taken}
 use Rattle.signs.specs.Signs.{longest_sign}

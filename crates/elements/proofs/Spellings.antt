@@ -10,7 +10,7 @@ use lib.Dec.{T, eqb, leb}
 use lib.ListN.{length, get_or, take, drop}
 use lib.Seq.{get_or-take, get_or-drop}
 use Rattle.text.specs.Quoted.{byte}
-use Rattle.text.specs.Bytes.{letter, digit, name_byte}
+use Rattle.text.specs.Bytes.{letter, name_byte}
 use Rattle.text.specs.Runs.{run}
 use Rattle.vocabulary.specs.Vocabulary.{Row, words, signs, spelling, is_taken, row_at}
 use Rattle.vocabulary.proofs.RowLaws.{each_taken, at_taken, at_row}

@@ -9,7 +9,7 @@ use borrow.Author.Tests.{eqb-true, eqb-false}
 use lib.Dec.{eqb}
 use lib.ListN.{get_or, drop}
 use Rattle.text.specs.Quoted.{byte}
-use Rattle.text.specs.Bytes.{letter, digit, name_byte}
+use Rattle.text.specs.Bytes.{letter, name_byte}
 use Rattle.text.specs.Runs.{run}
 use Rattle.words.specs.Words.{taken}
 use Rattle.signs.specs.Signs.{longest_sign}

@@ -1,4 +1,6 @@
 // The cutting of a text into elements: the element at a place under stated answers.
+#![tactic(auto)]
+
 ghost use Rattle.std.specs.Prelude.{◌≡◌, ◌&&◌, ◌||◌, ◌+◌, ◌<◌, eqb, length, drop, get_or};
 ghost use Rattle.text.specs.Bytes.{digit};
 ghost use Rattle.text.specs.Machinery.Codes.{byte_codes, code_of};
