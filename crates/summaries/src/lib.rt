@@ -1,6 +1,7 @@
 // The prefix rule by a summary of the trees before on a level: what the code of a level answers, and the code inside a group and after
 // it (`leaves` has that after a leaf). The code of a level is that of its summary, which is below 64;
 // 64 times the kind of its group, which is below 32 (0 for the whole text); and 2,048 times the count of its unanswered `?`s.
+#![tactic(auto)]
 ghost use Rattle.std.specs.Prelude.{◌≡◌, ◌≤◌, Bool};
 ghost use Rattle.rule.specs.Levels.{is_expression};
 ghost use Rattle.rule.specs.Rule.{group_class};
@@ -81,7 +82,7 @@ pub fn kind_in(level: u32) -> u32
 }
 
 // The level where nothing stands yet in a group of a kind.
-pub fn level_in_lem(kind: u32) -> u32
+pub fn level_in(kind: u32) -> u32
     requires { kind ≤ 10 }
     ensures { result ≡ level_in kind }
 {
