@@ -1,5 +1,6 @@
 // The prefix rule by a summary of the trees before on a level: the code of a level after a leaf, an element that is no delimiter.
 #![tactic(auto)]
+
 ghost use Rattle.std.specs.Prelude.{◌≡◌, ◌≤◌, ◌<◌, ◌^◌, Bool, eqb};
 ghost use Rattle.words.specs.Machinery.Run.{bit_at};
 ghost use Rattle.rule.specs.Rule.{answer, comma, word_class, sign_class, element_class};

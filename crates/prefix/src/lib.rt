@@ -1,4 +1,6 @@
 // The state of a reading: what the elements so far make of it, by the prefix rule.
+#![tactic(auto)]
+
 ghost use Rattle.std.specs.Prelude.{◌≡◌, List, ℕ, ◌<◌, ◌^◌};
 ghost use Rattle.rule.specs.Trees.{none};
 ghost use Rattle.rule.specs.Levels.{Levels, whole_text};

@@ -2,6 +2,7 @@
 // it (`leaves` has that after a leaf). The code of a level is that of its summary, which is below 64;
 // 64 times the kind of its group, which is below 32 (0 for the whole text); and 2,048 times the count of its unanswered `?`s.
 #![tactic(auto)]
+
 ghost use Rattle.std.specs.Prelude.{◌≡◌, ◌≤◌, Bool};
 ghost use Rattle.rule.specs.Levels.{is_expression};
 ghost use Rattle.rule.specs.Rule.{group_class};

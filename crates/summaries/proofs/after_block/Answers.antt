@@ -1,5 +1,4 @@
 -- `after_block` is `level_after_block`, test for test.
-use borrow.Author.Rules.{rules}
 use borrow.Author.Tests.{eq-eqb, ne_eqb}
 use Rattle.rule.specs.Machinery.LevelCodes.{level_after_block}
 use Rattle.summaries.proofs.after_block.Goals as goal

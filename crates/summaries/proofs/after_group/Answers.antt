@@ -1,5 +1,4 @@
 -- `after_group` is `level_after`, by the class of the group, test for test.
-use borrow.Author.Rules.{rules}
 use borrow.Author.Tests.{eq-eqb, ne_eqb}
 use Rattle.rule.specs.Rule.{group_class}
 use Rattle.rule.specs.Machinery.LevelCodes.{level_after}
@@ -19,4 +18,4 @@ returns-then-kind-eq-BRACKETS c = λ newline. rw (ne_eqb _ 7 c.if-kind-eq-PARENS
 
 pub returns : goal.returns
 unfolding level_after group_class
-returns c =     λ newline. rw (ne_eqb _ 7 c.if-kind-eq-PARENS.false, ne_eqb _ 8 c.if-kind-eq-OBJECT.false, ne_eqb _ 10 c.if-kind-eq-BRACKETS.false) c.after_block.ensures
+returns c = λ newline. rw (ne_eqb _ 7 c.if-kind-eq-PARENS.false, ne_eqb _ 8 c.if-kind-eq-OBJECT.false, ne_eqb _ 10 c.if-kind-eq-BRACKETS.false) c.after_block.ensures

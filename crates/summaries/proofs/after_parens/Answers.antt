@@ -1,5 +1,4 @@
 -- `after_parens` is `level_after_parens`, test for test.
-use borrow.Author.Rules.{rules}
 use borrow.Author.Tests.{eq-eqb, ne_eqb}
 use Rattle.rule.specs.Machinery.LevelCodes.{level_after_parens}
 use Rattle.summaries.proofs.after_parens.Goals as goal
@@ -26,5 +25,5 @@ returns-then-summary-eq-OPERAND_FUNCTION c = rw c.if-summary-eq-OPERAND_FUNCTION
 
 pub returns : goal.returns
 unfolding level_after_parens
-returns c =     rw
+returns c = rw
     (ne_eqb _ 12 c.if-summary-eq-AFTER_HEAD_WORD.false, ne_eqb _ 1 c.if-summary-eq-STATEMENT_FUNCTION_NAME.false, ne_eqb _ 2 c.if-summary-eq-OPERAND_FUNCTION_NAME.false, ne_eqb _ 5 c.if-summary-eq-STATEMENT_FUNCTION.false, ne_eqb _ 6 c.if-summary-eq-OPERAND_FUNCTION.false)

@@ -1,5 +1,4 @@
 -- `is_expression` is `is_expression`, test for test.
-use borrow.Author.Rules.{rules}
 use borrow.Author.Tests.{eq-eqb, ne_eqb}
 use mathlib.Core.Path.{sym}
 use Rattle.summaries.proofs.is_expression.Goals as goal

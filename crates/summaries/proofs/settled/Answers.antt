@@ -1,5 +1,4 @@
 -- `settled` is `settled_by_level`: by the numbers of `++`, `--` and `:`.
-use borrow.Author.Rules.{rules}
 use mathlib.Core.Path.{sym, ◌∙◌}
 use Rattle.rule.proofs.SettledSigns.{settled_low, settled_newline, settled_opens, settled_after, settled_answer, settled_colon, settled_high}
 use Rattle.summaries.proofs.settled.Goals as goal

@@ -1,5 +1,4 @@
 -- Both answers by the code of the level.
-use borrow.Author.Rules.{rules}
 use Rattle.summaries.proofs.stated_by.Goals as goal
 
 pub returns : goal.returns
