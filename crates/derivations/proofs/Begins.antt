@@ -61,9 +61,9 @@ module _ (s : List ℕ) where
   first_pieces : {place : ℕ} {choice : List Bool} {all : List Element} → Cuts s place choice all → (es rest : List Element) → all ≡ es ++ rest → Pieces s es
   first_pieces cut [] rest q = record { pieces = []; same = λ u more. no_elements }
   first_pieces (cut_end x) (e ∷ es) rest q = absurd (let z : ◌≡◌ {A = ℕ} 0 1 = cc in omega arith)
-  first_pieces (cut_element {place} {e} slash word f cut) (g ∷ es) rest q = one_more place e g es (stating false false) f (first_pieces cut es rest (cc)) (cc)
-  first_pieces (cut_slash {place} {e} {answer} m f cut) (g ∷ es) rest q = one_more place e g es (stating answer false) f (first_pieces cut es rest (cc)) (cc)
-  first_pieces (cut_word {place} {e} {answer} m f cut) (g ∷ es) rest q = one_more place e g es (stating false answer) f (first_pieces cut es rest (cc)) (cc)
+  first_pieces (cut_element {place} {e} slash word f cut) (g ∷ es) rest q = one_more place e g es (stating false false) f (first_pieces {place = e.end} cut es rest (cc)) (cc)
+  first_pieces (cut_slash {place} {e} {answer} m f cut) (g ∷ es) rest q = one_more place e g es (stating answer false) f (first_pieces {place = e.end} cut es rest (cc)) (cc)
+  first_pieces (cut_word {place} {e} {answer} m f cut) (g ∷ es) rest q = one_more place e g es (stating false answer) f (first_pieces {place = e.end} cut es rest (cc)) (cc)
 
 module _ (s : List ℕ) (all es rest : List Element) (cuts : CutsInto s 0 all) (split : all ≡ es ++ rest) where
   -- as long as it follows them, some text begins so and is a program

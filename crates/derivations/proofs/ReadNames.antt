@@ -118,6 +118,7 @@ names_alike (parameter_due true) spot f around t = absurd t
 names_alike (parameter_due false) spot f around t = absurd t
 names_alike parameterNamed spot f around t = absurd t
 names_alike finished spot f around t = absurd t
+names_alike control spot f around t = elim t [ ]
 
 -- an element that is such a word was found where the rule says so
 named_by_rule : (given : Stated) (met : Bool) (e : Element) → Reserved met given.name e → class_of e ≡ word_name → given.name ≡ true

@@ -526,8 +526,8 @@ taken stop (function_all {opener = opener} {openBody = openBody} {inside = insid
     λ role done starts waiting word around.
     parameters_taken stop (parameterPast role) opener.mark (frame done starts waiting word) around parameters
     ∙ elim role as (λ (z : Role). ran stop (live (parameterPast z) (frame done starts waiting word) around) (token open_brace openBody ∷ inside)
-        ≡ ran stop (live (behind_function z) (with_function z body_statements done starts waiting word) around) after)
-      [ declared ↦ taken stop statements _ _ on_level | operand_in ending target ↦ taken stop statements _ _ on_level ]
+    ≡ ran stop (live (behind_function z) (with_function z body_statements done starts waiting word) around) after)
+    [ declared ↦ taken stop statements _ _ on_level | operand_in ending target ↦ taken stop statements _ _ on_level ]
 taken stop (block_all {opener = opener} {inside = inside} statements) =
     λ control behind done starts around at. block_opened stop opener (frame done starts [] nil) around inside at ∙ taken stop statements _ _ on_level
 taken stop (statement_block inner) = λ must setting done starts around. taken stop inner _ _ done starts around in-statement

@@ -297,29 +297,29 @@ module _ {all : List Token} {total : ℕ} where
       (plain (and_left (is_plain kind) (is_among (marking kind) class && not (is_among operand_kinds kind)) h)
       (λ some. absurd (T_not (is_among operand_kinds kind) (and_right (is_among (marking kind) class) (not (is_among operand_kinds kind)) more) some)))
 
-  pub marked : {low : ℕ} {form : Form} {before after : List Token} {value : Syntax} → Derives form before after value → T (ends form after)
+  pub marked : {form : Form} {low : ℕ} {before after : List Token} {value : Syntax} → Derives form before after value → T (ends form after)
       → Counting all total low before → MarksTo all total low after value
-  marked {low} (chain_leaf {class = class} leaf) ended counting =
+  marked {low = low} (chain_leaf {class = class} leaf) ended counting =
       let m = at_mark class (leaf_open leaf) counting in
       record { high = low + 1; rest = m.then; marks = leaf_marks (holding (at_leaf is_plain tt leaf) (at_leaf (λ x. is_among (marking x) x) tt leaf) m (no_operand (at_leaf (is_among leaf_kinds) tt leaf))) m.own }
-  marked {low} (chain_array values) ended counting =
+  marked {low = low} (chain_array values) ended counting =
       let m = at_mark open_bracket tt counting in
       let v = marked values tt m.then in
       record { high = v.high; rest = past_closer close_bracket tt v.rest; marks = before_parts (ordinary tt m) m.own (omega arith) v.marks (no_marks v.high) }
-  marked {low} (chain_object values) ended counting =
+  marked {low = low} (chain_object values) ended counting =
       let m = at_mark open_brace tt counting in
       let v = marked values tt m.then in
       record { high = v.high; rest = past_closer close_brace tt v.rest; marks = before_parts (ordinary tt m) m.own (omega arith) v.marks (no_marks v.high) }
-  marked {low} (chain_parens value) ended counting =
+  marked {low = low} (chain_parens value) ended counting =
       let m = at_mark open_paren tt counting in
       let v = marked value tt m.then in
       record { high = v.high; rest = past_closer close_paren tt v.rest; marks = before_parts (ordinary tt m) m.own (omega arith) v.marks (no_marks v.high) }
-  marked {low} (chain_function function) ended counting =
+  marked {low = low} (chain_function function) ended counting =
       let m = at_mark function_word tt counting in
       let n = at_mark name tt m.then in
       let v = marked function tt n.then in
       record { high = v.high; rest = v.rest; marks = before_parts (ordinary tt m) m.own (omega arith) v.marks (no_marks v.high) }
-  marked {low} (chain_unnamed function) ended counting =
+  marked {low = low} (chain_unnamed function) ended counting =
       let m = at_mark function_word tt counting in
       let v = marked function tt m.then in
       record { high = v.high; rest = v.rest; marks = before_parts (ordinary tt m) m.own (omega arith) v.marks (no_marks v.high) }
@@ -328,7 +328,7 @@ module _ {all : List Token} {total : ℕ} where
       let m = at_mark open_bracket tt o.rest in
       let v = marked value tt m.then in
       record { high = v.high; rest = past_closer close_bracket tt v.rest; marks = between_parts (holding tt tt m (object_and_index (stands_before m.own (target_first (target_chain object) counting) o.marks) (stands_behind m.own (expression_first value m.then) v.marks))) o.marks m.own v.marks }
-  marked {low} (chain_member {class = class} called object) ended counting =
+  marked {low = low} (chain_member {class = class} called object) ended counting =
       let o = marked object tt counting in
       let d = at_mark dot tt o.rest in
       let m = at_mark class (name_open called) d.then in
@@ -338,7 +338,7 @@ module _ {all : List Token} {total : ℕ} where
       let m = at_mark open_paren tt c.rest in
       let v = marked values tt m.then in
       record { high = v.high; rest = past_closer close_paren tt v.rest; marks = between_parts (holding tt tt m (callee_before (stands_before m.own (target_first (target_chain callee) counting) c.marks) (λ x member. omega (arith, m.own, within v.marks x member)))) c.marks m.own v.marks }
-  marked {low} (chain_new callee values) ended counting =
+  marked {low = low} (chain_new callee values) ended counting =
       let m = at_mark new_word tt counting in
       let c = marked callee tt m.then in
       let o = at_mark open_paren tt c.rest in
@@ -349,12 +349,12 @@ module _ {all : List Token} {total : ℕ} where
         marks = before_parts (holding tt tt m (callee_behind (stands_behind m.own (target_first (target_chain callee) m.then) c.marks) (λ x member. omega (arith, m.own, o.own, within v.marks x member, range_size c.marks)))) m.own (omega arith) c.marks (from_lower (omega arith) v.marks);
       }
   marked (target_chain chain) ended counting = marked chain tt counting
-  marked {low} (target_new callee) ended counting =
+  marked {low = low} (target_new callee) ended counting =
       let m = at_mark new_word tt counting in
       let c = marked callee tt m.then in
       record { high = c.high; rest = c.rest; marks = before_parts (holding tt tt m (operand_behind tt (stands_behind m.own (target_first callee m.then) c.marks))) m.own (omega arith) (no_marks (low + 1)) c.marks }
   marked (unary_target target) ended counting = marked target tt counting
-  marked {low} (unary_prefix {class = class} op operand) ended counting =
+  marked {low = low} (unary_prefix {class = class} op operand) ended counting =
       let m = at_mark class (operator_open prefix_operators tt class op) counting in
       let v = marked operand tt m.then in
       record { high = v.high; rest = v.rest; marks = before_parts (prefixed op m (stands_behind m.own (binary_first (binary_unary {within = true} {least = 0} operand) m.then) v.marks)) m.own (omega arith) (no_marks (low + 1)) v.marks }
@@ -388,7 +388,7 @@ module _ {all : List Token} {total : ℕ} where
       let m = at_mark comma tt l.rest in
       let r = marked right tt m.then in
       record { high = r.high; rest = r.rest; marks = between_parts (holding tt tt m (two_operands tt (stands_before m.own (expression_first left counting) l.marks) (stands_behind m.own (expression_first (expression_assign right) m.then) r.marks))) l.marks m.own r.marks }
-  marked {low} (function_all parameters statements) ended counting =
+  marked {low = low} (function_all parameters statements) ended counting =
       let o = at_mark open_paren tt counting in
       let p = parameters_skip parameters o.then in
       let b = at_mark open_brace tt (past_closer close_paren tt p.rest) in
@@ -410,23 +410,23 @@ module _ {all : List Token} {total : ℕ} where
       let l = marked last tt v.rest in
       let e = at_mark semicolon tt l.rest in
       record { high = l.high + 1; rest = e.then; marks = before_parts (ordinary tt m) m.own (omega arith) v.marks (to_higher (omega arith) l.marks) }
-  marked {low} no_variables ended counting = record { high = low; rest = counting; marks = no_marks low }
+  marked {low = low} no_variables ended counting = record { high = low; rest = counting; marks = no_marks low }
   marked (add_variable variables last) ended counting =
       let v = marked variables tt counting in
       let l = marked last tt v.rest in
       let c = at_mark comma tt l.rest in
       record { high = l.high + 1; rest = c.then; marks = signed v.marks l.marks }
-  marked {low} (variable_bare {called = called} {after = after}) ended counting =
+  marked {low = low} (variable_bare {called = called} {after = after}) ended counting =
       let m = at_mark name tt counting in
       let next : called.mark + 1 ≡ low + 1 = omega (arith, m.own) in
       let behind = bare_shape after ended next m.then in
       record { high = low + 1; rest = m.then; marks = leaf_marks (fits tt m behind) m.own }
-  marked {low} (variable_initialised value) ended counting =
+  marked {low = low} (variable_initialised value) ended counting =
       let m = at_mark name tt counting in
       let s = at_mark assign tt m.then in
       let v = marked value tt s.then in
       record { high = v.high; rest = v.rest; marks = before_parts (fits tt m (initialised s.among (initialising m.own s.own (expression_first (expression_assign value) s.then) v.marks))) m.own (omega arith) (no_marks (low + 1 + 1)) v.marks }
-  marked {low} statement_empty ended counting =
+  marked {low = low} statement_empty ended counting =
       let m = at_mark semicolon tt counting in
       record { high = low + 1; rest = m.then; marks = leaf_marks (ordinary tt m) m.own }
   marked (statement_if none condition inner) ended counting =
@@ -465,7 +465,7 @@ module _ {all : List Token} {total : ℕ} where
       let h = marked head tt o.then in
       let i = marked inner tt (past_closer close_paren tt h.rest) in
       record { high = i.high; rest = i.rest; marks = before_parts (ordinary (head_ordinary heads) m) m.own (omega arith) h.marks i.marks }
-  marked {low} (statement_for start condition step inner) ended counting =
+  marked {low = low} (statement_for start condition step inner) ended counting =
       let m = at_mark for_word tt counting in
       let o = at_mark open_paren tt m.then in
       let s = marked start tt o.then in
@@ -476,7 +476,7 @@ module _ {all : List Token} {total : ℕ} where
       let i = marked inner tt (past_closer close_paren tt t.rest) in
       let head = marks_both (signed (signed (no_marks (low + 1 + 1)) s.marks) c.marks) t.marks in
       record { high = i.high; rest = i.rest; marks = before_parts (ordinary tt m) m.own (omega arith) head i.marks }
-  marked {low} (statement_for_var variables last condition step inner) ended counting =
+  marked {low = low} (statement_for_var variables last condition step inner) ended counting =
       let m = at_mark for_word tt counting in
       let o = at_mark open_paren tt m.then in
       let d = at_mark var_word tt o.then in
@@ -490,9 +490,9 @@ module _ {all : List Token} {total : ℕ} where
       let start = before_parts (ordinary tt d) d.own (omega arith) v.marks l.marks in
       let head = marks_both (signed (signed (no_marks (low + 1 + 1)) start) c.marks) t.marks in
       record { high = i.high; rest = i.rest; marks = before_parts (ordinary tt m) m.own (omega arith) head i.marks }
-  marked {low} left_out ended counting = record { high = low; rest = counting; marks = no_marks low }
+  marked {low = low} left_out ended counting = record { high = low; rest = counting; marks = no_marks low }
   marked (not_left_out value) ended counting = marked value tt counting
-  marked {low} (statement_for_in target object inner) ended counting =
+  marked {low = low} (statement_for_in target object inner) ended counting =
       let m = at_mark for_word tt counting in
       let o = at_mark open_paren tt m.then in
       let t = marked target tt o.then in
@@ -502,7 +502,7 @@ module _ {all : List Token} {total : ℕ} where
       let own = iterating m.own (target_first target o.then) t.marks s.own (expression_first object s.then) v.marks i.marks in
       let head = marks_both (signed (no_marks (low + 1 + 1)) t.marks) v.marks in
       record { high = i.high; rest = i.rest; marks = before_parts (fits tt m (iterated s.among own)) m.own (omega arith) head i.marks }
-  marked {low} (statement_for_var_in variable object inner) ended counting =
+  marked {low = low} (statement_for_var_in variable object inner) ended counting =
       let m = at_mark for_word tt counting in
       let o = at_mark open_paren tt m.then in
       let d = at_mark var_word tt o.then in
@@ -514,20 +514,20 @@ module _ {all : List Token} {total : ℕ} where
       let own = iterating m.own (own_first var_word tt o.then) (start) s.own (expression_first object s.then) v.marks i.marks in
       let head = marks_both (signed (no_marks (low + 1 + 1)) start) v.marks in
       record { high = i.high; rest = i.rest; marks = before_parts (fits tt m (iterated s.among own)) m.own (omega arith) head i.marks }
-  marked {low} (statement_bare_jump {class = class} jumps) ended counting =
+  marked {low = low} (statement_bare_jump {class = class} jumps) ended counting =
       let m = at_mark class (jump_open jumps) counting in
       let e = at_mark semicolon tt m.then in
       record { high = low + 1 + 1; rest = e.then; marks = to_higher (omega arith) (leaf_marks (ordinary (bare_ordinary jumps) m) m.own) }
-  marked {low} (statement_jump {class = class} jumps same) ended counting =
+  marked {low = low} (statement_jump {class = class} jumps same) ended counting =
       let m = at_mark class (jump_open jumps) counting in
       let l = at_mark name tt m.then in
       let e = at_mark semicolon tt l.then in
       record { high = low + 1 + 1 + 1; rest = e.then; marks = to_higher (omega arith) (leaf_marks (ordinary (jump_ordinary jumps) m) m.own) }
-  marked {low} statement_bare_return ended counting =
+  marked {low = low} statement_bare_return ended counting =
       let m = at_mark return_word tt counting in
       let e = at_mark semicolon tt m.then in
       record { high = low + 1 + 1; rest = e.then; marks = before_parts (ordinary tt m) m.own (omega arith) (no_marks (low + 1 + 1)) (no_marks (low + 1 + 1)) }
-  marked {low} (statement_full_return same value) ended counting =
+  marked {low = low} (statement_full_return same value) ended counting =
       let m = at_mark return_word tt counting in
       let v = marked value tt m.then in
       let e = at_mark semicolon tt v.rest in
@@ -543,7 +543,7 @@ module _ {all : List Token} {total : ℕ} where
         rest = past_closer close_brace tt c.rest;
         marks = before_parts (ordinary tt m) m.own (omega arith) s.marks (from_lower (omega arith) c.marks);
       }
-  marked {low} no_clauses ended counting = record { high = low; rest = counting; marks = no_marks low }
+  marked {low = low} no_clauses ended counting = record { high = low; rest = counting; marks = no_marks low }
   marked (add_case cases test statements) ended counting =
       let c = marked cases tt counting in
       let m = at_mark case_word tt c.rest in
@@ -559,50 +559,50 @@ module _ {all : List Token} {total : ℕ} where
       let v = marked statements tt s.then in
       let clause = before_parts (ordinary tt m) m.own (omega arith) (no_marks (c.high + 1 + 1)) v.marks in
       record { high = v.high; rest = v.rest; marks = marks_both c.marks clause }
-  marked {low} (statement_throw same value) ended counting =
+  marked {low = low} (statement_throw same value) ended counting =
       let m = at_mark throw_word tt counting in
       let v = marked value tt m.then in
       let e = at_mark semicolon tt v.rest in
       record { high = v.high + 1; rest = e.then; marks = before_parts (ordinary tt m) m.own (omega arith) (no_marks (low + 1)) (to_higher (omega arith) v.marks) }
-  marked {low} (statement_try none inner handler) ended counting =
+  marked {low = low} (statement_try none inner handler) ended counting =
       let m = at_mark try_word tt counting in
       let i = marked inner tt m.then in
       let h = marked handler tt i.rest in
       let parts = marks_both (marks_both (no_marks (low + 1)) i.marks) h.marks in
       record { high = h.high; rest = h.rest; marks = before_parts (ordinary tt m) m.own (omega arith) parts (no_marks h.high) }
-  marked {low} (statement_try_finally inner last) ended counting =
+  marked {low = low} (statement_try_finally inner last) ended counting =
       let m = at_mark try_word tt counting in
       let i = marked inner tt m.then in
       let l = marked last tt i.rest in
       let parts = marks_both (marks_both (no_marks (low + 1)) i.marks) l.marks in
       record { high = l.high; rest = l.rest; marks = before_parts (ordinary tt m) m.own (omega arith) parts (no_marks l.high) }
-  marked {low} (statement_try_all inner handler last) ended counting =
+  marked {low = low} (statement_try_all inner handler last) ended counting =
       let m = at_mark try_word tt counting in
       let i = marked inner tt m.then in
       let h = marked handler tt i.rest in
       let l = marked last tt h.rest in
       let parts = marks_both (marks_both (marks_both (no_marks (low + 1)) i.marks) h.marks) l.marks in
       record { high = l.high; rest = l.rest; marks = before_parts (ordinary tt m) m.own (omega arith) parts (no_marks l.high) }
-  marked {low} (catch_all inner) ended counting =
+  marked {low = low} (catch_all inner) ended counting =
       let m = at_mark catch_word tt counting in
       let o = at_mark open_paren tt m.then in
       let n = at_mark name tt o.then in
       let i = marked inner tt (past_closer close_paren tt n.then) in
       record { high = i.high; rest = i.rest; marks = before_parts (ordinary tt m) m.own (omega arith) (no_marks (low + 1 + 1 + 1)) i.marks }
-  marked {low} (finally_all inner) ended counting =
+  marked {low = low} (finally_all inner) ended counting =
       let m = at_mark finally_word tt counting in
       let i = marked inner tt m.then in
       record { high = i.high; rest = i.rest; marks = before_parts (ordinary tt m) m.own (omega arith) (no_marks (low + 1)) i.marks }
-  marked {low} statement_debugger ended counting =
+  marked {low = low} statement_debugger ended counting =
       let m = at_mark debugger_word tt counting in
       let e = at_mark semicolon tt m.then in
       record { high = low + 1 + 1; rest = e.then; marks = to_higher (omega arith) (leaf_marks (ordinary tt m) m.own) }
-  marked {low} (statement_label inner) ended counting =
+  marked {low = low} (statement_label inner) ended counting =
       let m = at_mark name tt counting in
       let s = at_mark colon tt m.then in
       let i = marked inner tt s.then in
       record { high = i.high; rest = i.rest; marks = before_parts (ordinary tt m) m.own (omega arith) (no_marks (low + 1 + 1)) i.marks }
-  marked {low} no_statements ended counting = record { high = low; rest = counting; marks = no_marks low }
+  marked {low = low} no_statements ended counting = record { high = low; rest = counting; marks = no_marks low }
   marked (add_statement statements last) ended counting =
       let s = marked statements tt counting in
       let l = marked last tt s.rest in
@@ -617,7 +617,7 @@ module _ {all : List Token} {total : ℕ} where
         rest = f.rest;
         marks = marks_both s.marks (before_parts (ordinary tt m) m.own (omega arith) f.marks (no_marks f.high));
       }
-  marked {low} no_items ended counting = record { high = low; rest = counting; marks = no_marks low }
+  marked {low = low} no_items ended counting = record { high = low; rest = counting; marks = no_marks low }
   marked (add_item values starts last) ended counting =
       let v = marked values tt counting in
       let s = item_skips starts v.rest in
@@ -628,7 +628,7 @@ module _ {all : List Token} {total : ℕ} where
       let v = marked values tt counting in
       let c = at_mark comma tt v.rest in
       record { high = v.high + 1; rest = c.then; marks = to_higher (omega arith) v.marks }
-  marked {low} list_empty ended counting = record { high = low; rest = counting; marks = no_marks low }
+  marked {low = low} list_empty ended counting = record { high = low; rest = counting; marks = no_marks low }
   marked (list_items allowed values) ended counting = marked values tt counting
   marked (list_last values starts last) ended counting =
       let v = marked values tt counting in

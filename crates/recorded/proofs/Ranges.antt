@@ -60,16 +60,16 @@ pub data Marks (all : List Token) : ℕ → ℕ → Syntax → Type 0 where
       → Marks all low middle before → middle ≤ mark → mark < next → Marks all next end last → Marks all end high right → Marks all low high (node kind mark (snoc before last) right)
   marks_both : {low middle high : ℕ} {before last : Syntax} → Marks all low middle before → Marks all middle high last → Marks all low high (snoc before last)
 
-pub from_lower : {lower low high : ℕ} {value : Syntax} {all : List Token} → lower ≤ low → Marks all low high value → Marks all lower high value
-from_lower {lower} {low} {high} down (marks_none h) = let wide : lower ≤ high = omega arith in marks_none wide
-from_lower {lower} down (marks_before {mark = mark} fits h k left right) = let over : lower ≤ mark = omega arith in marks_before fits over k left right
+pub from_lower : {all : List Token} {lower low high : ℕ} {value : Syntax} → lower ≤ low → Marks all low high value → Marks all lower high value
+from_lower {lower = lower} {low = low} {high = high} down (marks_none h) = let wide : lower ≤ high = omega arith in marks_none wide
+from_lower {lower = lower} down (marks_before {mark = mark} fits h k left right) = let over : lower ≤ mark = omega arith in marks_before fits over k left right
 from_lower down (marks_between fits left h k right) = marks_between fits (from_lower down left) h k right
 from_lower down (marks_behind fits left right h k) = marks_behind fits (from_lower down left) right h k
 from_lower down (marks_inside fits before h k last right) = marks_inside fits (from_lower down before) h k last right
 from_lower down (marks_both before last) = marks_both (from_lower down before) last
 
-pub to_higher : {low high higher : ℕ} {value : Syntax} {all : List Token} → high ≤ higher → Marks all low high value → Marks all low higher value
-to_higher {low} {high} {higher} up (marks_none h) = let wide : low ≤ higher = omega arith in marks_none wide
+pub to_higher : {all : List Token} {low high higher : ℕ} {value : Syntax} → high ≤ higher → Marks all low high value → Marks all low higher value
+to_higher {low = low} {high = high} {higher = higher} up (marks_none h) = let wide : low ≤ higher = omega arith in marks_none wide
 to_higher up (marks_before fits h k left right) = marks_before fits h k left (to_higher up right)
 to_higher up (marks_between fits left h k right) = marks_between fits left h k (to_higher up right)
 to_higher {higher = higher} up (marks_behind {mark = mark} fits left right h k) = let under : mark < higher = omega arith in marks_behind fits left right h under
@@ -106,7 +106,7 @@ inside_parts {middle = middle} {mark = mark} fits before own last up right =
     marks_inside fits before here passed last (from_lower up right)
 
 -- as many records as the range has room for
-pub range_size : {low high : ℕ} {value : Syntax} {all : List Token} → Marks all low high value → low + size value ≤ high
+pub range_size : {all : List Token} {low high : ℕ} {value : Syntax} → Marks all low high value → low + size value ≤ high
 range_size (marks_none h) = omega arith
 range_size (marks_before fits h k left right) = omega (arith, range_size left, range_size right)
 range_size (marks_between fits left h k right) = omega (arith, range_size left, range_size right)
@@ -131,7 +131,7 @@ module _ {m : ℕ} where
   in_node left right mark f g own =
       in_either (marks_of left) (marks_of right ++ (mark ∷ [])) f (in_either (marks_of right) (mark ∷ []) g λ h. own (Memᴰ.eq_of_singleton h))
 
-pub within : {low high : ℕ} {value : Syntax} {all : List Token} → Marks all low high value → (m : ℕ) → Memᴰ m (marks_of value) → Within low high m
+pub within : {all : List Token} {low high : ℕ} {value : Syntax} → Marks all low high value → (m : ℕ) → Memᴰ m (marks_of value) → Within low high m
 within (marks_none h) m member = absurd (Memᴰ.not-nil member)
 within (marks_before {mark = mark} {left = first} {right = second} fits h k left right) m member =
     in_node first second mark (λ e. omega (arith, within left m e, range_size left, range_size right))
@@ -172,7 +172,7 @@ distinct_node left right mark c d apart off-left off-right =
     in_either (marks_of right) (mark ∷ []) (λ g. apart m e g)
     (λ g. off-left (subst (λ (n : ℕ). Memᴰ n (marks_of left)) (Memᴰ.eq_of_singleton g) e)) f
 
-pub distinct : {low high : ℕ} {value : Syntax} {all : List Token} → Marks all low high value → Distinct (marks_of value)
+pub distinct : {all : List Token} {low high : ℕ} {value : Syntax} → Marks all low high value → Distinct (marks_of value)
 distinct (marks_none h) = distinct_none
 distinct (marks_before {mark = mark} {left = first} {right = second} fits h k left right) =
     distinct_node first second mark (distinct left) (distinct right) (λ m e f. omega (arith, within left m e, within right m f))
@@ -195,7 +195,7 @@ distinct (marks_both before last) =
     distinct_append (distinct before) (distinct last) λ m e f. omega (arith, within before m e, within last m f)
 
 -- so each piece is behind the one before it
-pub ordered : {low high : ℕ} {value : Syntax} {all : List Token} → Marks all low high value → InOrder value
+pub ordered : {all : List Token} {low high : ℕ} {value : Syntax} → Marks all low high value → InOrder value
 ordered (marks_none h) = order_none
 ordered (marks_before fits h k left right) = order_part (ordered left) (ordered right) λ m n e f. omega (arith, within left m e, within right n f)
 ordered (marks_between fits left h k right) = order_part (ordered left) (ordered right) λ m n e f. omega (arith, within left m e, within right n f)

@@ -96,7 +96,7 @@ node_range {kind = kind} {mark = mark} {bottom = bottom} {middle = middle} {unde
     (g e))
     (own_range marks)) member
 
-part_range : {low high : ℕ} {value : Syntax} {p : Part} {all : List Token} → Marks all low high value → Memᴰ p (parts_of value)
+part_range : {all : List Token} {low high : ℕ} {value : Syntax} {p : Part} → Marks all low high value → Memᴰ p (parts_of value)
     → Range low high (marks_of value) (part_marks p)
 part_range (marks_none h) member = absurd (mathlib.Core.List.Memᴰ.not-nil member)
 part_range (marks_before fits h k left right) member =

@@ -128,7 +128,7 @@ use Rattle.grammar.specs.Grammar.{
   add_declaration,
   Program,
 }
-use Rattle.derivations.specs.Senses.{Sense, beforeAt, after_at, answerAt}
+use Rattle.derivations.specs.Senses.{Sense, block_at, beforeAt, after_at, answerAt}
 use Rattle.shown.specs.Shown.{senses_of}
 use Rattle.machine.specs.Machinery.Machine.{Frame, empty, reduced, Effect, affect, holdWord, takePrefix, takeElse, startStatement, endValue, endHead, Value, doneValue, listValue, statementValue, value_of, Target, noTarget, someTarget, loneTarget, is_target, allows_in, Ending, byStatement, byReturn, by_variable, byStart, byTest, by_step, byObject, by_case, byParen, byBracket, byColon, by_item, Role, declared, operand_in, ifNest, elseNest, doNest, Setting, among, in_clause, in_nest, Variables, in_statement, in_head, later_variables, behind_variables, Control, statement_due, statement_done, clause_due, tryFirst, tryDone, catchPast, catchDone, finallyFirst, tryEnded, switchPast, testDue, stepDue, variableDue, variableNamed, bodyDone, testFirst, semicolonDue, behind_statement, operandDue, operandDone, postfix_done, functionFirst, functionNamed, parameterPast, item_due, parameter_due, parameterNamed, list_closer, Action, goto, push, leave, otherwise, look, row, Closing, toParameter, toStatement, toBlock, toFor, toForIn, toTest, toBody, toTry, close, Open, grouped, nested, asking, State, live, act, consume, start, asks, asks_in}
 use Rattle.machine.specs.Machinery.Classes.{is_sensed}
@@ -635,10 +635,10 @@ past (expression_comma {sign = sign} {middle = middle} left right) =
     λ ending target f around allowed may takes.
     and_then (and_on (past left ending target f around allowed may takes) λ s g. comma_past sign middle g around takes s.1) λ u g.
     past right ending someTarget g around allowed tt
-past (function_all {opener = opener} parameters statements) =
+past (function_all {opener = opener} {openBody = openBody} {inside = inside} {after = after} parameters statements) =
     λ role f around.
     and_then (led_by refl (parameters_past empty (parameterPast role) opener.mark f around parameters)) λ u g.
-    elim role [
+    elim role as (λ (z : Role). PastTo (live (only (parameterPast z) u) g around) (token open_brace openBody ∷ inside) (block_at openBody.first ∷ senses_of statements) (only (behind_function z)) around after) [
       | declared ↦ sensed refl (and_on (past statements (among body) empty _ refl (λ same. refl)) λ u h. straight _ refl)
       | operand_in ending target ↦ sensed refl (and_on (past statements (among body) empty _ refl (λ same. refl)) λ u h. straight _ refl)
     ]
