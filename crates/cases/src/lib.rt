@@ -1,4 +1,6 @@
 // What the test programs share: cases, one to a line, and how a line spells its text and its numbers.
+#![tactic(auto)]
+
 ghost use Rattle.std.specs.Prelude.{◌≤◌, length};
 
 pub mod number;
