@@ -1,2 +1,4 @@
 // How the test programs print answers.
+#![tactic(auto)]
+
 pub mod print;

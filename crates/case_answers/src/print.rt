@@ -8,146 +8,146 @@ ghost use Rattle.std.specs.Prelude.{◌<◌};
 
 use case_tables::table::{SYNTAX_WIDTH, TREE_WIDTH};
 use case_tables::{outputs, table};
-use libc::STDOUT_FILENO;
+use std::io;
 
 const SHOWN: usize = 24;
 
-pub fn heading(line: &[u8]) {
-    words(line);
-    words(b"\n");
+pub fn heading(rt: &impl Print, line: &[u8]) -> io::Result<()> {
+    words(rt, line)?;
+    words(rt, b"\n")
 }
 
-pub fn bad_case() {
-    words(b"bad case\n");
+pub fn bad_case(rt: &impl Print) -> io::Result<()> {
+    words(rt, b"bad case\n")
 }
 
-pub fn accepted(trees: &[u32], count: usize) {
-    words(b"trees,");
-    number(count as u64);
+pub fn accepted(rt: &impl Print, trees: &[u32], count: usize) -> io::Result<()> {
+    words(rt, b"trees,")?;
+    number(rt, count as u64)?;
     if count > trees.len() / TREE_WIDTH {
-        words(b" table wrong\n");
-        return;
+        return words(rt, b" table wrong\n");
     }
     let end = count * TREE_WIDTH;
-    listed(trees, count, end, TREE_WIDTH);
-    verdict(table::kept(trees, end), b" rest kept\n");
+    listed(rt, trees, count, end, TREE_WIDTH)?;
+    verdict(rt, table::kept(trees, end), b" rest kept\n")
 }
 
-pub fn parsed(trees: &[u32], syntax: &[u32], count: usize) {
-    words(b"syntax,");
-    number(count as u64);
+pub fn parsed(rt: &impl Print, trees: &[u32], syntax: &[u32], count: usize) -> io::Result<()> {
+    words(rt, b"syntax,")?;
+    number(rt, count as u64)?;
     if count > syntax.len() / SYNTAX_WIDTH {
-        words(b" table wrong\n");
-        return;
+        return words(rt, b" table wrong\n");
     }
     let end = count * SYNTAX_WIDTH;
-    listed(syntax, count, end, SYNTAX_WIDTH);
-    verdict(table::both_kept(trees, syntax, end), b" rest kept\n");
+    listed(rt, syntax, count, end, SYNTAX_WIDTH)?;
+    verdict(rt, table::both_kept(trees, syntax, end), b" rest kept\n")
 }
 
-pub fn respaced(array: &[u8], count: usize) {
-    words(b"bytes,");
-    number(count as u64);
-    words(b" ");
-    bytes(array, count);
-    verdict(outputs::is_right(array, 0, count), b" rest kept\n");
+pub fn respaced(rt: &impl Print, array: &[u8], count: usize) -> io::Result<()> {
+    words(rt, b"bytes,")?;
+    number(rt, count as u64)?;
+    words(rt, b" ")?;
+    bytes(rt, array, count)?;
+    verdict(rt, outputs::is_right(array, 0, count), b" rest kept\n")
 }
 
-fn bytes(array: &[u8], count: usize) {
+fn bytes(rt: &impl Print, array: &[u8], count: usize) -> io::Result<()> {
     let mut i = 0;
     while i < array.len() && i < count {
-        byte(array[i]);
+        byte(rt, array[i])?;
         i += 1;
     }
+    Ok(())
 }
 
-fn byte(b: u8) {
+fn byte(rt: &impl Print, b: u8) -> io::Result<()> {
     if b == b'\n' {
-        words(b"~0A");
+        words(rt, b"~0A")
     } else {
         let one = [b];
-        words(&one);
+        words(rt, &one)
     }
 }
 
 // A listing: `bytes,` and the count, `sum,` and a number that they determine, and the first line.
-pub fn listing(output: &[u8]) {
-    words(b"bytes,");
-    number(output.len() as u64);
-    words(b" sum,");
-    number(outputs::sum(output));
-    words(b" ");
+pub fn listing(rt: &impl Print, output: &[u8]) -> io::Result<()> {
+    words(rt, b"bytes,")?;
+    number(rt, output.len() as u64)?;
+    words(rt, b" sum,")?;
+    number(rt, outputs::sum(output))?;
+    words(rt, b" ")?;
     let end = cases::line_end(output, 0);
-    words(&output[0..end]);
-    words(b"\n");
+    words(rt, &output[0..end])?;
+    words(rt, b"\n")
 }
 
-pub fn refused(which: u32, place: usize, zero: bool) {
-    words(b"refused,");
-    number(which as u64);
-    words(b",");
-    number(place as u64);
-    verdict(zero, b" all zero\n");
+pub fn refused(rt: &impl Print, which: u32, place: usize, zero: bool) -> io::Result<()> {
+    words(rt, b"refused,")?;
+    number(rt, which as u64)?;
+    words(rt, b",")?;
+    number(rt, place as u64)?;
+    verdict(rt, zero, b" all zero\n")
 }
 
-fn verdict(right: bool, said: &[u8]) {
+fn verdict(rt: &impl Print, right: bool, said: &[u8]) -> io::Result<()> {
     if right {
-        words(said);
+        words(rt, said)
     } else {
-        words(b" table wrong\n");
+        words(rt, b" table wrong\n")
     }
 }
 
 // Records of a width that end before `end`.
-fn listed(table: &[u32], count: usize, end: usize, width: usize)
+fn listed(rt: &impl Print, table: &[u32], count: usize, end: usize, width: usize) -> io::Result<()>
     requires { 0 < width }
 {
     if count <= SHOWN {
-        records(table, 0, end, width);
+        records(rt, table, 0, end, width)
     } else {
-        summary(table, end, width);
+        summary(rt, table, end, width)
     }
 }
 
 // The cells from one place to before another: a blank before each record, and commas in it.
-fn records(table: &[u32], from: usize, end: usize, width: usize)
+fn records(rt: &impl Print, table: &[u32], from: usize, end: usize, width: usize) -> io::Result<()>
     requires { 0 < width }
 {
     let mut at = from;
     while at < table.len() && at < end {
-        cell(at, width, table[at]);
+        cell(rt, at, width, table[at])?;
         at += 1;
     }
+    Ok(())
 }
 
-fn cell(at: usize, width: usize, value: u32)
+fn cell(rt: &impl Print, at: usize, width: usize, value: u32) -> io::Result<()>
     requires { 0 < width }
 {
     if at % width == 0 {
-        words(b" ");
+        words(rt, b" ")?;
     } else {
-        words(b",");
+        words(rt, b",")?;
     }
-    number(table::wide(value));
+    number(rt, table::wide(value))
 }
 
-fn summary(table: &[u32], end: usize, width: usize)
+fn summary(rt: &impl Print, table: &[u32], end: usize, width: usize) -> io::Result<()>
     requires { 0 < width }
 {
-    words(b" first");
-    records(table, 0, width, width);
-    words(b" last");
+    words(rt, b" first")?;
+    records(rt, table, 0, width, width)?;
+    words(rt, b" last")?;
     if width <= end {
-        records(table, end - width, end, width);
+        records(rt, table, end - width, end, width)?;
     }
-    words(b" sum ");
-    number(table::sum(table, end));
+    words(rt, b" sum ")?;
+    number(rt, table::sum(table, end))
 }
 
-fn number(value: u64) {
-    io::print_decimal(STDOUT_FILENO, value);
+fn number(rt: &impl Print, value: u64) -> io::Result<()> {
+    print!(rt; "{value}")
 }
 
-fn words(bytes: &[u8]) {
-    io::write_all(STDOUT_FILENO, bytes);
+fn words(rt: &impl Print, bytes: &[u8]) -> io::Result<()> {
+    rt.write_all(bytes)
 }

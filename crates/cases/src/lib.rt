@@ -1,8 +1,18 @@
 // What the test programs share: cases, one to a line, and how a line spells its text and its numbers.
+#![tactic(auto)]
+
 ghost use Rattle.std.specs.Prelude.{◌≤◌, length};
 
 pub mod number;
 pub mod spelling;
+
+// Room for the input of a test program.
+pub const INPUT: usize = 65536;
+
+// The room, before it is read.
+pub fn no_input() -> [u8; INPUT] {
+    [0; INPUT]
+}
 
 // The line end from `at` on, or the end of the input.
 pub fn line_end(input: &[u8], at: usize) -> usize

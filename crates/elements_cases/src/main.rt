@@ -1,43 +1,48 @@
 // Prints how a walk cuts the texts that standard input gives, one case to a line, for comparison with the stored answers.
 // `case.rt` says what a line holds, `print.rt` what is printed.
+#![tactic(auto)]
+
 mod case;
 mod print;
 mod texts;
 
 use case::Case;
 use cases::spelling::MOST;
-use libc::STDIN_FILENO;
+use std::io;
+use streams::Input;
 
-fn main() {
-    let mut input = io::large_buffer();
-    let n = io::read_full(STDIN_FILENO, &mut input);
+fn main(rt: HostRuntime) -> io::Result<()> {
+    let mut input = cases::no_input();
+    let Input::Bytes(n) = streams::read_input(&rt, &mut input) else {
+        return Ok(());
+    };
     let mut text = [0u8; MOST];
-    answer_all(&input[..n], &mut text);
+    answer_all(&rt, &input[..n], &mut text)
 }
 
-fn answer_all(input: &[u8], text: &mut [u8; MOST]) {
+fn answer_all(rt: &impl Print, input: &[u8], text: &mut [u8; MOST]) -> io::Result<()> {
     let mut at = 0;
     while at < input.len() {
         let end = cases::line_end(input, at);
-        answer(&input[at..end], text);
+        answer(rt, &input[at..end], text)?;
         at = end + 1;
     }
+    Ok(())
 }
 
 // A heading is copied, an empty line skipped, and any other line is a case.
-fn answer(line: &[u8], text: &mut [u8; MOST]) {
+fn answer(rt: &impl Print, line: &[u8], text: &mut [u8; MOST]) -> io::Result<()> {
     if line.len() == 0 {
-        return;
+        return Ok(());
     }
     if line[0] == b'#' {
-        print::heading(line);
-        return;
+        return print::heading(rt, line);
     }
     let case = case::case_of(line, text);
     match case {
-        Case::One(size, stated) => texts::one(text, size, stated, false),
-        Case::Prefixes(size, stated) => texts::prefixes(text, size, stated),
-        Case::Parts(size, stated) => texts::one(text, size, stated, true),
-        Case::Bad => print::bad_case(),
+        Case::One(size, stated) => texts::one(rt, text, size, stated, false),
+        Case::Prefixes(size, stated) => texts::prefixes(rt, text, size, stated),
+        Case::Parts(size, stated) => texts::one(rt, text, size, stated, true),
+        Case::Bad => print::bad_case(rt),
     }
 }

@@ -1,7 +1,7 @@
 // What is printed of a text is one line: its elements as `kind,which,first,end,line`, or their bytes between backquotes,
 // then `end` or `fault,number,place`, with a blank between.
 use elements::Element;
-use libc::STDOUT_FILENO;
+use std::io;
 use writing::numbers::put_number;
 use writing::{put_byte, put_bytes};
 
@@ -13,21 +13,22 @@ pub fn no_line() -> [u8; ROOM] {
     [0; ROOM]
 }
 
-pub fn heading(line: &[u8]) {
-    io::write_all(STDOUT_FILENO, line);
-    io::write_all(STDOUT_FILENO, b"\n");
+pub fn heading(rt: &impl Print, line: &[u8]) -> io::Result<()> {
+    rt.write_all(line)?;
+    rt.write_all(b"\n")
 }
 
-pub fn bad_case() {
-    io::write_all(STDOUT_FILENO, b"bad case\n");
+pub fn bad_case(rt: &impl Print) -> io::Result<()> {
+    rt.write_all(b"bad case\n")
 }
 
 // Writes the first n bytes of `out`.
-pub fn line(out: &[u8; ROOM], n: usize) {
+pub fn line(rt: &impl Print, out: &[u8; ROOM], n: usize) -> io::Result<()> {
     let all: &[u8] = out;
     if n <= all.len() {
-        io::write_all(STDOUT_FILENO, &all[0..n]);
+        rt.write_all(&all[0..n])?;
     }
+    Ok(())
 }
 
 pub fn end(out: &mut [u8; ROOM], at: usize) -> usize {

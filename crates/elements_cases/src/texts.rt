@@ -6,23 +6,26 @@ use crate::print;
 use crate::print::ROOM;
 use cases::spelling::MOST;
 use elements::{Element, Next, Stated};
+use std::io;
 use walk::Walk;
 
 // Every prefix of the text, so that a text ends anywhere.
-pub fn prefixes(text: &[u8; MOST], size: usize, stated: Stated) {
+pub fn prefixes(rt: &impl Print, text: &[u8; MOST], size: usize, stated: Stated) -> io::Result<()> {
     for n in 0..=size {
-        one(text, n, stated, false);
+        one(rt, text, n, stated, false)?;
     }
+    Ok(())
 }
 
 // The first `size` bytes of the text. `parts` says whether an element is shown as its part of the text.
-pub fn one(text: &[u8; MOST], size: usize, stated: Stated, parts: bool) {
+pub fn one(rt: &impl Print, text: &[u8; MOST], size: usize, stated: Stated, parts: bool) -> io::Result<()> {
     let all: &[u8] = text;
     if size <= all.len() {
         let mut out = print::no_line();
         let n = cut(&all[0..size], stated, parts, &mut out);
-        print::line(&out, n);
+        print::line(rt, &out, n)?;
     }
+    Ok(())
 }
 
 // Each element holds a byte of its own, so the turns do not run out before the text does.

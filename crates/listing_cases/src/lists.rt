@@ -1,51 +1,52 @@
 // Each case has buffers and tables of its own, as the programs have.
 use case_answers::print;
 use listing::SHORT_INPUT;
+use std::io;
 
-pub fn list(letter: u8, text: &[u8]) {
+pub fn list(rt: &impl Print, letter: u8, text: &[u8]) -> io::Result<()> {
     match letter {
-        b'l' => short(text),
-        b't' => trees(text),
-        b's' => syntax(text),
-        b'r' => respaced(text),
-        _ => print::bad_case(),
+        b'l' => short(rt, text),
+        b't' => trees(rt, text),
+        b's' => syntax(rt, text),
+        b'r' => respaced(rt, text),
+        _ => print::bad_case(rt),
     }
 }
 
-fn short(text: &[u8]) {
+fn short(rt: &impl Print, text: &[u8]) -> io::Result<()> {
     let mut input = [0u8; SHORT_INPUT];
     let count = fill(&mut input, text);
     let mut trees = [0u32; listing::SHORT_TREES];
     let mut output = [0u8; listing::SHORT_OUTPUT];
     let written = listing::list_short(&input, count, &mut trees, &mut output);
-    print::listing(&output[..written]);
+    print::listing(rt, &output[..written])
 }
 
-fn trees(text: &[u8]) {
+fn trees(rt: &impl Print, text: &[u8]) -> io::Result<()> {
     let mut input = zeroed_input();
     let count = fill(&mut input, text);
     let mut trees = zeroed_trees();
     let mut output = zeroed_trees_output();
     let written = listing::list_trees(&input, count, &mut trees, &mut output);
-    print::listing(&output[..written]);
+    print::listing(rt, &output[..written])
 }
 
-fn syntax(text: &[u8]) {
+fn syntax(rt: &impl Print, text: &[u8]) -> io::Result<()> {
     let mut input = zeroed_input();
     let count = fill(&mut input, text);
     let mut trees = zeroed_trees();
     let mut syntax = zeroed_syntax();
     let mut output = zeroed_syntax_output();
     let written = syntax_listing::list_syntax(&input, count, &mut trees, &mut syntax, &mut output);
-    print::listing(&output[..written]);
+    print::listing(rt, &output[..written])
 }
 
-fn respaced(text: &[u8]) {
+fn respaced(rt: &impl Print, text: &[u8]) -> io::Result<()> {
     let mut input = zeroed_input();
     let count = fill(&mut input, text);
     let mut output = zeroed_respaced_output();
     let written = respaced_listing::list_respaced(&input, count, &mut output);
-    print::listing(&output[..written]);
+    print::listing(rt, &output[..written])
 }
 
 // Large arrays are made by functions of their own: a proof that has one as it was made takes twice as long.

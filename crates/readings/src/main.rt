@@ -1,6 +1,8 @@
 // Prints how `reader::read` reads, `respacer::respace` respaces and `parser::parse` parses the texts that standard input gives, one
 // case to a line, for comparison with the stored answers. `case.rt`, and `spelling.rt` of `cases`, say what a line holds, `print.rt` of
 // `case_answers` what is printed.
+#![tactic(auto)]
+
 mod case;
 
 use answers::Answer;
@@ -10,108 +12,111 @@ use case_tables::outputs::BYTES;
 use case_tables::table::{CELLS, SYNTAX_CELLS};
 use case_tables::{outputs, table};
 use cases::spelling::{MOST, part};
-use libc::STDIN_FILENO;
+use std::io;
+use streams::Input;
 
-fn main() {
-    let mut input = io::large_buffer();
-    let n = io::read_full(STDIN_FILENO, &mut input);
+fn main(rt: HostRuntime) -> io::Result<()> {
+    let mut input = cases::no_input();
+    let Input::Bytes(n) = streams::read_input(&rt, &mut input) else {
+        return Ok(());
+    };
     let mut text = [0u8; MOST];
     let mut cells = [0u32; CELLS];
-    answer_all(&input[..n], &mut text, &mut cells);
+    answer_all(&rt, &input[..n], &mut text, &mut cells)
 }
 
-fn answer_all(input: &[u8], text: &mut [u8; MOST], cells: &mut [u32]) {
+fn answer_all(rt: &impl Print, input: &[u8], text: &mut [u8; MOST], cells: &mut [u32]) -> io::Result<()> {
     let mut at = 0;
     while at < input.len() {
         let end = cases::line_end(input, at);
-        answer(&input[at..end], text, cells);
+        answer(rt, &input[at..end], text, cells)?;
         at = end + 1;
     }
+    Ok(())
 }
 
 // A heading is copied, an empty line skipped, and any other line is a case.
-fn answer(line: &[u8], text: &mut [u8; MOST], cells: &mut [u32]) {
+fn answer(rt: &impl Print, line: &[u8], text: &mut [u8; MOST], cells: &mut [u32]) -> io::Result<()> {
     if line.len() == 0 {
-        return;
+        return Ok(());
     }
     if line[0] == b'#' {
-        print::heading(line);
+        print::heading(rt, line)
     } else {
-        answer_case(line, text, cells);
+        answer_case(rt, line, text, cells)
     }
 }
 
-fn answer_case(line: &[u8], text: &mut [u8; MOST], cells: &mut [u32]) {
+fn answer_case(rt: &impl Print, line: &[u8], text: &mut [u8; MOST], cells: &mut [u32]) -> io::Result<()> {
     let case = case::case_of(line, text);
     match case {
-        Case::Read(lent, size) => read(part(text, size), cells, lent),
-        Case::Respace(lent, size) => respace(part(text, size), lent),
-        Case::Parse(lent, size) => parse(part(text, size), cells, lent),
-        Case::Bad => print::bad_case(),
+        Case::Read(lent, size) => read(rt, part(text, size), cells, lent),
+        Case::Respace(lent, size) => respace(rt, part(text, size), lent),
+        Case::Parse(lent, size) => parse(rt, part(text, size), cells, lent),
+        Case::Bad => print::bad_case(rt),
     }
 }
 
 // The table is the first `lent` cells.
-fn read(text: &[u8], cells: &mut [u32], lent: usize) {
+fn read(rt: &impl Print, text: &[u8], cells: &mut [u32], lent: usize) -> io::Result<()> {
     if lent <= cells.len() {
-        read_to(text, &mut cells[0..lent]);
+        read_to(rt, text, &mut cells[0..lent])
     } else {
-        print::bad_case();
+        print::bad_case(rt)
     }
 }
 
-fn read_to(text: &[u8], trees: &mut [u32]) {
+fn read_to(rt: &impl Print, text: &[u8], trees: &mut [u32]) -> io::Result<()> {
     table::mark_all(trees);
     let answer = reader::read(text, trees);
     match answer {
-        Answer::Accepted(count) => print::accepted(trees, count),
-        Answer::Refused(number, place) => print::refused(number, place, table::all_zero(trees)),
+        Answer::Accepted(count) => print::accepted(rt, trees, count),
+        Answer::Refused(number, place) => print::refused(rt, number, place, table::all_zero(trees)),
     }
 }
 
-fn respace(text: &[u8], lent: usize) {
+fn respace(rt: &impl Print, text: &[u8], lent: usize) -> io::Result<()> {
     let mut array = [0u8; BYTES];
-    respace_to(text, &mut array, lent);
+    respace_to(rt, text, &mut array, lent)
 }
 
 // The output is the first `lent` bytes of the array.
-fn respace_to(text: &[u8], array: &mut [u8], lent: usize) {
+fn respace_to(rt: &impl Print, text: &[u8], array: &mut [u8], lent: usize) -> io::Result<()> {
     if lent > array.len() {
-        print::bad_case();
-        return;
+        return print::bad_case(rt);
     }
     outputs::mark_all(array);
     let answer = respacer::respace(text, &mut array[0..lent]);
     match answer {
-        Answer::Accepted(count) => print::respaced(array, count),
+        Answer::Accepted(count) => print::respaced(rt, array, count),
         Answer::Refused(number, place) => {
-            print::refused(number, place, outputs::is_right(array, lent, lent))
+            print::refused(rt, number, place, outputs::is_right(array, lent, lent))
         }
     }
 }
 
-fn parse(text: &[u8], trees: &mut [u32], lent: usize) {
+fn parse(rt: &impl Print, text: &[u8], trees: &mut [u32], lent: usize) -> io::Result<()> {
     let mut array = [0u32; SYNTAX_CELLS];
-    parse_in(text, trees, &mut array, lent);
+    parse_in(rt, text, trees, &mut array, lent)
 }
 
 // The syntax table is the first `lent` cells of the array.
-fn parse_in(text: &[u8], trees: &mut [u32], array: &mut [u32], lent: usize) {
+fn parse_in(rt: &impl Print, text: &[u8], trees: &mut [u32], array: &mut [u32], lent: usize) -> io::Result<()> {
     if lent <= array.len() {
-        parse_to(text, trees, &mut array[0..lent]);
+        parse_to(rt, text, trees, &mut array[0..lent])
     } else {
-        print::bad_case();
+        print::bad_case(rt)
     }
 }
 
-fn parse_to(text: &[u8], trees: &mut [u32], syntax: &mut [u32]) {
+fn parse_to(rt: &impl Print, text: &[u8], trees: &mut [u32], syntax: &mut [u32]) -> io::Result<()> {
     table::mark_all(trees);
     table::mark_all(syntax);
     let answer = parser::parse(text, trees, syntax);
     match answer {
-        Answer::Accepted(count) => print::parsed(trees, syntax, count),
+        Answer::Accepted(count) => print::parsed(rt, trees, syntax, count),
         Answer::Refused(number, place) => {
-            print::refused(number, place, table::both_zero(trees, syntax))
+            print::refused(rt, number, place, table::both_zero(trees, syntax))
         }
     }
 }

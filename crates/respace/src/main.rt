@@ -1,12 +1,14 @@
 // Prints the text on standard input with one blank or line end between its elements, or its first fault.
+#![tactic(auto)]
+
 use streams::Input;
 
-fn main() {
+fn main(rt: HostRuntime) {
     let mut input = [0u8; listing::INPUT];
-    let Input::Bytes(count) = streams::read_input(&mut input) else {
+    let Input::Bytes(count) = streams::read_input(&rt, &mut input) else {
         return;
     };
     let mut output = [0u8; respaced_listing::RESPACED_OUTPUT];
     let written = respaced_listing::list_respaced(&input, count, &mut output);
-    streams::write_output(&output[..written]);
+    streams::write_output(&rt, &output[..written]);
 }

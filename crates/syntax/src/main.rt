@@ -1,16 +1,18 @@
 // Prints the syntax records of the text on standard input, or its first fault.
+#![tactic(auto)]
+
 use streams::Input;
 
-fn main() {
+fn main(rt: HostRuntime) {
     let mut input = zeroed_input();
-    let Input::Bytes(count) = streams::read_input(&mut input) else {
+    let Input::Bytes(count) = streams::read_input(&rt, &mut input) else {
         return;
     };
     let mut trees = zeroed_trees();
     let mut syntax = zeroed_syntax();
     let mut output = zeroed_syntax_output();
     let written = syntax_listing::list_syntax(&input, count, &mut trees, &mut syntax, &mut output);
-    streams::write_output(&output[..written]);
+    streams::write_output(&rt, &output[..written]);
 }
 
 // Large arrays are made by functions of their own: a proof that has one as it was made takes twice as long.

@@ -1,13 +1,15 @@
 // Prints the tree records of the text on standard input, or its first fault.
+#![tactic(auto)]
+
 use streams::Input;
 
-fn main() {
+fn main(rt: HostRuntime) {
     let mut input = [0u8; listing::INPUT];
-    let Input::Bytes(count) = streams::read_input(&mut input) else {
+    let Input::Bytes(count) = streams::read_input(&rt, &mut input) else {
         return;
     };
     let mut trees = [0u32; listing::TREES];
     let mut output = [0u8; listing::TREES_OUTPUT];
     let written = listing::list_trees(&input, count, &mut trees, &mut output);
-    streams::write_output(&output[..written]);
+    streams::write_output(&rt, &output[..written]);
 }

@@ -1,0 +1,11 @@
+-- `table::mark_all` is safe and ends. The measure is what is left of the table, whose length stays.
+use Prim.Native.Nat.{◌-◌}
+use mathlib.Core.Path.{◌≡◌}
+use lib.ListN.{length}
+use Rattle.case_tables.proofs.table.mark_all.Given as goal
+
+abbrev pub invariant-loop-i : goal.invariant-loop-i
+invariant-loop-i l = length l.trees ≡ length l.initial.trees
+
+abbrev pub decreases-loop-i : goal.decreases-loop-i
+decreases-loop-i l = length l.initial.trees - l.i
