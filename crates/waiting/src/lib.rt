@@ -2,6 +2,8 @@
 // operators and beginnings of statements with their kind, their mark and their first syntax record; nests with a number that tells what
 // they are and the setting around them, the mark of their word and their first syntax record; an open `?` with a number that tells its
 // expression, its mark and the first syntax record of its condition.
+#![tactic(auto)]
+
 ghost use Rattle.std.specs.Prelude.{◌≡◌, ◌+◌, ◌-◌, ◌*◌, ◌≤◌, ◌<◌, length};
 ghost use Rattle.tables.specs.Records.{most_trees, most_syntax};
 ghost use Rattle.controls.specs.Machinery.Written.{put_record};
