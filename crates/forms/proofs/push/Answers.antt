@@ -1,0 +1,7 @@
+-- `push` opens a group before the control of its parts.
+use borrow.Author.Rules.{rules}
+use Rattle.controls.proofs.StepLaws.{opens-group}
+use Rattle.forms.proofs.push.Goals as goal
+
+pub returns : goal.returns
+returns c = λ from class opener spans. opens-group c.stand.ensures opener spans
