@@ -436,9 +436,10 @@ each_role control d t (operand_in ending target) = each_ending (λ ending target
 passed : (control : Control) → T (test control)
 unfolding test passes related allows opens_right taken_right is_leaf tree_class settled_class group_class takes_over
 passed control =
-    elim control [
-      | statement_due must setting ↦ elim must [ true ↦ each_setting (statement_due true) tt setting | false ↦ each_setting (statement_due false) tt setting ]
-      | statement_done nest ↦ elim nest [ ifNest ↦ tt | elseNest ↦ tt | doNest ↦ tt ]
+    elim control as (λ k. T (test k)) [
+      | statement_due must setting ↦
+          elim must as (λ m. T (test (statement_due m setting))) [ true ↦ each_setting (statement_due true) tt setting | false ↦ each_setting (statement_due false) tt setting ]
+      | statement_done nest ↦ elim nest as (λ n. T (test (statement_done n))) [ ifNest ↦ tt | elseNest ↦ tt | doNest ↦ tt ]
       | nameFirst setting ↦ each_setting nameFirst tt setting
       | returnFirst setting ↦ each_setting returnFirst tt setting
       | throwFirst setting ↦ each_setting throwFirst tt setting
@@ -452,7 +453,7 @@ passed control =
       | stepDue ↦ tt
       | switchFirst setting ↦ each_setting switchFirst tt setting
       | switchPast setting ↦ each_setting switchPast tt setting
-      | clause_due seen ↦ elim seen [ true ↦ tt | false ↦ tt ]
+      | clause_due seen ↦ elim seen as (λ b. T (test (clause_due b))) [ true ↦ tt | false ↦ tt ]
       | defaultFirst ↦ tt
       | tryFirst ↦ tt
       | tryDone ↦ tt
@@ -475,9 +476,9 @@ passed control =
       | functionFirst role ↦ each_role functionFirst tt tt role
       | functionNamed role ↦ each_role functionNamed tt tt role
       | parameterPast role ↦ each_role parameterPast tt tt role
-      | item_due items ↦ elim items [ callArguments ↦ tt | arrayElements ↦ tt | objectProperties ↦ tt ]
+      | item_due items ↦ elim items as (λ i. T (test (item_due i))) [ callArguments ↦ tt | arrayElements ↦ tt | objectProperties ↦ tt ]
       | propertyNamed ↦ tt
-      | parameter_due must ↦ elim must [ true ↦ tt | false ↦ tt ]
+      | parameter_due must ↦ elim must as (λ m. T (test (parameter_due m))) [ true ↦ tt | false ↦ tt ]
       | parameterNamed ↦ tt
       | finished ↦ tt
     ]

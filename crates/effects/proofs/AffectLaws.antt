@@ -338,18 +338,18 @@ pub threshold_small : {class mark : ℕ} {l : Level} {stack cells : List ℕ} �
 threshold_small may = (operator_fine may.leads).small
 
 module _ {mark : ℕ} {l r : Level} {stack cells after : List ℕ} where
-  pub operator_asks : {class least : ℕ} → MayAffect (takeOperator class) mark l stack cells → (r.floor ≡ l.floor) × (r.held ≡ l.held) × Closes least l stack cells r after
+  pub operator_asks : (least : ℕ) {class : ℕ} → MayAffect (takeOperator class) mark l stack cells → (r.floor ≡ l.floor) × (r.held ≡ l.held) × Closes least l stack cells r after
       → ((r.top + 1) * width ≤ length stack) × (class < 65536) × (mark ≤ most_trees) × (r.start ≤ most_trees)
-  operator_asks {class = class} may closes =
+  operator_asks least {class = class} may closes =
       let s = may.somewhere.stands in
-      let light = closes_lightens s.holds closes.0 closes.2 in
+      let light = closes_lightens _ s.holds closes.0 closes.2 in
       (omega (arith, light, may.room), omega (arith, operator_small class (operator_fine may.leads).tight), omega (arith, may.marked), omega (arith, light, s.holds.few))
 
-  pub operand_asks : {effect : machine.Effect} {least : ℕ} → MayAffect effect mark l stack cells → (r.floor ≡ l.floor) × (r.held ≡ l.held) × Closes least l stack cells r after
+  pub operand_asks : (least : ℕ) {effect : machine.Effect} → MayAffect effect mark l stack cells → (r.floor ≡ l.floor) × (r.held ≡ l.held) × Closes least l stack cells r after
       → (r.start ≤ r.count) × (r.count < most_syntax) × (mark ≤ most_trees)
-  operand_asks may closes =
+  operand_asks least may closes =
       let s = may.somewhere.stands in
-      let light = closes_lightens s.holds closes.0 closes.2 in
+      let light = closes_lightens _ s.holds closes.0 closes.2 in
       (light.started, omega (arith, light, s.holds.few), omega (arith, may.marked))
 
   pub expression_held : (kind : ℕ) {one : Level} {cells' : List ℕ} → MayAffect endExpression mark l stack cells
@@ -357,7 +357,7 @@ module _ {mark : ℕ} {l r : Level} {stack cells after : List ℕ} where
       → (one ≡ made_one r) × (cells' ≡ put_record after r.count kind mark (r.count - r.start + 1)) → Backed one stack cells'
   expression_held kind may closes e =
       let s = may.somewhere.stands in
-      let light = closes_lightens s.holds closes.0 closes.2 in
+      let light = closes_lightens _ s.holds closes.0 closes.2 in
       rw (e.0, e.1)
       (backed (carries_made (carries_expression (carried s) closes.0 closes.1 closes.2) kind mark (omega (arith, light, s.passes, may.more))).holds)
 

@@ -49,7 +49,7 @@ module _ {g : Frame} {nests : List machine.Open} {table stack₀ : List ℕ} {fi
       let e = at_ended ended s in
       let h = e.carries in
       let k = close_reduces least_binary e.done e.operand (omega arith) h.operators h.beginnings (below_stops h.below) in
-      let light = closes_lightens h.holds f closes in
+      let light = closes_lightens _ h.holds f closes in
       rw (e.is, k.is)
       (stands nil
       (carries_asked kind mark (carries_closed h least_binary f w closes k) e.within many (omega (arith, light, e.passes)) small (omega (arith, light)))
@@ -64,6 +64,6 @@ module _ {g : Frame} {nests : List machine.Open} {table stack₀ : List ℕ} {fi
       → get_or stack ((r.top - 1) * width) 0 ≡ kind → control_of c ≡ operandDue (asked_in kind) someTarget
       → TurnedTo g nests table stack₀ first floor (passed + 1) (record { control = c; level = restarted r }) (stack_as stack r.top question) after
   turns kind more e closes at control_is =
-      let light = closes_lightens e.carries.holds f closes in
+      let light = closes_lightens _ e.carries.holds f closes in
       turned kind (ap (value_of expressionValue) e.is ∙ ap operand_of (reduce_wraps e.done e.starts e.waiting e.operand)) (answering e closes)
       (omega (arith, light, e.passes)) (omega arith) at control_is

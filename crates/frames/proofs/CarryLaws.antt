@@ -106,9 +106,9 @@ pub record Lighter (l r : Level) : Type 0 where
   pub lower : r.top ≤ l.top
   pub started : r.start ≤ r.count
 
-pub closes_lightens : {least : ℕ} {table : List ℕ} {first : ℕ} {done : Syntax} {ps : List Pending} {operand : Syntax} {l r : Level} {stack cells after : List ℕ}
+pub closes_lightens : (least : ℕ) {table : List ℕ} {first : ℕ} {done : Syntax} {ps : List Pending} {operand : Syntax} {l r : Level} {stack cells after : List ℕ}
     → Holds table first done ps operand l stack cells → r.floor ≡ l.floor → Closes least l stack cells r after → Lighter l r
-closes_lightens {least = least} {table = table} {first = first} {done = done} {ps = ps} {operand = operand} {l = l} {r = r} {stack = stack} {after = after} h f closes =
+closes_lightens least {table = table} {first = first} {done = done} {ps = ps} {operand = operand} {l = l} {r = r} {stack = stack} {after = after} h f closes =
     go (close least ps operand) (close_lightens least done ps operand) (closes table first done ps operand h)
   where
     go : (s : Shut) → LighterBy done ps operand s → HoldsShut table first done s r stack after → Lighter l r
@@ -317,7 +317,7 @@ module _ {nests : List machine.Open} {table stack₀ : List ℕ} {first floor : 
 
   pub completes_lightens : Completes l stack cells r after → Lighter l r
   completes_lightens k =
-      let m = closes_lightens h.holds k.same_floor k.closes in
+      let m = closes_lightens _ h.holds k.same_floor k.closes in
       rw k.is (record { same = m.same; lower = m.lower; started = omega arith })
 
 -- a nest is left with all that it has, or with the one statement that it has

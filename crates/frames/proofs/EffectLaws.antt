@@ -287,7 +287,7 @@ module _ {g : Frame} {nests : List machine.Open} {table stack₀ : List ℕ} {fi
   takes_postfix kind mark f w closes s =
       let h = carried s in
       let k = close_reduces new_precedence s.done s.operand (omega arith) h.operators h.beginnings (below_stops h.below) in
-      let light = closes_lightens s.holds f closes in
+      let light = closes_lightens _ s.holds f closes in
       rw (s.is, k.is)
       (stands (node kind mark k.last nil)
       (carries_made (carries_closed h new_precedence f w closes k) kind mark (omega (arith, light, s.passes)))
@@ -303,7 +303,7 @@ module _ {g : Frame} {nests : List machine.Open} {table stack₀ : List ℕ} {fi
       let e = at_ended ended s in
       let h = e.carries in
       let k = close_reduces (threshold class) e.done e.operand some h.operators h.beginnings (below_stops h.below) in
-      let light = closes_lightens h.holds f closes in
+      let light = closes_lightens _ h.holds f closes in
       rw (e.is, k.is)
       (stands nil
       (carries_operator (carries_closed h (threshold class) f w closes k) class mark (omega (arith, light, e.passes)) small (omega (arith, light)) tight (λ q. absurd (other q)))
@@ -316,7 +316,7 @@ module _ {g : Frame} {nests : List machine.Open} {table stack₀ : List ℕ} {fi
       → Stands (behind_statement setting) (machine.affect endExpression mark g) nests table stack₀ first floor (passed + 1) all stack cells'
   ends_expression {setting = setting} mark f w closes completes ended s =
       let e = at_ended ended s in
-      let light = closes_lightens e.carries.holds f closes in
+      let light = closes_lightens _ e.carries.holds f closes in
       let one = carries_made (carries_expression e.carries f w closes) expression_syntax mark (omega (arith, light, e.passes)) in
       let lighter = completes_lightens one completes in
       rw (e.is, reduce_wraps e.done e.starts e.waiting e.operand)
@@ -362,7 +362,7 @@ module _ {g : Frame} {nests : List machine.Open} {table stack₀ : List ℕ} {fi
       let h = carries_expression e.carries f w closes in
       let u = uppermost h.holds in
       let same : m ≡ e.mark = omega (arith, u.mark_is) in
-      let light = closes_lightens e.carries.holds f closes in
+      let light = closes_lightens _ e.carries.holds f closes in
       rw (e.is, reduce_wraps e.done (pending variable_syntax e.mark nil ∷ pending var_word e.word e.variables ∷ e.before) e.waiting e.operand, same)
       (stands nil (carries_joined h) (record { word = e.word; variables = _; before = e.before; is = refl }, refl, refl, later-variables place nests e.done e.within) tt
       (omega (arith, light, e.passes, u.some)) (omega arith))

@@ -59,7 +59,7 @@ module _ {g : Frame} {nests : List machine.Open} {table stack₀ : List ℕ} {fi
   ended : {c : Control} {action : Action} {value : Syntax} (s : Stands c g nests table stack₀ first floor passed l stack cells) → r.floor ≡ l.floor → Closes 2 l stack cells r after
       → IsValue action g value → nests ≡ [] → Written table first floor value r after → EndedLevel action g nests table first floor passed r.count after
   ended {value = value} s f closes is none w =
-      let light = closes_lightens s.holds f closes in
+      let light = closes_lightens _ s.holds f closes in
       record { value = value; value_is = is; none = none; count_is = w.count_is; cells_are = w.cells_are; passes = omega (arith, light, s.passes, w.top_is) }
 
   expression-ends : {c : Control} (ending : Ending) → T (in_group ending) → r.floor ≡ l.floor → r.held ≡ l.held → Closes 2 l stack cells r after

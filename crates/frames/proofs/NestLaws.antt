@@ -105,7 +105,7 @@ module _ {g : Frame} {nests : List machine.Open} {table stack₀ : List ℕ} {fi
   head_outside {nest = nest} setting mark many heads e =
       let k = heads.clause many in
       let b = e.within.0 in
-      let light = closes_lightens e.carries.holds k.same_floor k.closes in
+      let light = closes_lightens _ e.carries.holds k.same_floor k.closes in
       rw (k.is, le-ltb nest 3 many)
       (record {
         done = e.done;
@@ -120,23 +120,28 @@ module _ {g : Frame} {nests : List machine.Open} {table stack₀ : List ℕ} {fi
   pub outside : {nest : ℕ} {from : Control} (setting mark : ℕ) → Heads nest l stack cells r after → Enters nest (setting_by setting) from
       → Stands from g nests table stack₀ first floor passed l stack cells
       → Outside nest setting (machine.affect (outside_by nest) mark g) nests table stack₀ first floor passed l r stack after
-  outside setting mark heads enters_if s = statement_outside setting mark (omega arith) heads (at_statement s)
-  outside setting mark heads enters_do s = statement_outside setting mark (omega arith) heads (at_statement s)
-  outside setting mark heads enters_try s = statement_outside setting mark (omega arith) heads (at_statement s)
-  outside setting mark heads (enters_case ended) s = head_outside setting mark (omega arith) heads (at_ended ended s)
-  outside setting mark heads (enters_last_case ended) s = head_outside setting mark (omega arith) heads (at_ended ended s)
-  outside setting mark heads enters_default s =
-      head_outside {seen = true} setting mark (omega arith) heads
-      (record {
-        done = s.done;
-        starts = s.starts;
-        waiting = s.waiting;
-        operand = s.operand;
-        is = s.is;
-        within = (s.shaped.0, s.shaped.3);
-        carries = carried s;
-        passes = omega (arith, s.passes);
-      })
+  outside {nest = nest} {from = from} setting mark heads opens s = go setting from heads opens s
+    where
+      go : {nest : ℕ} (setting : ℕ) (from : Control) → Heads nest l stack cells r after → Enters nest (setting_by setting) from
+          → Stands from g nests table stack₀ first floor passed l stack cells
+          → Outside nest setting (machine.affect (outside_by nest) mark g) nests table stack₀ first floor passed l r stack after
+      go setting _ heads enters_if s = statement_outside setting mark (omega arith) heads (at_statement s)
+      go setting _ heads enters_do s = statement_outside setting mark (omega arith) heads (at_statement s)
+      go setting _ heads enters_try s = statement_outside setting mark (omega arith) heads (at_statement s)
+      go setting _ heads (enters_case ended) s = head_outside setting mark (omega arith) heads (at_ended ended s)
+      go setting _ heads (enters_last_case ended) s = head_outside setting mark (omega arith) heads (at_ended ended s)
+      go setting _ heads enters_default s =
+          head_outside {seen = true} setting mark (omega arith) heads
+          (record {
+            done = s.done;
+            starts = s.starts;
+            waiting = s.waiting;
+            operand = s.operand;
+            is = s.is;
+            within = (s.shaped.0, s.shaped.3);
+            carries = carried s;
+            passes = omega (arith, s.passes);
+          })
 
   pub enters : {from : Control} (nest setting mark : ℕ) → first + floor + passed < most_trees → nest ≤ 4 → setting ≤ 5 → mark ≤ most_trees → (l.top + 1) * width ≤ length stack
       → Heads nest l stack cells r after → Enters nest (setting_by setting) from → Stands from g nests table stack₀ first floor passed l stack cells

@@ -364,6 +364,7 @@ module _ {A : Type 0} {seen : State → List Token → A} (sees : Sees seen) whe
   -- "with no line end after `return`": a value is taken
   pub value_is_returned : (setting : Setting) (f : Frame) (around : List Open) (before : List Token) → Begins expression_starts true before → T (on_same_line before)
       → seen (live (returnFirst setting) f around) before ≡ seen (live (operandDue (byReturn setting) someTarget) f around) before
+  value_is_returned setting f around [] begins same = elim begins [ ]
   value_is_returned setting f around (token class spot ∷ rest) begins same =
       let bare = on semicolon (goto (behind_statement setting) endBare) in
       operand_is_taken (returnFirst setting) (byReturn setting) someTarget (bare ∷ []) f around tt refl
@@ -372,6 +373,7 @@ module _ {A : Type 0} {seen : State → List Token → A} (sees : Sees seen) whe
   -- the same of `throw`, behind which no `;` may come
   pub value_is_thrown : (setting : Setting) (f : Frame) (around : List Open) (before : List Token) → Begins expression_starts true before → T (on_same_line before)
       → seen (live (throwFirst setting) f around) before ≡ seen (live (operandDue (byReturn setting) someTarget) f around) before
+  value_is_thrown setting f around [] begins same = elim begins [ ]
   value_is_thrown setting f around (token class spot ∷ rest) begins same =
       operand_is_taken (throwFirst setting) (byReturn setting) someTarget [] f around tt refl
       (no_newline spot.newline (operand (byReturn setting) someTarget) same) begins
@@ -387,11 +389,13 @@ module _ {A : Type 0} {seen : State → List Token → A} (sees : Sees seen) whe
   -- the value of an item is taken
   argument_is_taken : (f : Frame) (around : List Open) (before : List Token) → Begins expression_starts true before
       → seen (live (item_due callArguments) f around) before ≡ seen (live (operandDue (by_item callArguments) someTarget) f around) before
+  argument_is_taken f around [] begins = elim begins [ ]
   argument_is_taken f around (token class spot ∷ rest) begins =
       operand_is_taken (item_due callArguments) (by_item callArguments) someTarget (on close_paren (pop doneValue) ∷ []) f around tt refl refl begins
 
   element_is_taken : (f : Frame) (around : List Open) (before : List Token) → Begins expression_starts true before
       → seen (live (item_due arrayElements) f around) before ≡ seen (live (operandDue (by_item arrayElements) someTarget) f around) before
+  element_is_taken f around [] begins = elim begins [ ]
   element_is_taken f around (token class spot ∷ rest) begins =
       operand_is_taken (item_due arrayElements) (by_item arrayElements) someTarget
       (on comma (goto (item_due arrayElements) keep) ∷ on close_bracket (pop doneValue) ∷ []) f around tt refl refl begins
@@ -419,6 +423,9 @@ module _ {A : Type 0} {seen : State → List Token → A} (sees : Sees seen) whe
   pub part_is_taken : {control : Control} {ending : Ending} {target : Target} {class : ℕ} → HeadPart control ending target class → (f : Frame)
       (around : List Open) (before : List Token) → Begins expression_starts true before
       → seen (live control f around) before ≡ seen (live (operandDue ending target) f around) before
+  part_is_taken start_part f around [] begins = elim begins [ ]
+  part_is_taken test_part f around [] begins = elim begins [ ]
+  part_is_taken step_part f around [] begins = elim begins [ ]
   part_is_taken start_part f around (token class spot ∷ rest) begins =
       operand_is_taken startDue byStart loneTarget
       (on semicolon (goto testDue endValue) ∷ on var_word (goto (variableDue (in_head true)) (startStatement var_word)) ∷ []) f around tt refl refl begins

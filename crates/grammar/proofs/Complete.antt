@@ -522,10 +522,12 @@ taken stop (expression_comma {sign = sign} {left = first} left right) =
     λ ending target done starts operand around allowed may takes.
     awaited_passed (omega arith) (omega arith) (comma_taken takes (taken stop left ending target done starts operand around allowed may takes))
     (taken stop right ending someTarget done starts (pending comma sign.mark first ∷ []) nil around allowed tt (omega arith))
-taken stop (function_all {opener = opener} parameters statements) =
+taken stop (function_all {opener = opener} {openBody = openBody} {inside = inside} {after = after} {statements = body_statements} parameters statements) =
     λ role done starts waiting word around.
     parameters_taken stop (parameterPast role) opener.mark (frame done starts waiting word) around parameters
-    ∙ elim role [ declared ↦ taken stop statements _ _ on_level | operand_in ending target ↦ taken stop statements _ _ on_level ]
+    ∙ elim role as (λ (z : Role). ran stop (live (parameterPast z) (frame done starts waiting word) around) (token open_brace openBody ∷ inside)
+        ≡ ran stop (live (behind_function z) (with_function z body_statements done starts waiting word) around) after)
+      [ declared ↦ taken stop statements _ _ on_level | operand_in ending target ↦ taken stop statements _ _ on_level ]
 taken stop (block_all {opener = opener} {inside = inside} statements) =
     λ control behind done starts around at. block_opened stop opener (frame done starts [] nil) around inside at ∙ taken stop statements _ _ on_level
 taken stop (statement_block inner) = λ must setting done starts around. taken stop inner _ _ done starts around in-statement

@@ -14,6 +14,7 @@ pub data BeforeEnd : List Token → Type 0 where
   more_before : {class : ℕ} {spot : Spot} {rest : List Token} → (class ≡ end_of_text → ⊥) → BeforeEnd rest → BeforeEnd (token class spot ∷ rest)
 
 no_end : {all rest : List Token} {spot : Spot} → BeforeEnd all → EndsWith all (token end_of_text spot ∷ rest) → ⊥
+no_end none_before ends = elim ends [ ]
 no_end (more_before other b) itself = other refl
 no_end (more_before other b) (behind e) = no_end b e
 

@@ -249,6 +249,11 @@ begun_calls {kind = kind} {tight = tight} {level = level} begun =
         clash tight prefix_precedence low (rw (sym e, same) (omega arith))
     go false h e low = refl
 
+-- no operator has a chain behind it that may be all there is
+never_lone : {A : Type 0} {within : Bool} {kind mark tight level : ℕ} {before here : List Token} {left : Syntax}
+    → Begun within kind mark left tight level loneTarget before here → A
+never_lone begun = elim begun [ ]
+
 -- what waits for a part of a level binds less tight than any above
 looser_than : {ending : Ending} {target : Target} {level : ℕ} {waiting : List Pending} {first here : List Token} (least : ℕ)
     → Waiting ending target level waiting first here → level < least → Looser least waiting
@@ -440,6 +445,7 @@ module _ (ending : Ending) (done : Syntax) (starts : List Pending) where
           → level ≤ prefix_precedence → reduce 0 done starts waiting last ≡ reduce 0 done starts left value → Derives (targetForm true) before after value
           → AllClosed (targetForm true) waiting first after last
       go {value = value} (none_waits may) fits same whole = record { value = value; same = same; whole = whole }
+      go (operator_waits w loose begun) fits same whole = never_lone begun
       go (new_waits w) fits same whole = absurd (omega arith)
 
   -- nothing closes but them, where nothing else binds as tight

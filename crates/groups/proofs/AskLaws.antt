@@ -246,11 +246,11 @@ unfolding control_by ending_by target_by
 colon_due e = e
 
 module _ (at : code.Control) {mark : ℕ} {l r : Level} {stack cells after : List ℕ} where
-  pub ask_asks : {number least : ℕ} → MayAsk at mark l stack cells → (r.floor ≡ l.floor) × (r.held ≡ l.held) × Closes least l stack cells r after → number < 65536
+  pub ask_asks : (least : ℕ) {number : ℕ} → MayAsk at mark l stack cells → (r.floor ≡ l.floor) × (r.held ≡ l.held) × Closes least l stack cells r after → number < 65536
       → ((r.top + 1) * width ≤ length stack) × (number < 65536) × (mark ≤ most_trees) × (r.start ≤ most_trees)
-  ask_asks may closes small =
+  ask_asks least may closes small =
       let s = may.somewhere.stands in
-      let light = closes_lightens s.holds closes.0 closes.2 in
+      let light = closes_lightens _ s.holds closes.0 closes.2 in
       (omega (arith, light, may.room), small, omega (arith, may.marked), omega (arith, light, s.holds.few))
 
   pub asks_there : {number : ℕ} {level : Level} {stack' : List ℕ} {c : code.Control} → mark ≤ most_trees → (l.top + 1) * width ≤ length stack

@@ -9,7 +9,7 @@ use lib.Dec.{T}
 use Rattle.machine.specs.Tokens.{Token}
 use Rattle.machine.specs.Syntax.{Syntax}
 use Rattle.machine.specs.Scopes.{Items, callArguments, arrayElements, objectProperties, body, block}
-use Rattle.machine.specs.Machinery.Machine.{end_of_text, Frame, Control, clause_due, item_due, Action, fail, pop, popIn, finish, Value, Ending, byStatement, byReturn, by_variable, byStart, byTest, by_step, byObject, by_case, byParen, byBracket, byColon, by_item, look, row, Open, act, run}
+use Rattle.machine.specs.Machinery.Machine.{end_of_text, Frame, Control, clause_due, item_due, Action, fail, pop, popIn, finish, Value, doneValue, Ending, byStatement, byReturn, by_variable, byStart, byTest, by_step, byObject, by_case, byParen, byBracket, byColon, by_item, look, row, Open, act, run}
 use Rattle.machine.specs.Machinery.Classes.{is_end}
 use Rattle.machine.proofs.Ran.{stays_dead}
 use Rattle.controls.specs.Machinery.Numbers.{ending_by, control_of}
@@ -85,7 +85,7 @@ never_text ends_no_parameter e q = no_fail (rw q at e)
 never_text ends_parameter e q = no_fail (rw q at e)
 never_text (ends_head there) e q = no_fail (sym (step_text there) ∙ rw q at e)
 never_text ends_no_step e q = no_fail (rw q at e)
-never_text (ends_clauses {seen = seen}) e q = no_fail (sym (clauses_text seen) ∙ rw q at e)
+never_text (ends_clauses {seen = seen}) e q = no_fail (sym (clauses_text seen) ∙ subst (λ x. look x (row (clause_due seen) false) ≡ pop doneValue) q e)
 never_text ends_caught e q = no_fail (rw q at e)
 
 -- and it has the head of a `for` with `in` where it pops that

@@ -68,7 +68,9 @@ module _ (class ending setting : ℕ) (few : class < comma) where
       go : (a b : Bool) → eqb class in_word ≡ a → eqb ending 5 ≡ b → (a && b) ≡ true → Behind here (target_by ending true) true class step newline
       go false b e f is = absurd (false≢true is)
       go true false e f is = absurd (false≢true is)
-      go true true e f is = rw (eqb-true class in_word e, eqb-true ending 5 f) (goes _ _ tt (to_object (before_target tt)))
+      go true true e f is =
+          subst (λ c. Behind here (target_by ending true) true c step newline) (sym (eqb-true class in_word e))
+          (subst (λ n. Behind (ending_by n setting) (target_by n true) true in_word step newline) (sym (eqb-true ending 5 f)) (goes _ _ tt (to_object (before_target tt))))
 
   pub increments : {step : Step} (newline chain target : Bool) → Goes step (postfix_done here) 12
       → (chain && (not newline && is_among postfix_operators class)) ≡ true → Behind here (target_by ending target) chain class step newline
