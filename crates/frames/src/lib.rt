@@ -12,7 +12,7 @@ use machine::tokens;
 use waiting::Level;
 
 // Where the machine stands, and what its level has.
-#[derive(Drop)]
+#[derive(Clone, Copy)]
 pub struct Standing {
     pub control: Control,
     pub level: Level,

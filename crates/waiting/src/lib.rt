@@ -24,7 +24,7 @@ pub const SETTINGS: u32 = 8;
 
 // A level: syntax records so far; how many parts wait, and how many on the levels around; the first syntax record of the operand; the
 // mark of a word or name that is held.
-#[derive(Drop)]
+#[derive(Clone, Copy)]
 pub struct Level {
     pub count: usize,
     pub top: usize,
