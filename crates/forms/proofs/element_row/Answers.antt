@@ -1,5 +1,4 @@
 -- `element_row` is the machine's row where an element is due.
-use borrow.Author.Rules.{rules}
 use borrow.Author.Tests.{ne_eqb}
 use Rattle.machine.specs.Tokens.{comma}
 use Rattle.machine.specs.Scopes.{arrayElements}
@@ -16,6 +15,6 @@ returns-then-class-eq-COMMA c = rw c.if-class-eq-COMMA.true (c.goto.ensures _ _ 
 
 pub returns : goal.returns
 unfolding items_by ending_by target_by
-returns c =     let class = c.args.class in
+returns c = let class = c.args.class in
     besides_closers (c.operand_row.ensures (item_due arrayElements) due_item tt) (operand_closers (by_item arrayElements) someTarget class)
     (λ none. rw (ne_eqb class comma c.if-class-eq-COMMA.false, none.no_bracket))

@@ -1,11 +1,9 @@
 -- `form_row` is the machine's rows inside forms, place by place.
-use borrow.Author.Rules.{rules}
 use Prim.Native.Nat.{ℕ, ◌<◌}
 use mathlib.Core.Path.{◌≡◌}
 use native.Mathlib.Omega.{arith}
 use Rattle.controls.specs.Machinery.Numbers.{setting_by, nest_by, items_by, ending_by, target_by, must_by, start_kind, control_by, effect_by, closing_by, inside_by}
 use Rattle.controls.specs.Machinery.Steps.{due_member, to_member, to_label, to_else, to_finally_behind, to_value, past_condition}
-use Rattle.controls.proofs.NumberLaws.{beyond}
 use Rattle.forms.proofs.FormLaws.{label_row}
 use Rattle.forms.proofs.form_row.Goals as goal
 
@@ -55,10 +53,3 @@ returns-in-43 c = λ h other settled newline.
 
 pub returns-in-44 : goal.returns-in-44
 returns-in-44 c = λ h other settled newline. absurd (settled.no_try c.in-44.is)
-
-pub returns-in_default : goal.returns-in_default
-returns-in_default c = λ h other settled newline.
-    let place = c.args.place in
-    let rest = c.in_default.rest in
-    let forms = beyond 16 place (beyond 15 place (beyond 14 place (beyond 13 place (beyond 12 place h rest.0.0.0.0.1) rest.0.0.0.0.0.0.1) rest.0.0.0.0.0.0.0.0.1) rest.0.0.0.0.0.1) rest.0.0.0.1 in
-    c.later_row.ensures forms (before_done place other rest.0.0.1 rest.0.0.0.0.0.0.0.1 rest.0.1 rest.1) newline

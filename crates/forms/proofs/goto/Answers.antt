@@ -1,5 +1,4 @@
 -- `goto` goes to the control of its parts.
-use borrow.Author.Rules.{rules}
 use Rattle.controls.proofs.StepLaws.{goes}
 use Rattle.forms.proofs.goto.Goals as goal
 

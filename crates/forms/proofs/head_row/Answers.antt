@@ -1,5 +1,4 @@
 -- `head_row` is a row of one entry.
-use borrow.Author.Rules.{rules}
 use Rattle.forms.proofs.head_row.Goals as goal
 
 pub returns : goal.returns

@@ -1,5 +1,4 @@
 -- `item_row` is the machine's row where an item of a list is due, list by list.
-use borrow.Author.Rules.{rules}
 use Prim.Native.Nat.{ℕ}
 use mathlib.Core.Path.{◌≡◌, refl}
 use mathlib.Core.List.{[]}
@@ -14,7 +13,7 @@ use Rattle.forms.proofs.item_row.Goals as goal
 
 pub returns-then-ending-eq-BY_ARGUMENT : goal.returns-then-ending-eq-BY_ARGUMENT
 unfolding items_by ending_by target_by
-returns-then-ending-eq-BY_ARGUMENT c =     rw c.if-ending-eq-BY_ARGUMENT.true
+returns-then-ending-eq-BY_ARGUMENT c = rw c.if-ending-eq-BY_ARGUMENT.true
     (besides_closers (c.operand_row.ensures (item_due callArguments) due_item tt) (operand_closers (by_item callArguments) someTarget c.args.class)
     (λ none. rw none.no_paren))
 
@@ -24,7 +23,7 @@ returns-then-ending-eq-BY_ELEMENT c = rw c.if-ending-eq-BY_ELEMENT.true c.elemen
 
 pub returns : goal.returns
 unfolding items_by control_by effect_by
-returns c =     let a = c.args in
+returns c = let a = c.args in
     rw (ne_eqb a.ending 15 c.if-ending-eq-BY_ARGUMENT.false, ne_eqb a.ending 16 c.if-ending-eq-BY_ELEMENT.false)
     (besides_closers (c.only_names.ensures _ to_property)
     (at_closers (λ (k : ℕ). look k (names (goto propertyNamed keep) []) ≡ fail) refl refl refl refl a.class)

@@ -1,5 +1,4 @@
 -- `later_row` tells words, clauses and functions apart by their numbers.
-use borrow.Author.Rules.{rules}
 use Rattle.forms.proofs.later_row.Goals as goal
 
 pub returns-then-place-le-SWITCH_PAST : goal.returns-then-place-le-SWITCH_PAST

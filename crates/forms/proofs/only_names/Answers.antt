@@ -1,5 +1,4 @@
 -- `only_names` is a row of two entries with one action.
-use borrow.Author.Rules.{rules}
 use borrow.Author.Tests.{ne_eqb}
 use Rattle.machine.specs.Tokens.{name, word_name}
 use Rattle.controls.specs.Machinery.Steps.{means_fail}

@@ -1,5 +1,4 @@
 -- `opens` is a row of one entry.
-use borrow.Author.Rules.{rules}
 use mathlib.Core.Path.{refl}
 use borrow.Author.Tests.{eq-eqb, ne_eqb}
 use Rattle.controls.specs.Machinery.Steps.{means_fail}

@@ -1,5 +1,4 @@
 -- `operand_row` is the machine's row where an operand is due, entry by entry.
-use borrow.Author.Rules.{rules}
 use mathlib.Core.Path.{sym, ◌∙◌, subst}
 use lib.Dec.{T}
 use Rattle.controls.specs.Machinery.Numbers.{ending_by, target_by, control_by, effect_by}

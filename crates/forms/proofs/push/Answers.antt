@@ -1,5 +1,4 @@
 -- `push` opens a group before the control of its parts.
-use borrow.Author.Rules.{rules}
 use Rattle.controls.proofs.StepLaws.{opens-group}
 use Rattle.forms.proofs.push.Goals as goal
 

@@ -1,5 +1,4 @@
 -- `declared_row` is the machine's rows of functions that are declared, place by place.
-use borrow.Author.Rules.{rules}
 use Prim.Native.Nat.{ℕ, ◌≤◌, ◌<◌}
 use mathlib.Core.Path.{◌≡◌}
 use native.Mathlib.Omega.{arith}
@@ -26,5 +25,5 @@ returns-in-39 c = λ h past ending setting flag newline.
 pub returns-in_default : goal.returns-in_default
 unfolding must_by control_by setting_by closing_by inside_by
 returns-in_default c = λ h past ending setting flag newline.
-    rw (last c.args.place (beyond 39 _ (beyond 38 _ h c.in_default.rest.0.1) c.in_default.rest.1) past)
+    rw (last c.args.place (beyond 39 _ (beyond 38 _ h (omega arith)) (omega arith)) past)
     (c.opens-in_default.ensures _ tt past_declaration)

@@ -1,5 +1,4 @@
 -- `function_row` is the machine's rows of parameters and of functions that are operands, place by place.
-use borrow.Author.Rules.{rules}
 use Prim.Native.Nat.{ℕ}
 use mathlib.Core.Path.{◌≡◌, refl}
 use mathlib.Core.Bool.{true}
@@ -10,7 +9,6 @@ use Rattle.controls.specs.Machinery.Numbers.{control_by, effect_by, closing_by, 
 use Rattle.controls.specs.Machinery.Steps.{to_parameter, to_next_parameter, past_parameter, past_function}
 use Rattle.controls.proofs.EndLaws.{at_closers, besides_closers}
 use Rattle.forms.proofs.FormLaws.{parameter_closers}
-use Rattle.controls.proofs.NumberLaws.{beyond}
 use Rattle.forms.proofs.functions.function_row.Goals as goal
 
 pub returns-in-33 : goal.returns-in-33
@@ -46,10 +44,3 @@ unfolding control_by closing_by inside_by
 returns-in-37 c = λ h past newline.
     rw c.in-37.is
     (c.opens-in-37.ensures _ tt past_function)
-
-pub returns-in_default : goal.returns-in_default
-returns-in_default c = λ h past newline.
-    let rest = c.in_default.rest in
-    let a = c.args in
-    let place = a.place in
-    c.declared_row.ensures (beyond 37 place (beyond 36 place (beyond 35 place (beyond 34 place (beyond 33 place h rest.0.0.0.0.1) rest.0.0.0.1) rest.0.0.1) rest.0.1) rest.1) past a.ending a.setting a.flag newline

@@ -1,5 +1,4 @@
 -- `unnamed_row` is the machine's row behind `function` in an expression.
-use borrow.Author.Rules.{rules}
 use borrow.Author.Tests.{ne_eqb}
 use Rattle.machine.specs.Tokens.{name}
 use Rattle.controls.specs.Machinery.Numbers.{control_by, effect_by, closing_by, inside_by}

@@ -1,5 +1,4 @@
 -- `block_row` is a row of one entry.
-use borrow.Author.Rules.{rules}
 use Rattle.controls.specs.Machinery.Numbers.{closing_by, inside_by}
 use Rattle.forms.proofs.statements.block_row.Goals as goal
 

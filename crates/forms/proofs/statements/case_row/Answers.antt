@@ -1,5 +1,4 @@
 -- `case_row` goes to the value of a `case`, by whether a `default` has come.
-use borrow.Author.Rules.{rules}
 use Rattle.controls.specs.Machinery.Numbers.{ending_by, target_by, control_by}
 use Rattle.forms.proofs.statements.case_row.Goals as goal
 

@@ -1,5 +1,4 @@
 -- `clause_row` is the machine's row where a clause is due.
-use borrow.Author.Rules.{rules}
 use Prim.Native.Nat.{ℕ}
 use mathlib.Core.Path.{◌≡◌, refl}
 use mathlib.Core.List.{[], ◌∷◌}
@@ -16,12 +15,12 @@ unfolding start_kind effect_by
 returns-then-class-eq-CASE c = rw c.if-class-eq-CASE.true (c.case_row.ensures _ _ tt to_case)
 
 pub returns-then-seen : goal.returns-then-seen
-returns-then-seen c =     let class = c.args.class in
+returns-then-seen c = let class = c.args.class in
     rw (c.if-seen.true, ne_eqb class case_word c.if-class-eq-CASE.false) (only_closers (λ none. rw none.no_brace))
 
 pub returns : goal.returns
 unfolding start_kind control_by effect_by
-returns c =     let class = c.args.class in
+returns c = let class = c.args.class in
     rw (c.if-seen.false, ne_eqb class case_word c.if-class-eq-CASE.false)
     (besides_closers (c.only.ensures _ tt to_default)
     (at_closers (λ (k : ℕ). look k (on default_word (goto defaultFirst (startStatement default_word)) ∷ []) ≡ fail) refl refl refl refl class)

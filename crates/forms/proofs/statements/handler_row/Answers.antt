@@ -1,5 +1,4 @@
 -- `handler_row` is the machine's row behind the block of a `try`.
-use borrow.Author.Rules.{rules}
 use borrow.Author.Tests.{ne_eqb}
 use Rattle.machine.specs.Tokens.{catch_word}
 use Rattle.controls.specs.Machinery.Numbers.{start_kind, control_by, effect_by}

@@ -1,5 +1,4 @@
 -- `switch_row` is a row of one entry.
-use borrow.Author.Rules.{rules}
 use borrow.Author.Tests.{ne_eqb}
 use Rattle.machine.specs.Tokens.{open_brace}
 use Rattle.controls.specs.Machinery.Numbers.{closing_by, inside_by}

@@ -1,11 +1,9 @@
 -- `try_row` is the machine's rows of clauses and of `try`, place by place.
-use borrow.Author.Rules.{rules}
 use mathlib.Core.Path.{◌≡◌}
 use native.Mathlib.Omega.{arith}
 use Rattle.controls.specs.Machinery.Numbers.{control_by, effect_by, closing_by, inside_by}
 use Rattle.controls.specs.Machinery.Steps.{to_caught, past_tried, past_caught, past_handled, past_finally}
 use Rattle.controls.proofs.EndLaws.{only_closers}
-use Rattle.controls.proofs.NumberLaws.{beyond}
 use Rattle.forms.proofs.statements.try_row.Goals as goal
 
 pub returns-in-24 : goal.returns-in-24
@@ -43,8 +41,5 @@ returns-in-32 c = λ low high ending setting newline. rw c.in-32.is (c.block_row
 pub returns-in_default : goal.returns-in_default
 unfolding control_by
 returns-in_default c = λ low high ending setting newline.
-    let place = c.args.place in
-    let rest = c.in_default.rest in
-    let past = beyond 29 place (beyond 28 place (beyond 27 place (beyond 26 place (beyond 25 place (beyond 24 place low rest.0.0.0.0.0.0.0.1) rest.0.0.0.0.0.0.1) rest.0.0.0.0.0.1) rest.0.0.0.0.1) rest.0.0.0.1) rest.0.0.1 in
-    let last : place ≡ 30 = omega (arith, past, high, rest.0.1, rest.1) in
+    let last : c.args.place ≡ 30 = grind (arith, low, high) in
     rw last (only_closers (λ none. rw none.no_paren))

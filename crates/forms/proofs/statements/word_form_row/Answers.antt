@@ -1,10 +1,8 @@
 -- `word_form_row` is the machine's rows behind the words of statements, place by place.
-use borrow.Author.Rules.{rules}
 use mathlib.Core.Path.{◌≡◌}
 use native.Mathlib.Omega.{arith}
 use Rattle.controls.specs.Machinery.Numbers.{must_by, start_kind, control_by, effect_by, closing_by, inside_by}
 use Rattle.controls.specs.Machinery.Steps.{to_variable, to_test, past_head, past_test, past_for, past_subject}
-use Rattle.controls.proofs.NumberLaws.{beyond}
 use Rattle.forms.proofs.statements.word_form_row.Goals as goal
 
 pub returns-in-17 : goal.returns-in-17
@@ -34,8 +32,5 @@ returns-in-22 c = λ low high flag newline. rw c.in-22.is (c.head_row-in-22.ensu
 pub returns-in_default : goal.returns-in_default
 unfolding control_by
 returns-in_default c = λ low high flag newline.
-    let place = c.args.place in
-    let rest = c.in_default.rest in
-    let past = beyond 22 place (beyond 21 place (beyond 20 place (beyond 19 place (beyond 18 place (beyond 17 place low rest.0.0.0.0.0.1) rest.0.0.0.0.1) rest.0.0.0.1) rest.0.0.1) rest.0.1) rest.1 in
-    let last : place ≡ 23 = omega (arith, past, high) in
+    let last : c.args.place ≡ 23 = omega (arith, low, high) in
     rw last c.switch_row.ensures
