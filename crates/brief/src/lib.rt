@@ -1,5 +1,7 @@
 // Groups that need no level: those that may be empty and are, and those that may hold one operand or parameter alone and do. More than a
 // third of the groups of both measured scripts are such, and a call for their inside would take more time than what it does.
+#![tactic(auto)]
+
 ghost use Rattle.std.specs.Prelude.{◌≡◌, true, List, T, ℕ};
 ghost use Rattle.machine.specs.Tokens.{close_paren};
 ghost use Rattle.machine.specs.Machinery.Classes.{is_end};

@@ -15,7 +15,7 @@ use machine::tokens;
 
 // Where the machine stands: the place in a form; what ends the expression; the setting of the statement; and whether the chain may yet
 // be assigned to, or whether a statement or a parameter must come.
-#[derive(Drop)]
+#[derive(Clone, Copy)]
 pub struct Control {
     pub place: u32,
     pub ending: u32,
@@ -252,7 +252,7 @@ pub const OF_LAST_CLAUSE: u32 = 4;
 
 // What to do: nothing more; go on, with an effect; open a group, with where to stand behind it; open a nest, with what it is and the
 // setting around it; ask, at `?`, and be answered, at its `:`.
-#[derive(Drop)]
+#[derive(Clone, Copy)]
 pub enum Step {
     Fail,
     Goto(Control, u32),

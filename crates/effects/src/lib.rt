@@ -1,4 +1,6 @@
 // What a token does to a level.
+#![tactic(auto)]
+
 ghost use Rattle.machine.specs.Operators.{prefix_kind, postfix_kind};
 ghost use Rattle.machine.specs.Machinery.Machine.{endExpression, endBare, endEmpty, endVariable, takeElse, takeOperator, takePrefix, takePostfix};
 ghost use Rattle.controls.specs.Machinery.Numbers.{effect_by};

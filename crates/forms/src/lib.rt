@@ -1,4 +1,6 @@
 // Rows of the machine's table inside a form: operands, members, labels, heads of statements, items of lists, functions and their parameters.
+#![tactic(auto)]
+
 ghost use Rattle.std.specs.Prelude.{Bool, true, [], ◌∷◌, ◌≤◌, ◌<◌, T};
 ghost use Rattle.machine.specs.Tokens.{open_paren};
 ghost use Rattle.machine.specs.Scopes.{arrayElements};

@@ -52,7 +52,7 @@ use Rattle.machine.specs.Machinery.Machine.{
   stepDue,
   operandDue,
 }
-use Rattle.controls.specs.Machinery.Steps.{Due, due_operand, due_value, due_thrown, due_item, due_statement, due_start, due_test, due_step, due_member, Ended, ended_operand, ended_postfix, VariableEnded, ended_bare, ended_value, BeforeIn, before_target, before_variable, PartEnded, no_start, ended_start, no_test, ended_test, Leads, to_return_end, to_variables_end, to_semicolon, to_item_end, to_next_part, to_object}
+use Rattle.controls.specs.Machinery.Steps.{Due, due_operand, due_value, due_thrown, due_item, due_statement, due_start, due_test, due_step, due_member, Ended, ended_operand, ended_postfix, VariableEnded, ended_bare, ended_value, before_target, before_variable, PartEnded, no_start, ended_start, no_test, ended_test, Leads, to_return_end, to_variables_end, to_semicolon, to_item_end, to_next_part, to_object}
 use Rattle.waiting.specs.declared.Level.{Level}
 use Rattle.frames.specs.Machinery.Stands.{InNest, InSetting, InVariables, Within, ItemsAlone, WordAlone, PartDue, written, Stands}
 use Rattle.frames.proofs.CarryLaws.{

@@ -12,7 +12,7 @@ use Rattle.machine.specs.Machinery.Machine as machine
 use Rattle.machine.specs.Machinery.Machine.{Pending, pending, Frame, frame, tightness, wrap, Control, nested, asking}
 use Rattle.controls.specs.Machinery.Numbers.{setting_by, behind_by, left_by}
 use Rattle.controls.specs.Machinery.Written.{put_record, put_syntax}
-use Rattle.waiting.specs.Machinery.Waiting.{width, binding, ask_kind, Shut, shut, close, lefts, Stacked, bare, above, Holds, HoldsShut, Closes, Completes, stack_with, stack_as, waiting_one, made_one, with_held, restarted}
+use Rattle.waiting.specs.Machinery.Waiting.{width, binding, Shut, shut, close, lefts, Stacked, bare, above, Holds, HoldsShut, Closes, Completes, stack_with, stack_as, waiting_one, made_one, with_held, restarted}
 use Rattle.waiting.specs.declared.Level.{Level}
 use Rattle.waiting.proofs.HoldLaws.{start_le, bottom_top, floor_le, word_held, alone_held, uppermost, done_held, nest_done_held, nested_held, unstacked_held, asked_held, left_held, taken_back_held, left_alone_held, left_lone_held, undone_held}
 use Rattle.waiting.proofs.PutLaws.{made_held, made_both, valued_held, waits_held, answered_held, kind_held, stack_long, stack_kept}

@@ -8,7 +8,7 @@ use lib.ListN.{length, get_or}
 use Rattle.tables.specs.Records.{most_trees}
 use Rattle.machine.specs.Tokens.{name, new_word, var_word, else_word, case_word, default_word, catch_word, finally_word}
 use Rattle.machine.specs.Syntax.{Syntax, nil, node, snoc, member_syntax, expression_syntax, label_syntax, variable_syntax, empty_syntax}
-use Rattle.machine.specs.Scopes.{Items, callArguments, arrayElements, objectProperties, body}
+use Rattle.machine.specs.Scopes.{callArguments, arrayElements, objectProperties, body}
 use Rattle.machine.specs.Machinery.Machine as machine
 use Rattle.machine.specs.Machinery.Machine.{
   Pending,

@@ -7,7 +7,7 @@ use borrow.Author.Tests.{eqb-true}
 use lib.Dec.{eqb}
 use Rattle.machine.specs.Syntax.{Syntax, nil}
 use Rattle.machine.specs.Scopes.{Items, callArguments, arrayElements, objectProperties}
-use Rattle.machine.specs.Machinery.Machine.{Frame, Setting, among, in_clause, in_nest, Variables, in_statement, in_head, Target, behind_statement, behind_variables, behind_comma, Effect, Closing, toParens, toCall, toObject, toArray, toIndex, toBlock, toCondition, toHead, toTest, toFor, toForIn, toStatement, toParameter, toDeclaration, toFunction, Ending, Control, Action}
+use Rattle.machine.specs.Machinery.Machine.{Frame, Setting, among, in_clause, in_nest, Variables, in_statement, in_head, Target, behind_statement, behind_variables, behind_comma, Effect, Closing, toParameter, Ending, Control, Action}
 use Rattle.controls.specs.Machinery.Numbers.{closing_by, inside_by}
 use Rattle.controls.specs.Machinery.Steps.{
   Due,

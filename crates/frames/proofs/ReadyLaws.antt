@@ -8,7 +8,7 @@ use borrow.Author.Tests.{eq-eqb, ne_eqb, eqb-true, eqb-false, leb-true, le-leb}
 use lib.Dec.{eqb, leb}
 use lib.ListN.{length, get_or}
 use Rattle.tables.specs.Records.{most_trees, most_syntax}
-use Rattle.machine.specs.Tokens.{token, name, colon, else_word, do_word, try_word, case_word, default_word, finally_word, close_brace}
+use Rattle.machine.specs.Tokens.{name, colon, else_word, do_word, try_word, case_word, default_word, finally_word, close_brace}
 use Rattle.machine.specs.Syntax.{Syntax}
 use Rattle.machine.specs.Machinery.Machine as machine
 use Rattle.machine.specs.Machinery.Machine.{Frame, ifNest, elseNest, doNest, Setting, in_clause, Target, Ending, Control, statement_due, statement_done, nameFirst, bodyDone, catchDone, tryEnded, operandDone, Value, value_of, doneValue, statementValue}
@@ -24,7 +24,7 @@ use Rattle.waiting.proofs.HoldLaws.{backed, start_le}
 use Rattle.frames.specs.Machinery.Stands.{nest_in, owed}
 use Rattle.frames.specs.Machinery.Effects.{StandsSomewhere, MayEnter, EntersNest, Heads, Moved, Moves, may_be_done, ends_clause, is_done_at, is_done, Leaving, leaving_statement, leaving_catch, leaving_try, leaving_case, leaving_default, leaving_clauses, MayLeaveOne, Leaves, Names, Readies}
 use Rattle.frames.specs.declared.Standing.{Standing}
-use Rattle.frames.proofs.CarryLaws.{left_one, stands, carries_made, completes_lightens, Around}
+use Rattle.frames.proofs.CarryLaws.{left_one, carries_made, completes_lightens, Around}
 use Rattle.frames.proofs.NestLaws.{outside, left_complete, left_do, try_closes, enters, plain_closes, names, nest_around, nest_owes, do_behind, name_takes, leaving_passes}
 
 -- what is done before a token, over the code's controls

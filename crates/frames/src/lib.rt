@@ -1,5 +1,7 @@
 // What a level has so far: the token machine's frames, as syntax records in order and a lent stack of what waits; what is done before a
 // token, and at the level's end.
+#![tactic(auto)]
+
 ghost use Rattle.std.specs.Prelude.{◌≡◌, List, ℕ, ◌≤◌};
 ghost use Rattle.controls.specs.Machinery.Numbers.{setting_by, control_of, behind_by};
 ghost use Rattle.waiting.specs.Machinery.Waiting.{Backed};
@@ -10,7 +12,7 @@ use machine::tokens;
 use waiting::Level;
 
 // Where the machine stands, and what its level has.
-#[derive(Drop)]
+#[derive(Clone, Copy)]
 pub struct Standing {
     pub control: Control,
     pub level: Level,

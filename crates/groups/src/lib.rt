@@ -1,4 +1,6 @@
 // A level's end, what a group does to the level around it, the beginning of a nest, and a `?` and its `:`.
+#![tactic(auto)]
+
 ghost use Rattle.std.specs.Prelude.{◌≡◌, ◌≤◌, ◌<◌, T, cond};
 ghost use Rattle.machine.specs.Machinery.Machine.{in_for};
 ghost use Rattle.machine.specs.Machinery.Classes.{is_end};

@@ -9,7 +9,7 @@ use lib.Dec.{T, eqb, ltb}
 use Rattle.machine.specs.Tokens.{question, in_word, semicolon, comma, colon}
 use Rattle.machine.specs.Operators.{assignment_operators, binary_operators, binary_operators_by, without, postfix_operators, postfix_kind, is_among}
 use Rattle.machine.specs.Scopes.{Items, callArguments, arrayElements, objectProperties}
-use Rattle.machine.specs.Machinery.Machine.{in_statement, in_head, Target, noTarget, someTarget, loneTarget, is_target, takes_in, allows_in, behind_variables, later_variables, Ending, byStatement, byReturn, by_variable, byStart, byTest, by_step, byObject, by_case, byParen, byBracket, byColon, by_item, testDue, operandDue, postfix_done, item_due, takeOperator, takePostfix, Entry, on, otherwise, Action, fail, goto, ask, look, for_each, behind_comma, comma_action, in_entry, is_first, ending_row, after_unary, assignment_row, postfix_row, row}
+use Rattle.machine.specs.Machinery.Machine.{in_statement, in_head, Target, noTarget, someTarget, loneTarget, is_target, takes_in, allows_in, behind_variables, later_variables, Ending, byStatement, byReturn, by_variable, byStart, byTest, by_step, byObject, by_case, byParen, byBracket, byColon, by_item, testDue, operandDue, postfix_done, item_due, takeOperator, takePostfix, Entry, on, otherwise, Action, fail, goto, ask, look, for_each, behind_comma, comma_action, in_entry, is_first, ending_row, after_unary, assignment_row, postfix_row}
 use Rattle.machine.specs.Machinery.Classes.{is_single}
 use Rattle.controls.specs.Machinery.Numbers.{setting_by, items_by, variables_by, ending_by, target_by}
 use Rattle.controls.specs.Machinery.Steps.{takes_comma}

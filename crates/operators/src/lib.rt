@@ -1,5 +1,7 @@
 // The rows of the token machine's table behind an operand: operators, `,`, `;`, `:`, what makes a chain longer, and where these lead. They
 // are named after those of machine/specs/Machinery/Machine.antt, as the others are (`rows`).
+#![tactic(auto)]
+
 ghost use Rattle.std.specs.Prelude.{◌≡◌, Bool, not, cond, ◌&&◌, eqb, ◌≤◌, ◌<◌};
 ghost use Rattle.machine.specs.Tokens.{in_word, semicolon, comma, colon};
 ghost use Rattle.machine.specs.Operators.{assignment_operators, postfix_operators, is_among};

@@ -1,5 +1,7 @@
 // The token machine's table as code: what a token of a class does where the machine stands. Rows are named after those of
 // machine/specs/Machinery/Machine.antt, so that the two can be laid side by side.
+#![tactic(auto)]
+
 ghost use Rattle.std.specs.Prelude.{◌≡◌, Bool, false, cond, ◌&&◌, [], ◌∷◌, T, eqb, ltb, leb, ℕ, ◌≤◌};
 ghost use Rattle.machine.specs.Tokens.{semicolon, comma, var_word, debugger_word, function_word};
 ghost use Rattle.machine.specs.Operators.{is_among};

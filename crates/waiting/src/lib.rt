@@ -2,6 +2,8 @@
 // operators and beginnings of statements with their kind, their mark and their first syntax record; nests with a number that tells what
 // they are and the setting around them, the mark of their word and their first syntax record; an open `?` with a number that tells its
 // expression, its mark and the first syntax record of its condition.
+#![tactic(auto)]
+
 ghost use Rattle.std.specs.Prelude.{◌≡◌, ◌+◌, ◌-◌, ◌*◌, ◌≤◌, ◌<◌, length};
 ghost use Rattle.tables.specs.Records.{most_trees, most_syntax};
 ghost use Rattle.controls.specs.Machinery.Written.{put_record};
@@ -22,7 +24,7 @@ pub const SETTINGS: u32 = 8;
 
 // A level: syntax records so far; how many parts wait, and how many on the levels around; the first syntax record of the operand; the
 // mark of a word or name that is held.
-#[derive(Drop)]
+#[derive(Clone, Copy)]
 pub struct Level {
     pub count: usize,
     pub top: usize,

@@ -1,5 +1,5 @@
 -- What the calls of a level promise: for whatever frame stands there, the frame that the machine makes of it stands there after. Machinery.
-use Rattle.std.specs.Prelude.{ℕ, ◌+◌, ◌*◌, ◌≤◌, ◌<◌, ◌≡◌, Bool, true, false, cond, not, ◌&&◌, ◌||◌, List, [], ◌∷◌, ◌++◌, eqb, leb, length}
+use Rattle.std.specs.Prelude.{ℕ, ◌+◌, ◌*◌, ◌≤◌, ◌<◌, ◌≡◌, Bool, true, false, cond, not, ◌||◌, List, [], ◌∷◌, ◌++◌, eqb, leb, length}
 use Rattle.tables.specs.Records.{most_trees}
 use Rattle.machine.specs.Tokens.{Token, token, Spot, colon, else_word, case_word, default_word, finally_word, close_brace}
 use Rattle.machine.specs.Syntax.{Syntax, nil, size}

@@ -1,0 +1,13 @@
+-- `opens` is a row of one entry.
+use mathlib.Core.Path.{refl}
+use borrow.Author.Tests.{eq-eqb, ne_eqb}
+use Rattle.controls.specs.Machinery.Steps.{means_fail}
+use Rattle.forms.proofs.opens.Goals as goal
+
+pub returns-then-class-one : goal.returns-then-class-one
+returns-then-class-one c = λ from opener spans.
+    let one = c.args.one in
+    rw (c.if-class-one.true, eq-eqb one one refl) (c.push.ensures from one opener spans)
+
+pub returns : goal.returns
+returns c = λ from opener spans. rw (ne_eqb c.args.class c.args.one c.if-class-one.false) means_fail

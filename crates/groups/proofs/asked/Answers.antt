@@ -1,0 +1,12 @@
+-- What is binary or tighter is closed, and the condition waits.
+use native.Mathlib.Omega.{arith}
+use Rattle.groups.proofs.AskLaws.{ask_asks, asks_there}
+use Rattle.groups.proofs.asked.Goals as goal
+
+pub returns : goal.returns
+returns c =
+    asks_there c.args.at (omega (arith, c.requires.marked)) c.requires.room c.closed-condition.ensures c.asking-number.ensures
+    c.wait-level.ensures c.stand.ensures
+
+pub wait-level-requires : goal.wait-level-requires
+wait-level-requires c = ask_asks c.args.at 4 c.requires c.closed-condition.ensures c.asking-number.ensures.1
