@@ -62,7 +62,7 @@ fn statement_row(class: u32, setting: u32, must: bool) -> Step
         return goto(NAME_FIRST, BY_STATEMENT, setting, true, HOLD_NAME);
     }
     if is_statement_word(class) {
-        return word-row(class, setting);
+        return word_row(class, setting);
     }
     if class == tokens::IF {
         return Step::Enter(OF_IF, setting_number(setting));
@@ -83,7 +83,7 @@ fn statement_row(class: u32, setting: u32, must: bool) -> Step
 }
 
 // The statements that start with a word, but for `if` and `return`.
-fn word-row(class: u32, setting: u32) -> Step
+fn word_row(class: u32, setting: u32) -> Step
     ensures { (must : Bool) → (class ≡ semicolon → ⊥) → Means (statement_due must (setting_by setting)) class result (look class (word_row (setting_by setting) [])) }
 {
     match class {
