@@ -3,23 +3,19 @@ use native.Mathlib.Omega.{arith}
 use mathlib.Core.Path.{refl}
 use borrow.Author.Tests.{ne_eqb}
 use Rattle.controls.specs.Machinery.Numbers.{variables_by}
-use Rattle.rows.proofs.variable_ending.Statement.{statement}
-use Rattle.rows.proofs.variable_ending.Tie as tie
+use Rattle.rows.proofs.variable_ending.Goals as goal
 
-returns : tie.Need-returns
+pub returns-then-ending-lt-BY_FIRST_VARIABLE : goal.returns-then-ending-lt-BY_FIRST_VARIABLE
 unfolding variables_by
-returns c =
-    let ending = c.before.args.ending in
+returns-then-ending-lt-BY_FIRST_VARIABLE c =
+    let ending = c.args.ending in
     (omega arith, omega arith, λ setting. rw (ne_eqb ending 3 (λ e. omega arith), ne_eqb ending 4 (λ e. omega arith)))
 
-returns-2 : tie.Need-returns-2
+pub returns-then-ending-gt-BY_LATER_VARIABLE : goal.returns-then-ending-gt-BY_LATER_VARIABLE
 unfolding variables_by
-returns-2 c =
-    let ending = c.before.before.args.ending in
+returns-then-ending-gt-BY_LATER_VARIABLE c =
+    let ending = c.args.ending in
     (omega arith, omega arith, λ setting. rw (ne_eqb ending 3 (λ e. omega arith), ne_eqb ending 4 (λ e. omega arith)))
 
-returns-3 : tie.Need-returns-3
-returns-3 c = (omega arith, omega arith, λ setting. refl)
-
-pub variable-ending-spec : {M : Type 1} → statement M
-variable-ending-spec = tie.close (tie.spec returns returns-2 returns-3)
+pub returns : goal.returns
+returns c = (omega arith, omega arith, λ setting. refl)
