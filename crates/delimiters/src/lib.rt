@@ -1,4 +1,6 @@
 // The step of a reading at a delimiter: a group opened or closed.
+#![tactic(auto)]
+
 ghost use Rattle.std.specs.Prelude.{◌≡◌, ℕ, ◌/◌, ◌≤◌, length};
 ghost use Rattle.rule.specs.Levels.{Levels};
 ghost use Rattle.prefix.specs.Reading.{open_group, closes, close_group};

@@ -31,7 +31,7 @@ pub const SIGN: u32 = 6;
 
 // An element: its kind; which reserved word, sign or delimiter it is, by its number, else 0; its first byte; the byte
 // after its last; whether a line end lies between it and the place from which it was looked for.
-#[derive(Drop)]
+#[derive(Clone, Copy)]
 pub struct Element {
     pub kind: u32,
     pub which: u32,

@@ -18,7 +18,13 @@ pub fn prefixes(rt: &impl Print, text: &[u8; MOST], size: usize, stated: Stated)
 }
 
 // The first `size` bytes of the text. `parts` says whether an element is shown as its part of the text.
-pub fn one(rt: &impl Print, text: &[u8; MOST], size: usize, stated: Stated, parts: bool) -> io::Result<()> {
+pub fn one(
+    rt: &impl Print,
+    text: &[u8; MOST],
+    size: usize,
+    stated: Stated,
+    parts: bool,
+) -> io::Result<()> {
     let all: &[u8] = text;
     if size <= all.len() {
         let mut out = print::no_line();

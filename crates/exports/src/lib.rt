@@ -1,4 +1,6 @@
 // The calls for programs in other languages. A slice is passed as a pointer and a length.
+#![tactic(auto)]
+
 ghost use Rattle.reading.specs.Read.{Reads};
 ghost use Rattle.respacer.specs.Respace.{Respaces};
 ghost use Rattle.parsing.specs.Parse.{Parses};

@@ -1,5 +1,7 @@
 // What is kept of an element: its record in the table or, where the text is spaced, its bytes in the output. Each answers the count of
 // bytes written.
+#![tactic(auto)]
+
 ghost use Rattle.keeping.specs.Machinery.Keeping.{MayKeep, MayKeepEnd, with_leaf, with_opener, KeepsTree, KeepsEnd};
 
 use elements::Element;

@@ -35,7 +35,7 @@ pub const TREES_FULL: u32 = 12;
 
 // The state of a reading: the code of the innermost level, how many groups are open, how many records there are so far.
 // The stack that is lent beside it has two numbers for each open group.
-#[derive(Drop)]
+#[derive(Clone, Copy)]
 pub struct State {
     pub level: u32,
     pub depth: usize,

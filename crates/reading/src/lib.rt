@@ -1,1 +1,2 @@
 // What reading answers and leaves, and its theorems: there is no code here. `reader` has the call.
+#![tactic(auto)]

@@ -25,7 +25,12 @@ fn main(rt: HostRuntime) -> io::Result<()> {
     answer_all(&rt, &input[..n], &mut text, &mut cells)
 }
 
-fn answer_all(rt: &impl Print, input: &[u8], text: &mut [u8; MOST], cells: &mut [u32]) -> io::Result<()> {
+fn answer_all(
+    rt: &impl Print,
+    input: &[u8],
+    text: &mut [u8; MOST],
+    cells: &mut [u32],
+) -> io::Result<()> {
     let mut at = 0;
     while at < input.len() {
         let end = cases::line_end(input, at);
@@ -36,7 +41,12 @@ fn answer_all(rt: &impl Print, input: &[u8], text: &mut [u8; MOST], cells: &mut 
 }
 
 // A heading is copied, an empty line skipped, and any other line is a case.
-fn answer(rt: &impl Print, line: &[u8], text: &mut [u8; MOST], cells: &mut [u32]) -> io::Result<()> {
+fn answer(
+    rt: &impl Print,
+    line: &[u8],
+    text: &mut [u8; MOST],
+    cells: &mut [u32],
+) -> io::Result<()> {
     if line.len() == 0 {
         return Ok(());
     }
@@ -47,7 +57,12 @@ fn answer(rt: &impl Print, line: &[u8], text: &mut [u8; MOST], cells: &mut [u32]
     }
 }
 
-fn answer_case(rt: &impl Print, line: &[u8], text: &mut [u8; MOST], cells: &mut [u32]) -> io::Result<()> {
+fn answer_case(
+    rt: &impl Print,
+    line: &[u8],
+    text: &mut [u8; MOST],
+    cells: &mut [u32],
+) -> io::Result<()> {
     let case = case::case_of(line, text);
     match case {
         Case::Read(lent, size) => read(rt, part(text, size), cells, lent),
@@ -101,7 +116,13 @@ fn parse(rt: &impl Print, text: &[u8], trees: &mut [u32], lent: usize) -> io::Re
 }
 
 // The syntax table is the first `lent` cells of the array.
-fn parse_in(rt: &impl Print, text: &[u8], trees: &mut [u32], array: &mut [u32], lent: usize) -> io::Result<()> {
+fn parse_in(
+    rt: &impl Print,
+    text: &[u8],
+    trees: &mut [u32],
+    array: &mut [u32],
+    lent: usize,
+) -> io::Result<()> {
     if lent <= array.len() {
         parse_to(rt, text, trees, &mut array[0..lent])
     } else {

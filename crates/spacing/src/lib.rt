@@ -1,4 +1,6 @@
 // Elements and closers written behind what is written so far, with what comes before them; and an output made zero.
+#![tactic(auto)]
+
 ghost use Rattle.std.specs.Prelude.{◌≡◌, List, [], ◌∷◌, ◌++◌, ℕ, ◌+◌, ◌<◌, ◌≤◌, ◌^◌, length, replicate};
 ghost use Rattle.elements.specs.Lexemes.{bytes_of};
 ghost use Rattle.spacing.specs.Respaced.{add_element, add_closer};

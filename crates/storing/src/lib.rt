@@ -1,4 +1,6 @@
 // Storing: the tree records of a reading, in the lent table.
+#![tactic(auto)]
+
 ghost use Rattle.std.specs.Prelude.{◌≡◌, ◌++◌, ◌+◌, ◌*◌, ◌≤◌, length, take, drop, set};
 ghost use Rattle.tables.specs.Records.{tree_width, tree_record};
 

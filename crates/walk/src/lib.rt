@@ -1,5 +1,7 @@
 // A walk over one text: it keeps that text and gives the next element at each call. A caller that keeps the text and the
 // place itself takes one turn at a time, by `turn_at` and `lexeme_of`.
+#![tactic(auto)]
+
 ghost use Rattle.std.specs.Prelude.{◌≡◌, min};
 ghost use Rattle.elements.specs.Lexemes.{lexeme_of};
 ghost use Rattle.walk.specs.Walks.{place_after, begun, met, moved, turn_at};
@@ -7,14 +9,14 @@ ghost use Rattle.walk.specs.Walks.{place_after, begun, met, moved, turn_at};
 use elements::{Element, Next, Stated};
 
 // The text, and the place from which the next element is looked for.
-#[derive(Drop)]
+#[derive(Clone, Copy)]
 pub struct Walk<'a> {
     pub text: &'a [u8],
     pub at: usize,
 }
 
 // One turn of a walk: what it met, and the place where it stands then.
-#[derive(Drop)]
+#[derive(Clone, Copy)]
 pub struct Turn {
     pub next: Next,
     pub at: usize,

@@ -1,0 +1,20 @@
+-- The word that waits is taken back, and its record put.
+use mathlib.Core.Path.{refl}
+use native.Mathlib.Omega.{arith}
+use Rattle.effects.proofs.AffectLaws.{bare_asks, bare_affects}
+use Rattle.effects.proofs.bare_ended.Goals as goal
+
+pub made-one-requires : goal.made-one-requires
+made-one-requires c = (omega arith, omega (arith, c.requires.somewhere.stands.holds.few), (bare_asks c.requires).marked)
+
+pub completed-requires : goal.completed-requires
+completed-requires c = (bare_asks c.requires).holds _ _ c.made-one.ensures
+
+pub returns : goal.returns
+returns c = bare_affects 0 _ _ refl refl c.made-one.ensures c.completed.ensures
+
+pub overflow_sub-top : goal.overflow_sub-top
+overflow_sub-top c = (bare_asks c.requires).waits
+
+pub overflow_sub-kind : goal.overflow_sub-kind
+overflow_sub-kind c = (bare_asks c.requires).some

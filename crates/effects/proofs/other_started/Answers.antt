@@ -1,0 +1,16 @@
+-- What the nest has is the operand again, and waits as the first part of the `else`.
+use native.Mathlib.Omega.{arith}
+use Rattle.effects.proofs.AffectLaws.{else_asks, else_affects}
+use Rattle.effects.proofs.other_started.Goals as goal
+
+pub bounds-waiting-l : goal.bounds-waiting-l
+bounds-waiting-l c = let b = else_asks c.requires in omega (arith, b.fits, b.waits)
+
+pub wait-requires : goal.wait-requires
+wait-requires c = (c.requires.room, omega arith, omega (arith, c.requires.marked), (else_asks c.requires).started)
+
+pub returns : goal.returns
+returns c = else_affects c.args.mark (omega (arith, c.requires.marked)) c.requires.room c.wait.ensures
+
+pub overflow_sub-whole : goal.overflow_sub-whole
+overflow_sub-whole c = (else_asks c.requires).waits

@@ -1,0 +1,23 @@
+-- A record whose end is not known yet, or the byte of the opener.
+use borrow.Author.Rules.{rules}
+use native.Mathlib.Omega.{arith}
+use Rattle.keeping.proofs.KeepLaws.{opener_spaced, opener_stored, spaced_few, stored_fits}
+use Rattle.keeping.proofs.keep_opener.Goals as goal
+
+pub put_element-requires : goal.put_element-requires
+put_element-requires c = let may = c.requires.may in
+    let few = spaced_few _ _ _ _ _ _ _ c.if-spaced.true _ _ may in
+    (omega (arith, may.some, may.within, may.short), omega arith, omega (arith, may.some, may.within), omega (arith, may.some, may.within, may.short))
+
+pub returns-then-spaced : goal.returns-then-spaced
+returns-then-spaced c = let p = c.put_element.ensures in
+    opener_spaced _ _ _ _ _ _ _ c.args.e _ c.requires.may.some (search rules) _ c.if-spaced.true c.args.kind p.0 p.1
+
+pub overflow_cast-e : goal.overflow_cast-e
+overflow_cast-e c = let may = c.requires.may in omega (arith, may.some, may.within, may.short)
+
+pub put-requires : goal.put-requires
+put-requires c = stored_fits _ _ _ _ _ _ _ c.if-spaced.false c.requires
+
+pub returns : goal.returns
+returns c = opener_stored _ _ _ _ _ _ _ c.args.e _ _ c.if-spaced.false c.args.kind (rw c.new-record.ensures at c.put.ensures)

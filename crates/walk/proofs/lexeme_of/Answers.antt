@@ -1,0 +1,7 @@
+-- `lexeme_of` meets its contract: both ends of the part are clipped to the text (`lexeme_clipped`).
+use Rattle.walk.proofs.Clipped.{lexeme_clipped}
+use Rattle.walk.proofs.lexeme_of.Goals as goal
+
+pub returns : goal.returns
+returns c =
+    rw (c.lesser-first.ensures, c.lesser-end.ensures) (lexeme_clipped c.args.e.first c.args.e.end c.args.text.now)
