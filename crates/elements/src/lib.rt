@@ -42,14 +42,14 @@ pub struct Element {
 
 // What is stated of the place where an element is looked for: whether a slash met there opens a regular expression, and
 // whether a reserved word met there is a name.
-#[derive(Drop)]
+#[derive(Clone, Copy)]
 pub struct Stated {
     pub pattern: bool,
     pub name: bool,
 }
 
 // What a text has from a place on: no element any more, an element, or a fault's number and place.
-#[derive(Drop)]
+#[derive(Clone, Copy)]
 pub enum Next {
     End,
     Found(Element),

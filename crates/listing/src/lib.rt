@@ -1,5 +1,7 @@
 // What `treelist` and `trees` print of the text on standard input: the whole of it, where the output has room for every listing. `front`,
 // `INPUT` and `TREES` serve the listings of `syntax` and `respace` too.
+#![tactic(auto)]
+
 ghost use Rattle.std.specs.Prelude.{◌≡◌, take};
 ghost use Rattle.reading.specs.Read.{answer_of, table_after};
 ghost use Rattle.listing.specs.Listing.{short_reading, whole_trees, ListsTrees, Counts};

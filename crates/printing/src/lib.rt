@@ -1,4 +1,6 @@
 // Records and refusals as text, written to a lent output.
+#![tactic(auto)]
+
 ghost use Rattle.std.specs.Prelude.{◌+◌, ◌*◌, ◌≤◌, length};
 ghost use Rattle.printing.specs.Printed.{lines, listed, refusal, answered, FitsTable, listing_room};
 ghost use Rattle.writing.specs.Machinery.Writing.{Adds, Written};

@@ -1,5 +1,6 @@
 // Reading: a text to tree records.
 #![tactic(auto)]
+
 ghost use Rattle.std.specs.Prelude.{◌≡◌, List, ℕ, ◌≤◌, length};
 ghost use Rattle.text.specs.Machinery.Codes.{byte_codes};
 ghost use Rattle.rule.specs.Levels.{Levels};

@@ -1,4 +1,5 @@
 // What `respace` prints of the text on standard input: the whole of it, where the output has room for every respaced text.
+#![tactic(auto)]
 ghost use Rattle.listing.specs.Listing.{Counts};
 ghost use Rattle.respaced_listing.specs.RespacedListing.{ListsRespaced};
 

@@ -1,5 +1,6 @@
 // Respacing: a text to the same elements with one blank or line end between them.
 #![tactic(auto)]
+
 ghost use Rattle.std.specs.Prelude.{◌≡◌, List, ℕ, ◌*◌, ◌≤◌, length};
 ghost use Rattle.text.specs.Machinery.Codes.{byte_codes};
 ghost use Rattle.respacer.specs.Respace.{whole_reading, Respaces};

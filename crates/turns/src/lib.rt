@@ -1,6 +1,7 @@
 // The turns of a reading: the loop that reading and respacing share. Read, a text leaves its records in the table; spaced, its elements in the
 // output. The element call and the step are compiled into the one loop, since nothing else in these calls uses them.
 #![tactic(auto)]
+
 ghost use Rattle.std.specs.Prelude.{◌≡◌, true, false, List, ℕ, ◌<◌, ◌^◌};
 ghost use Rattle.text.specs.Machinery.Codes.{byte_codes};
 ghost use Rattle.keeping.specs.Machinery.Keeping.{lent, MayTake};
