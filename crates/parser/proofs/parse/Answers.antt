@@ -17,24 +17,12 @@ slice_bounds-program_of-end c = let d = read_done _ c.args.trees.now _ _ _ c.rea
 pub program_of-answer-requires : goal.program_of-answer-requires
 program_of-answer-requires c = front_fine (read_done _ c.args.trees.now _ _ _ c.read-read.ensures.0 c.read-read.ensures.1 c.in-Accepted.is) _
 
-pub shape_of-trees-in-Refused : goal.shape_of-trees-in-Refused
-shape_of-trees-in-Refused c = c.trees-1.given
-
-pub shape_of-syntax-in-Refused : goal.shape_of-syntax-in-Refused
-shape_of-syntax-in-Refused c = c.syntax-1.given
-
 pub returns-in-Refused : goal.returns-in-Refused
 returns-in-Refused c = let a = c.args in
     let r = not_read a.text.now a.trees.now a.syntax.now c.read-read.ensures.0 c.read-read.ensures.1 c.in-Refused.is in
     let p =
     answers_refused a.text.now a.trees.now a.syntax.now r.0 r.1 c.clear.ensures in
     (p.0, p.1, p.2, same_tells p.0)
-
-pub shape_of-trees-in-Accepted-answer : goal.shape_of-trees-in-Accepted-answer
-shape_of-trees-in-Accepted-answer c = c.trees-1.given
-
-pub shape_of-syntax-in-Accepted-answer : goal.shape_of-syntax-in-Accepted-answer
-shape_of-syntax-in-Accepted-answer c = c.syntax-in-Accepted-1.given
 
 pub returns-in-Accepted-answer : goal.returns-in-Accepted-answer
 returns-in-Accepted-answer c = let a = c.args in
@@ -49,6 +37,6 @@ returns-in-Refused-answer c = let a = c.args in
     let e = judged_refused a.text.now a.trees.now a.syntax.now d c.program_of-answer.ensures c.in-Refused-answer.is in
     let p =
     answers_refused a.text.now a.trees.now a.syntax.now e
-    (c.clear-in-Refused-answer.ensures ∙ ap (λ n. replicate n 0) c.trees-1.given)
-    (c.clear-in-Refused-answer-2.ensures ∙ ap (λ n. replicate n 0) c.syntax-in-Accepted-1.given) in
+    (c.clear-in-Refused-answer.ensures ∙ ap (λ n. replicate n 0) c.read-read.auto.trees)
+    (c.clear-in-Refused-answer-2.ensures ∙ ap (λ n. replicate n 0) c.program_of-answer.auto.syntax) in
     (p.0, p.1, p.2, same_tells p.0)

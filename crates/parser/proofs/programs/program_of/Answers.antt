@@ -2,17 +2,11 @@
 use native.Mathlib.Omega.{arith}
 use Rattle.parser.proofs.programs.program_of.Goals as goal
 
-pub shape_of-syntax-then-trees-gt-FEW : goal.shape_of-syntax-then-trees-gt-FEW
-shape_of-syntax-then-trees-gt-FEW c = c.syntax-1.given
-
 pub returns-then-trees-gt-FEW : goal.returns-then-trees-gt-FEW
 returns-then-trees-gt-FEW c = c.program_of_many.ensures
 
 pub program-requires : goal.program-requires
 program-requires c = (c.requires, omega arith)
-
-pub shape_of-syntax : goal.shape_of-syntax
-shape_of-syntax c = c.syntax-2-1.given
 
 pub returns : goal.returns
 returns c = c.program.ensures

@@ -5,8 +5,5 @@ use Rattle.parser.proofs.programs.program_of_many.Goals as goal
 pub program-requires : goal.program-requires
 program-requires c = (c.requires, omega (arith, c.requires.few))
 
-pub shape_of-syntax : goal.shape_of-syntax
-shape_of-syntax c = c.syntax-1.given
-
 pub returns : goal.returns
 returns c = c.program.ensures
