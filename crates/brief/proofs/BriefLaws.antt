@@ -17,8 +17,8 @@ use Rattle.segments.specs.Machinery.Segments.{Segment, count_of, class_at, token
 use Rattle.segments.proofs.SegmentLaws.{is_element, element_then, end_then}
 use Rattle.groups.specs.Machinery.Closers.{closer_token, closed_state}
 use Rattle.brief.specs.declared.Found.{Found}
-use Rattle.brief.specs.declared.Found.TheVariants.{Nothing, Operand, NeedsLevel}
-use Rattle.brief.specs.Machinery.Brief.{MayBeEmpty, no_arguments, no_elements, no_properties, no_parameters, no_statements, no_clauses, HoldsOperand, in_parens, in_brackets, in_arguments, in_elements, Lone, lone_parameter, lone_operand, lone_more, PopsValue, FindsInside, finds_nothing, finds_operand, finds_more}
+use Rattle.brief.specs.declared.Found.TheVariants.{Nothing, Operand}
+use Rattle.brief.specs.Machinery.Brief.{MayBeEmpty, no_arguments, no_elements, no_properties, no_parameters, no_statements, no_clauses, HoldsOperand, in_parens, in_brackets, in_arguments, in_elements, Lone, lone_parameter, lone_operand, lone_more, FindsInside, finds_nothing, finds_operand, finds_more}
 
 -- nothing is popped at once
 pops : {c : Control} {closer : ℕ} → MayBeEmpty c closer → (place : ℕ) (around : List Open) (mark : ℕ) (u : List Token)

@@ -2,9 +2,9 @@
 use mathlib.Core.Path.{◌≡◌, refl, sym, ◌∙◌, ap, subst}
 use mathlib.Core.Bool.{Bool, true, false, cond, not}
 use mathlib.Core.List.{List}
-use Prim.Native.Nat.{ℕ, zero, suc, ◌+◌, ◌-◌, ◌*◌, ◌≤◌, ◌<◌}
+use Prim.Native.Nat.{ℕ, ◌+◌, ◌-◌, ◌*◌, ◌≤◌, ◌<◌}
 use native.Mathlib.Omega.{arith}
-use borrow.Author.Tests.{ne_eqb, eqb-true, eqb-false}
+use borrow.Author.Tests.{eqb-true, eqb-false}
 use lib.Dec.{T, eqb}
 use lib.ListN.{length}
 use Rattle.tables.specs.Records.{most_trees}
@@ -12,7 +12,7 @@ use Rattle.machine.specs.Tokens.{open_bracket}
 use Rattle.machine.specs.Syntax.{nil}
 use Rattle.machine.specs.Scopes.{body}
 use Rattle.machine.specs.Machinery.Machine.{doNest, Setting, among, in_clause, in_nest, Closing, toParens, toCall, toObject, toArray, toIndex, toBlock, toCondition, toHead, toFor, toForIn, toTest, toParameter, toDeclaration, toFunction, toStatement, toBody, toTry, in_for, Ending, byColon, Control, statement_due, tryFirst, ifFirst, Action, fail, goto, push, enter, ask, turn, look, row}
-use Rattle.controls.specs.Machinery.Numbers.{setting_by, must_by, control_by, control_of, effect_by, closing_by, inside_by, entered_by, worded_by, outside_by, behind_by, left_by}
+use Rattle.controls.specs.Machinery.Numbers.{setting_by, control_of, effect_by, closing_by, inside_by, entered_by, worded_by, outside_by, behind_by, left_by}
 use Rattle.machine.specs.Machinery.Classes.{is_opener, is_end, is_single}
 use Rattle.controls.specs.Machinery.Steps.{Ended, Leads, Spans, past_parens, past_object, past_array, past_index, past_call, past_condition, past_head, past_for, past_for_in, past_subject, past_clauses, past_tried, past_caught, past_handled, past_finally, past_test, past_parameter, past_unnamed, past_block, past_declaration, past_function, Enters, enters_if, enters_do, enters_try, enters_case, enters_last_case, enters_default, Settled, Means, means_end, means_fail, means_goto, means_push, means_enter, means_ask, means_turn}
 use Rattle.controls.specs.declared.Control as code

@@ -1,6 +1,8 @@
 // Statement, expression and function parsers, which call each other over nested groups. Each runs the token machine over a level: the
 // part of the tree table inside a group, whose first record has the index `base` in the whole table, and behind which a token of the
 // class `closer` stands at the place `close`. Inside a level nothing is called for a part: what waits stands on the lent stack.
+#![tactic(auto)]
+
 ghost use Rattle.std.specs.Prelude.{◌≤◌};
 ghost use Rattle.controls.specs.Machinery.Numbers.{inside_by};
 ghost use Rattle.segments.specs.Machinery.Segments.{segment, inside};
@@ -13,7 +15,7 @@ use tables::TreeRecord;
 
 // Runs the machine over a level, from where the inside of such a group starts to the closer. The number tells it, since a control would
 // be handed over through memory.
-#[cycle(content_expression_function_group_level_statements)]
+#[cycle(level)]
 fn level(
     text: &[u8],
     trees: &[u32],
@@ -95,7 +97,7 @@ fn level(
 }
 
 // A group: one that is empty, or holds one operand or parameter, may need no level.
-#[cycle(content_expression_function_group_level_statements)]
+#[cycle(level)]
 fn group(
     text: &[u8],
     trees: &[u32],
@@ -128,7 +130,7 @@ fn group(
 }
 
 // The inside of a group, by what the group is: the part of the table that starts behind the opener's record.
-#[cycle(content_expression_function_group_level_statements)]
+#[cycle(level)]
 fn content(
     text: &[u8],
     trees: &[u32],
@@ -170,7 +172,7 @@ fn content(
 }
 
 // Statements, and declarations in a body.
-#[cycle(content_expression_function_group_level_statements)]
+#[cycle(level)]
 pub fn statements(
     text: &[u8],
     trees: &[u32],
@@ -193,7 +195,7 @@ pub fn statements(
 }
 
 // An expression, or what else stands inside parentheses, brackets, an object or the braces of a `switch`, whose clauses hold statements.
-#[cycle(content_expression_function_group_level_statements)]
+#[cycle(level)]
 fn expression(
     text: &[u8],
     trees: &[u32],
@@ -215,7 +217,7 @@ fn expression(
 }
 
 // A function's body.
-#[cycle(content_expression_function_group_level_statements)]
+#[cycle(level)]
 fn function(
     text: &[u8],
     trees: &[u32],

@@ -1,4 +1,6 @@
 // The parser: a text to syntax records.
+#![tactic(auto)]
+
 ghost use Rattle.parsing.specs.Parse.{Parses};
 
 mod programs;

@@ -1,4 +1,6 @@
 // Parts of the tree table: the numbers of a record, its class, and what is inside a group.
+#![tactic(auto)]
+
 ghost use Rattle.std.specs.Prelude.{◌≡◌, ◌+◌, ◌-◌, ◌≤◌, ◌<◌, get_or};
 ghost use Rattle.tables.specs.Records.{tree_width};
 ghost use Rattle.segments.specs.Machinery.Segments.{count_of, cell_or, place_at, end_at, size_at, line_at, closer_at, sign_by, word_by, class_at, leaf_at, content_of};

@@ -1,0 +1,20 @@
+-- `doubled_class` is the table, entry for entry.
+use Rattle.segments.proofs.classes.doubled_class.Goals as goal
+
+pub returns-in-38 : goal.returns-in-38
+returns-in-38 c = rw c.in-38.is
+
+pub returns-in-124 : goal.returns-in-124
+returns-in-124 c = rw c.in-124.is
+
+pub returns-in-43 : goal.returns-in-43
+returns-in-43 c = rw c.in-43.is
+
+pub returns-in-45 : goal.returns-in-45
+returns-in-45 c = rw c.in-45.is
+
+pub returns-in-60 : goal.returns-in-60
+returns-in-60 c = rw c.in-60.is
+
+pub returns-in-62 : goal.returns-in-62
+returns-in-62 c = rw c.in-62.is
