@@ -1,4 +1,6 @@
 // What `syntax` prints of the text on standard input: the whole of it, where the output has room for every listing.
+#![tactic(auto)]
+
 ghost use Rattle.listing.specs.Listing.{Counts};
 ghost use Rattle.syntax_listing.specs.SyntaxListing.{ListsSyntax};
 
