@@ -10,15 +10,15 @@ use Rattle.text.proofs.Range.{and_left, and_right, alike, alike→eq}
 use Rattle.rule.specs.Trees.{object_kind, block_kind}
 use Rattle.rule.specs.Rule.{Class, is, group_class, leaving}
 use Rattle.rule.specs.Levels.{is_expression}
-use Rattle.rule.specs.Machinery.Summary.{Summary, nothing, operand, afterOperator, brace_by, slash_by, name_by, add}
+use Rattle.rule.specs.Machinery.Summary.{Summary, nothing, operand, after_operator, brace_by, slash_by, name_by, add}
 use Rattle.vocabulary.specs.Vocabulary.{Row, words, token_class}
 use Rattle.rule.proofs.Finite.{both_bools, at_bool, all_summaries, at_summary}
 use Rattle.machine.specs.Tokens.{pattern, divide, divide_assign, question, colon, semicolon, word_name}
-use Rattle.machine.specs.Scopes.{body, block, callArguments, arrayElements, objectProperties}
+use Rattle.machine.specs.Scopes.{body, block, call_arguments, array_elements, object_properties}
 use Rattle.machine.specs.Machinery.Machine.{
-  ifNest,
-  elseNest,
-  doNest,
+  if_nest,
+  else_nest,
+  do_nest,
   Setting,
   among,
   in_clause,
@@ -27,21 +27,21 @@ use Rattle.machine.specs.Machinery.Machine.{
   in_statement,
   in_head,
   Target,
-  noTarget,
-  someTarget,
-  loneTarget,
+  no_target,
+  some_target,
+  lone_target,
   Ending,
-  byStatement,
-  byReturn,
+  by_statement,
+  by_return,
   by_variable,
-  byStart,
-  byTest,
+  by_start,
+  by_test,
   by_step,
-  byObject,
+  by_object,
   by_case,
-  byParen,
-  byBracket,
-  byColon,
+  by_paren,
+  by_bracket,
+  by_colon,
   by_item,
   Role,
   declared,
@@ -49,46 +49,46 @@ use Rattle.machine.specs.Machinery.Machine.{
   Control,
   statement_due,
   statement_done,
-  nameFirst,
-  returnFirst,
-  throwFirst,
-  jumpFirst,
-  headFirst,
-  variableDue,
-  variableNamed,
-  bodyDone,
-  testFirst,
-  semicolonDue,
-  forFirst,
-  startDue,
-  testDue,
-  stepDue,
-  switchFirst,
-  switchPast,
+  name_first,
+  return_first,
+  throw_first,
+  jump_first,
+  head_first,
+  variable_due,
+  variable_named,
+  body_done,
+  test_first,
+  semicolon_due,
+  for_first,
+  start_due,
+  test_due,
+  step_due,
+  switch_first,
+  switch_past,
   clause_due,
-  defaultFirst,
-  tryFirst,
-  tryDone,
-  catchFirst,
-  catchDue,
-  catchNamed,
-  catchPast,
-  catchDone,
-  finallyFirst,
-  tryEnded,
-  ifFirst,
-  operandDue,
-  memberDue,
-  operandDone,
+  default_first,
+  try_first,
+  try_done,
+  catch_first,
+  catch_due,
+  catch_named,
+  catch_past,
+  catch_done,
+  finally_first,
+  try_ended,
+  if_first,
+  operand_due,
+  member_due,
+  operand_done,
   postfix_done,
-  dotLast,
-  functionFirst,
-  functionNamed,
-  parameterPast,
+  dot_last,
+  function_first,
+  function_named,
+  parameter_past,
   item_due,
-  propertyNamed,
+  property_named,
   parameter_due,
-  parameterNamed,
+  parameter_named,
   finished,
   Effect,
   Closing,
@@ -99,7 +99,7 @@ use Rattle.machine.specs.Machinery.Machine.{
   push,
   enter,
   pop,
-  popIn,
+  pop_in,
   leave,
   ask,
   turn,
@@ -172,11 +172,11 @@ allows kind s newline asked class (enter within effect outer behind closing) =
     taken_right kind s class && (is_leaf class && (((related within kind (add_token kind s newline asked class) && updates_right s newline class within) && takes_over behind)
     && ((not (asks within) && not (asks behind)) && (not asked && keeps_questions asked class))))
 allows kind s newline asked class (pop value) = taken_right kind s class && (closes_group class && (eqb kind 0 || closes_kind class kind))
-allows kind s newline asked class popIn = taken_right kind s class && (closes_group class && (eqb kind 0 || closes_kind class kind))
+allows kind s newline asked class pop_in = taken_right kind s class && (closes_group class && (eqb kind 0 || closes_kind class kind))
 allows kind s newline asked class (leave value) = settled kind s
 allows kind s newline asked class (ask ending) =
-    taken_right kind s class && (is_leaf class && ((eqb class question && related (operandDue byColon someTarget) kind (add_token kind s newline asked class))
-    && (related (operandDue ending someTarget) kind afterOperator && alike (asks (operandDue ending someTarget)) asked)))
+    taken_right kind s class && (is_leaf class && ((eqb class question && related (operand_due by_colon some_target) kind (add_token kind s newline asked class))
+    && (related (operand_due ending some_target) kind after_operator && alike (asks (operand_due ending some_target)) asked)))
 allows kind s newline asked class turn = taken_right kind s class && (is_leaf class && (eqb class colon && asked))
 allows kind s newline asked class finish = eqb class end_of_text
 
@@ -271,7 +271,7 @@ module _ (kind : ℕ) (s : Summary) (newline asked : Bool) where
     unfolding allows
     pop_allowed value = three (taken_right kind s class) (closes_group class) (eqb kind 0 || closes_kind class kind)
 
-    pub pop_in_allowed : T (allows kind s newline asked class popIn) → T (taken_right kind s class) × T (closes_group class) × T (eqb kind 0 || closes_kind class kind)
+    pub pop_in_allowed : T (allows kind s newline asked class pop_in) → T (taken_right kind s class) × T (closes_group class) × T (eqb kind 0 || closes_kind class kind)
     unfolding allows
     pop_in_allowed = three (taken_right kind s class) (closes_group class) (eqb kind 0 || closes_kind class kind)
 
@@ -280,26 +280,26 @@ module _ (kind : ℕ) (s : Summary) (newline asked : Bool) where
       pub taken : T (taken_right kind s class)
       pub leaf : T (is_leaf class)
       pub is_question : T (eqb class question)
-      pub stands : T (related (operandDue byColon someTarget) kind (add_token kind s newline asked class))
-      pub behind_stands : T (related (operandDue ending someTarget) kind afterOperator)
-      pub behind_asked : asks (operandDue ending someTarget) ≡ asked
+      pub stands : T (related (operand_due by_colon some_target) kind (add_token kind s newline asked class))
+      pub behind_stands : T (related (operand_due ending some_target) kind after_operator)
+      pub behind_asked : asks (operand_due ending some_target) ≡ asked
 
     pub ask_allowed : (ending : Ending) → T (allows kind s newline asked class (ask ending)) → AsksRight ending
     unfolding allows
     ask_allowed ending t =
-        let u = three (taken_right kind s class) (is_leaf class) ((eqb class question && related (operandDue byColon someTarget) kind (add_token kind s newline asked class))
-        && (related (operandDue ending someTarget) kind afterOperator && alike (asks (operandDue ending someTarget)) asked)) t in
-        let v = both (eqb class question && related (operandDue byColon someTarget) kind (add_token kind s newline asked class))
-        (related (operandDue ending someTarget) kind afterOperator && alike (asks (operandDue ending someTarget)) asked) u.2 in
-        let w = both (eqb class question) (related (operandDue byColon someTarget) kind (add_token kind s newline asked class)) v.0 in
-        let x = both (related (operandDue ending someTarget) kind afterOperator) (alike (asks (operandDue ending someTarget)) asked) v.1 in
+        let u = three (taken_right kind s class) (is_leaf class) ((eqb class question && related (operand_due by_colon some_target) kind (add_token kind s newline asked class))
+        && (related (operand_due ending some_target) kind after_operator && alike (asks (operand_due ending some_target)) asked)) t in
+        let v = both (eqb class question && related (operand_due by_colon some_target) kind (add_token kind s newline asked class))
+        (related (operand_due ending some_target) kind after_operator && alike (asks (operand_due ending some_target)) asked) u.2 in
+        let w = both (eqb class question) (related (operand_due by_colon some_target) kind (add_token kind s newline asked class)) v.0 in
+        let x = both (related (operand_due ending some_target) kind after_operator) (alike (asks (operand_due ending some_target)) asked) v.1 in
         record {
           taken = u.0;
           leaf = u.1;
           is_question = w.0;
           stands = w.1;
           behind_stands = x.0;
-          behind_asked = alike→eq (asks (operandDue ending someTarget)) asked x.1;
+          behind_asked = alike→eq (asks (operand_due ending some_target)) asked x.1;
         }
 
     pub turn_allowed : T (allows kind s newline asked class turn) → T (taken_right kind s class) × T (is_leaf class) × T (eqb class colon && asked)
@@ -317,7 +317,7 @@ allows_other kind s (goto next effect) = false
 allows_other kind s (push within behind closing) = false
 allows_other kind s (enter within effect outer behind closing) = false
 allows_other kind s (pop value) = false
-allows_other kind s popIn = false
+allows_other kind s pop_in = false
 allows_other kind s (leave value) = settled kind s
 allows_other kind s (ask ending) = false
 allows_other kind s turn = false
@@ -335,7 +335,7 @@ other_allowed kind s newline asked class (goto next effect) t = absurd t
 other_allowed kind s newline asked class (push within behind closing) t = absurd t
 other_allowed kind s newline asked class (enter within effect outer behind closing) t = absurd t
 other_allowed kind s newline asked class (pop value) t = absurd t
-other_allowed kind s newline asked class popIn t = absurd t
+other_allowed kind s newline asked class pop_in t = absurd t
 other_allowed kind s newline asked class (leave value) t = t
 other_allowed kind s newline asked class (ask ending) t = absurd t
 other_allowed kind s newline asked class turn t = absurd t
@@ -349,15 +349,15 @@ test control = all_in (λ kind. all_summaries λ s. passes control kind s) (kind
 
 -- all settings, variables, endings and targets
 abbrev settings : List Setting
-settings = among body ∷ among block ∷ in_clause ∷ in_nest ifNest ∷ in_nest elseNest ∷ in_nest doNest ∷ []
+settings = among body ∷ among block ∷ in_clause ∷ in_nest if_nest ∷ in_nest else_nest ∷ in_nest do_nest ∷ []
 
 a_setting : (setting : Setting) → Has setting settings
 a_setting (among body) = here
 a_setting (among block) = there here
 a_setting in_clause = there (there here)
-a_setting (in_nest ifNest) = there (there (there here))
-a_setting (in_nest elseNest) = there (there (there (there here)))
-a_setting (in_nest doNest) = there (there (there (there (there here))))
+a_setting (in_nest if_nest) = there (there (there here))
+a_setting (in_nest else_nest) = there (there (there (there here)))
+a_setting (in_nest do_nest) = there (there (there (there (there here))))
 
 -- what is made of each of a list, and others
 abbrev made_of : {A B : Type 0} → (A → B) → List A → List B → List B
@@ -382,39 +382,39 @@ some_variables (in_head false) = past_made in_statement settings (there here)
 
 abbrev other_endings : List Ending
 other_endings =
-    byStart ∷ byTest ∷ by_step ∷ byObject ∷ by_case true ∷ by_case false ∷ byParen ∷ byBracket ∷ byColon ∷ by_item callArguments ∷ by_item arrayElements
-    ∷ by_item objectProperties ∷ []
+    by_start ∷ by_test ∷ by_step ∷ by_object ∷ by_case true ∷ by_case false ∷ by_paren ∷ by_bracket ∷ by_colon ∷ by_item call_arguments ∷ by_item array_elements
+    ∷ by_item object_properties ∷ []
 
 abbrev endings : List Ending
-endings = made_of byStatement settings (made_of byReturn settings (made_of by_variable variables other_endings))
+endings = made_of by_statement settings (made_of by_return settings (made_of by_variable variables other_endings))
 
 past_all : {ending : Ending} → Has ending other_endings → Has ending endings
-past_all h = past_made byStatement settings (past_made byReturn settings (past_made by_variable variables h))
+past_all h = past_made by_statement settings (past_made by_return settings (past_made by_variable variables h))
 
 an_ending : (ending : Ending) → Has ending endings
-an_ending (byStatement setting) = made-of byStatement (made_of byReturn settings (made_of by_variable variables other_endings)) (a_setting setting)
-an_ending (byReturn setting) = past_made byStatement settings (made-of byReturn (made_of by_variable variables other_endings) (a_setting setting))
-an_ending (by_variable place) = past_made byStatement settings (past_made byReturn settings (made-of by_variable other_endings (some_variables place)))
-an_ending byStart = past_all here
-an_ending byTest = past_all (there here)
+an_ending (by_statement setting) = made-of by_statement (made_of by_return settings (made_of by_variable variables other_endings)) (a_setting setting)
+an_ending (by_return setting) = past_made by_statement settings (made-of by_return (made_of by_variable variables other_endings) (a_setting setting))
+an_ending (by_variable place) = past_made by_statement settings (past_made by_return settings (made-of by_variable other_endings (some_variables place)))
+an_ending by_start = past_all here
+an_ending by_test = past_all (there here)
 an_ending by_step = past_all (there (there here))
-an_ending byObject = past_all (there (there (there here)))
+an_ending by_object = past_all (there (there (there here)))
 an_ending (by_case true) = past_all (there (there (there (there here))))
 an_ending (by_case false) = past_all (there (there (there (there (there here)))))
-an_ending byParen = past_all (there (there (there (there (there (there here))))))
-an_ending byBracket = past_all (there (there (there (there (there (there (there here)))))))
-an_ending byColon = past_all (there (there (there (there (there (there (there (there here))))))))
-an_ending (by_item callArguments) = past_all (there (there (there (there (there (there (there (there (there here)))))))))
-an_ending (by_item arrayElements) = past_all (there (there (there (there (there (there (there (there (there (there here))))))))))
-an_ending (by_item objectProperties) = past_all (there (there (there (there (there (there (there (there (there (there (there here)))))))))))
+an_ending by_paren = past_all (there (there (there (there (there (there here))))))
+an_ending by_bracket = past_all (there (there (there (there (there (there (there here)))))))
+an_ending by_colon = past_all (there (there (there (there (there (there (there (there here))))))))
+an_ending (by_item call_arguments) = past_all (there (there (there (there (there (there (there (there (there here)))))))))
+an_ending (by_item array_elements) = past_all (there (there (there (there (there (there (there (there (there (there here))))))))))
+an_ending (by_item object_properties) = past_all (there (there (there (there (there (there (there (there (there (there (there here)))))))))))
 
 abbrev all_targets : (Target → Bool) → Bool
-all_targets p = p noTarget && (p someTarget && p loneTarget)
+all_targets p = p no_target && (p some_target && p lone_target)
 
 at_target : (p : Target → Bool) → T (all_targets p) → (target : Target) → T (p target)
-at_target p t noTarget = (three (p noTarget) (p someTarget) (p loneTarget) t).0
-at_target p t someTarget = (three (p noTarget) (p someTarget) (p loneTarget) t).1
-at_target p t loneTarget = (three (p noTarget) (p someTarget) (p loneTarget) t).2
+at_target p t no_target = (three (p no_target) (p some_target) (p lone_target) t).0
+at_target p t some_target = (three (p no_target) (p some_target) (p lone_target) t).1
+at_target p t lone_target = (three (p no_target) (p some_target) (p lone_target) t).2
 
 each_setting : (control : Setting → Control) → T (all_in (λ setting. test (control setting)) settings) → (setting : Setting) → T (test (control setting))
 each_setting control t setting = at (λ setting. test (control setting)) (a_setting setting) t
@@ -439,47 +439,47 @@ passed control =
     elim control as (λ k. T (test k)) [
       | statement_due must setting ↦
           elim must as (λ m. T (test (statement_due m setting))) [ true ↦ each_setting (statement_due true) tt setting | false ↦ each_setting (statement_due false) tt setting ]
-      | statement_done nest ↦ elim nest as (λ n. T (test (statement_done n))) [ ifNest ↦ tt | elseNest ↦ tt | doNest ↦ tt ]
-      | nameFirst setting ↦ each_setting nameFirst tt setting
-      | returnFirst setting ↦ each_setting returnFirst tt setting
-      | throwFirst setting ↦ each_setting throwFirst tt setting
-      | jumpFirst setting ↦ each_setting jumpFirst tt setting
-      | headFirst setting ↦ each_setting headFirst tt setting
-      | variableDue place ↦ each_variables variableDue tt place
-      | variableNamed place ↦ each_variables variableNamed tt place
-      | forFirst setting ↦ each_setting forFirst tt setting
-      | startDue ↦ tt
-      | testDue ↦ tt
-      | stepDue ↦ tt
-      | switchFirst setting ↦ each_setting switchFirst tt setting
-      | switchPast setting ↦ each_setting switchPast tt setting
+      | statement_done nest ↦ elim nest as (λ n. T (test (statement_done n))) [ if_nest ↦ tt | else_nest ↦ tt | do_nest ↦ tt ]
+      | name_first setting ↦ each_setting name_first tt setting
+      | return_first setting ↦ each_setting return_first tt setting
+      | throw_first setting ↦ each_setting throw_first tt setting
+      | jump_first setting ↦ each_setting jump_first tt setting
+      | head_first setting ↦ each_setting head_first tt setting
+      | variable_due place ↦ each_variables variable_due tt place
+      | variable_named place ↦ each_variables variable_named tt place
+      | for_first setting ↦ each_setting for_first tt setting
+      | start_due ↦ tt
+      | test_due ↦ tt
+      | step_due ↦ tt
+      | switch_first setting ↦ each_setting switch_first tt setting
+      | switch_past setting ↦ each_setting switch_past tt setting
       | clause_due seen ↦ elim seen as (λ b. T (test (clause_due b))) [ true ↦ tt | false ↦ tt ]
-      | defaultFirst ↦ tt
-      | tryFirst ↦ tt
-      | tryDone ↦ tt
-      | catchFirst ↦ tt
-      | catchDue ↦ tt
-      | catchNamed ↦ tt
-      | catchPast ↦ tt
-      | catchDone ↦ tt
-      | finallyFirst ↦ tt
-      | tryEnded ↦ tt
-      | bodyDone setting ↦ each_setting bodyDone tt setting
-      | testFirst setting ↦ each_setting testFirst tt setting
-      | semicolonDue setting ↦ each_setting semicolonDue tt setting
-      | ifFirst ↦ tt
-      | operandDue ending target ↦ each_ending operandDue tt ending target
-      | memberDue ending target ↦ each_ending memberDue tt ending target
-      | operandDone ending target ↦ each_ending operandDone tt ending target
+      | default_first ↦ tt
+      | try_first ↦ tt
+      | try_done ↦ tt
+      | catch_first ↦ tt
+      | catch_due ↦ tt
+      | catch_named ↦ tt
+      | catch_past ↦ tt
+      | catch_done ↦ tt
+      | finally_first ↦ tt
+      | try_ended ↦ tt
+      | body_done setting ↦ each_setting body_done tt setting
+      | test_first setting ↦ each_setting test_first tt setting
+      | semicolon_due setting ↦ each_setting semicolon_due tt setting
+      | if_first ↦ tt
+      | operand_due ending target ↦ each_ending operand_due tt ending target
+      | member_due ending target ↦ each_ending member_due tt ending target
+      | operand_done ending target ↦ each_ending operand_done tt ending target
       | postfix_done ending ↦ at (λ ending. test (postfix_done ending)) (an_ending ending) tt
-      | dotLast ending target ↦ each_ending dotLast tt ending target
-      | functionFirst role ↦ each_role functionFirst tt tt role
-      | functionNamed role ↦ each_role functionNamed tt tt role
-      | parameterPast role ↦ each_role parameterPast tt tt role
-      | item_due items ↦ elim items as (λ i. T (test (item_due i))) [ callArguments ↦ tt | arrayElements ↦ tt | objectProperties ↦ tt ]
-      | propertyNamed ↦ tt
+      | dot_last ending target ↦ each_ending dot_last tt ending target
+      | function_first role ↦ each_role function_first tt tt role
+      | function_named role ↦ each_role function_named tt tt role
+      | parameter_past role ↦ each_role parameter_past tt tt role
+      | item_due items ↦ elim items as (λ i. T (test (item_due i))) [ call_arguments ↦ tt | array_elements ↦ tt | object_properties ↦ tt ]
+      | property_named ↦ tt
       | parameter_due must ↦ elim must as (λ m. T (test (parameter_due m))) [ true ↦ tt | false ↦ tt ]
-      | parameterNamed ↦ tt
+      | parameter_named ↦ tt
       | finished ↦ tt
     ]
 

@@ -9,7 +9,7 @@ use borrow.Author.Tests.{ne_eqb, eqb-true, eqb-false, leb-true}
 use lib.Dec.{T, eqb, leb}
 use Rattle.machine.specs.Tokens.{question, dot, open_paren, close_paren, close_brace, open_bracket, close_bracket}
 use Rattle.machine.specs.Operators.{binary_operators_by}
-use Rattle.machine.specs.Scopes.{Items, callArguments, arrayElements, objectProperties}
+use Rattle.machine.specs.Scopes.{Items, call_arguments, array_elements, object_properties}
 use Rattle.machine.specs.Machinery.Machine.{
   end_of_text,
   in_clause,
@@ -17,64 +17,64 @@ use Rattle.machine.specs.Machinery.Machine.{
   in_statement,
   in_head,
   Target,
-  noTarget,
-  someTarget,
-  loneTarget,
+  no_target,
+  some_target,
+  lone_target,
   keep,
-  takeOperator,
-  toCall,
-  toIndex,
+  take_operator,
+  to_call,
+  to_index,
   Ending,
-  byStatement,
-  byReturn,
+  by_statement,
+  by_return,
   by_variable,
-  byStart,
-  byTest,
+  by_start,
+  by_test,
   by_step,
-  byObject,
+  by_object,
   by_case,
-  byParen,
-  byBracket,
-  byColon,
+  by_paren,
+  by_bracket,
+  by_colon,
   by_item,
   declared,
   operand_in,
   Control,
   statement_due,
-  returnFirst,
-  throwFirst,
-  jumpFirst,
-  headFirst,
-  variableDue,
-  variableNamed,
-  bodyDone,
-  testFirst,
-  semicolonDue,
-  forFirst,
-  startDue,
-  testDue,
-  stepDue,
-  switchFirst,
-  switchPast,
+  return_first,
+  throw_first,
+  jump_first,
+  head_first,
+  variable_due,
+  variable_named,
+  body_done,
+  test_first,
+  semicolon_due,
+  for_first,
+  start_due,
+  test_due,
+  step_due,
+  switch_first,
+  switch_past,
   clause_due,
-  defaultFirst,
-  tryFirst,
-  tryDone,
-  catchFirst,
-  catchDue,
-  catchNamed,
-  catchPast,
-  finallyFirst,
-  ifFirst,
-  operandDue,
-  memberDue,
-  operandDone,
-  dotLast,
-  functionFirst,
-  functionNamed,
-  parameterPast,
-  propertyNamed,
-  parameterNamed,
+  default_first,
+  try_first,
+  try_done,
+  catch_first,
+  catch_due,
+  catch_named,
+  catch_past,
+  finally_first,
+  if_first,
+  operand_due,
+  member_due,
+  operand_done,
+  dot_last,
+  function_first,
+  function_named,
+  parameter_past,
+  property_named,
+  parameter_named,
   item_due,
   finished,
   Action,
@@ -113,17 +113,17 @@ one_of false first second = second
 
 -- an expression whose end is no closer
 abbrev pub spares : Ending → Bool
-spares (byStatement setting) = true
-spares (byReturn setting) = true
+spares (by_statement setting) = true
+spares (by_return setting) = true
 spares (by_variable place) = true
-spares byStart = true
-spares byTest = true
+spares by_start = true
+spares by_test = true
 spares by_step = false
-spares byObject = false
+spares by_object = false
 spares (by_case seen) = true
-spares byParen = false
-spares byBracket = false
-spares byColon = true
+spares by_paren = false
+spares by_bracket = false
+spares by_colon = true
 spares (by_item items) = false
 
 module _ (closer : ℕ) (end : T (is_end closer)) where
@@ -134,9 +134,9 @@ module _ (closer : ℕ) (end : T (is_end closer)) where
 
   -- a list ends at its closer, where an item is due and behind one
   pub items_end : (items : Items) → EndsAt (item_due items) (list_closer items) closer
-  items_end callArguments = at_closers (EndsAt (item_due callArguments) close_paren) ends_items goes_on goes_on goes_on closer end
-  items_end arrayElements = at_closers (EndsAt (item_due arrayElements) close_bracket) goes_on goes_on ends_items goes_on closer end
-  items_end objectProperties = at_closers (EndsAt (item_due objectProperties) close_brace) goes_on ends_items goes_on goes_on closer end
+  items_end call_arguments = at_closers (EndsAt (item_due call_arguments) close_paren) ends_items goes_on goes_on goes_on closer end
+  items_end array_elements = at_closers (EndsAt (item_due array_elements) close_bracket) goes_on goes_on ends_items goes_on closer end
+  items_end object_properties = at_closers (EndsAt (item_due object_properties) close_brace) goes_on ends_items goes_on goes_on closer end
 
   -- the clauses of a `switch` end at `}`
   pub clauses_end : (seen : Bool) → EndsAt (clause_due seen) close_brace closer
@@ -147,9 +147,9 @@ module _ (closer : ℕ) (end : T (is_end closer)) where
   pub past_last : (place ending setting : ℕ) (flag : Bool) → (place ≡ 11) ⊎ ((place ≡ 30) ⊎ (place ≡ 34))
       → EndsAt (control_by place ending setting flag) close_paren closer
   unfolding control_by
-  past_last place ending setting flag (inl e) = rw e (at_closers (EndsAt stepDue close_paren) ends_no_step goes_on goes_on goes_on closer end)
-  past_last place ending setting flag (inr (inl e)) = rw e (at_closers (EndsAt catchNamed close_paren) ends_caught goes_on goes_on goes_on closer end)
-  past_last place ending setting flag (inr (inr e)) = rw e (at_closers (EndsAt parameterNamed close_paren) ends_parameter goes_on goes_on goes_on closer end)
+  past_last place ending setting flag (inl e) = rw e (at_closers (EndsAt step_due close_paren) ends_no_step goes_on goes_on goes_on closer end)
+  past_last place ending setting flag (inr (inl e)) = rw e (at_closers (EndsAt catch_named close_paren) ends_caught goes_on goes_on goes_on closer end)
+  past_last place ending setting flag (inr (inr e)) = rw e (at_closers (EndsAt parameter_named close_paren) ends_parameter goes_on goes_on goes_on closer end)
 
   -- entries for no closer are passed over
   passed : (f : List Entry → List Entry) → ((rest : List Entry) → look close_paren (f rest) ≡ look close_paren rest)
@@ -167,19 +167,19 @@ module _ (closer : ℕ) (end : T (is_end closer)) where
   in_passed false rest = refl
 
   assignments_passed : (ending : Ending) (target : Target) (rest : List Entry) → look closer (assignment_row ending target rest) ≡ look closer rest
-  assignments_passed ending noTarget rest = refl
-  assignments_passed ending someTarget rest = passed (assignment_row ending someTarget) (λ rest. refl) (λ rest. refl) (λ rest. refl) (λ rest. refl) rest
-  assignments_passed ending loneTarget rest = passed (assignment_row ending loneTarget) (λ rest. refl) (λ rest. refl) (λ rest. refl) (λ rest. refl) rest
+  assignments_passed ending no_target rest = refl
+  assignments_passed ending some_target rest = passed (assignment_row ending some_target) (λ rest. refl) (λ rest. refl) (λ rest. refl) (λ rest. refl) rest
+  assignments_passed ending lone_target rest = passed (assignment_row ending lone_target) (λ rest. refl) (λ rest. refl) (λ rest. refl) (λ rest. refl) rest
 
   -- behind a Unary a closer is for what ends the expression
   unary_ended : (ending : Ending) → look closer (after_unary ending) ≡ look closer (ending_row ending)
   unary_ended ending =
-      operators_passed (allows_in ending) (λ class. goto (operandDue ending noTarget) (takeOperator class)) (on question (ask ending) ∷ ending_row ending)
+      operators_passed (allows_in ending) (λ class. goto (operand_due ending no_target) (take_operator class)) (on question (ask ending) ∷ ending_row ending)
       ∙ passed (λ (rest : List Entry). on question (ask ending) ∷ rest) (λ rest. refl) (λ rest. refl) (λ rest. refl) (λ rest. refl) (ending_row ending)
 
   ended : {from : Control} {ending : Ending} → Ended from ending → look closer (row from false) ≡ look closer (ending_row ending)
   ended (ended_operand {ending} {target}) =
-      passed (λ (rest : List Entry). on dot (goto (dotLast ending target) keep) ∷ on open_paren (push (item_due callArguments) (operandDone ending target) toCall) ∷ on open_bracket (push (operandDue byBracket someTarget) (operandDone ending target) toIndex) ∷ rest) (λ rest. refl) (λ rest. refl) (λ rest. refl) (λ rest. refl) (in_entry (takes_in ending target) (assignment_row ending target (postfix_row ending false (after_unary ending))))
+      passed (λ (rest : List Entry). on dot (goto (dot_last ending target) keep) ∷ on open_paren (push (item_due call_arguments) (operand_done ending target) to_call) ∷ on open_bracket (push (operand_due by_bracket some_target) (operand_done ending target) to_index) ∷ rest) (λ rest. refl) (λ rest. refl) (λ rest. refl) (λ rest. refl) (in_entry (takes_in ending target) (assignment_row ending target (postfix_row ending false (after_unary ending))))
       ∙ in_passed (takes_in ending target) (assignment_row ending target (postfix_row ending false (after_unary ending)))
       ∙ assignments_passed ending target (postfix_row ending false (after_unary ending))
       ∙ passed (postfix_row ending false) (λ rest. refl) (λ rest. refl) (λ rest. refl) (λ rest. refl) (after_unary ending)
@@ -196,45 +196,45 @@ module _ (closer : ℕ) (end : T (is_end closer)) where
           let step : Ended from by_step = rw (eqb-true ending 10 f) at e in
           rw (ended step) (at_closers (λ (k : ℕ). Ends k from (eqb k close_paren) (look k (ending_row by_step))) (ends_head step) goes_on goes_on goes_on closer end)
       go false true f g =
-          let object : Ended from byObject = rw (eqb-true ending 11 g) at e in
-          rw (ended object) (at_closers (λ (k : ℕ). Ends k from (eqb k close_paren) (look k (ending_row byObject))) (ends_object object) goes_on goes_on goes_on closer end)
+          let object : Ended from by_object = rw (eqb-true ending 11 g) at e in
+          rw (ended object) (at_closers (λ (k : ℕ). Ends k from (eqb k close_paren) (look k (ending_row by_object))) (ends_object object) goes_on goes_on goes_on closer end)
       go false false f g =
           let last : ending ≡ 12 = omega (arith, eqb-false ending 10 f, eqb-false ending 11 g) in
-          let paren : Ended from byParen = rw last at e in
-          rw (ended paren) (at_closers (λ (k : ℕ). Ends k from (eqb k close_paren) (look k (ending_row byParen))) (ends_expression tt paren) goes_on goes_on goes_on closer end)
+          let paren : Ended from by_paren = rw last at e in
+          rw (ended paren) (at_closers (λ (k : ℕ). Ends k from (eqb k close_paren) (look k (ending_row by_paren))) (ends_expression tt paren) goes_on goes_on goes_on closer end)
 
-  pub bracket_ends : {from : Control} → Ended from byBracket → EndsAt from close_bracket closer
+  pub bracket_ends : {from : Control} → Ended from by_bracket → EndsAt from close_bracket closer
   bracket_ends {from} e =
       rw (ended e)
-      (at_closers (λ (k : ℕ). Ends k from (eqb k close_bracket) (look k (ending_row byBracket))) goes_on goes_on (ends_expression tt e) goes_on closer end)
+      (at_closers (λ (k : ℕ). Ends k from (eqb k close_bracket) (look k (ending_row by_bracket))) goes_on goes_on (ends_expression tt e) goes_on closer end)
 
   pub item_ends : {from : Control} (items : Items) → Ended from (by_item items) → EndsAt from (list_closer items) closer
   item_ends {from} items e = rw (ended e) (go items e)
     where
       go : (items : Items) → Ended from (by_item items) → Ends closer from (eqb closer (list_closer items)) (look closer (ending_row (by_item items)))
-      go callArguments e =
-          at_closers (λ (k : ℕ). Ends k from (eqb k close_paren) (look k (ending_row (by_item callArguments)))) (ends_item e) goes_on goes_on goes_on closer end
-      go arrayElements e =
-          at_closers (λ (k : ℕ). Ends k from (eqb k close_bracket) (look k (ending_row (by_item arrayElements)))) goes_on goes_on (ends_item e) goes_on closer end
-      go objectProperties e =
-          at_closers (λ (k : ℕ). Ends k from (eqb k close_brace) (look k (ending_row (by_item objectProperties)))) goes_on (ends_item e) goes_on goes_on closer end
+      go call_arguments e =
+          at_closers (λ (k : ℕ). Ends k from (eqb k close_paren) (look k (ending_row (by_item call_arguments)))) (ends_item e) goes_on goes_on goes_on closer end
+      go array_elements e =
+          at_closers (λ (k : ℕ). Ends k from (eqb k close_bracket) (look k (ending_row (by_item array_elements)))) goes_on goes_on (ends_item e) goes_on closer end
+      go object_properties e =
+          at_closers (λ (k : ℕ). Ends k from (eqb k close_brace) (look k (ending_row (by_item object_properties)))) goes_on (ends_item e) goes_on goes_on closer end
 
   -- an expression in a statement, in the head of a `for` or of a clause, or behind a `?`
   spared : (ending : Ending) → T (spares ending) → look closer (ending_row ending) ≡ fail
-  spared (byStatement setting) t = at_closers (λ (k : ℕ). look k (ending_row (byStatement setting)) ≡ fail) refl refl refl refl closer end
-  spared (byReturn setting) t = at_closers (λ (k : ℕ). look k (ending_row (byReturn setting)) ≡ fail) refl refl refl refl closer end
+  spared (by_statement setting) t = at_closers (λ (k : ℕ). look k (ending_row (by_statement setting)) ≡ fail) refl refl refl refl closer end
+  spared (by_return setting) t = at_closers (λ (k : ℕ). look k (ending_row (by_return setting)) ≡ fail) refl refl refl refl closer end
   spared (by_variable (in_statement setting)) t =
       at_closers (λ (k : ℕ). look k (ending_row (by_variable (in_statement setting))) ≡ fail) refl refl refl refl closer end
   spared (by_variable (in_head true)) t = at_closers (λ (k : ℕ). look k (ending_row (by_variable (in_head true))) ≡ fail) refl refl refl refl closer end
   spared (by_variable (in_head false)) t = at_closers (λ (k : ℕ). look k (ending_row (by_variable (in_head false))) ≡ fail) refl refl refl refl closer end
-  spared byStart t = at_closers (λ (k : ℕ). look k (ending_row byStart) ≡ fail) refl refl refl refl closer end
-  spared byTest t = at_closers (λ (k : ℕ). look k (ending_row byTest) ≡ fail) refl refl refl refl closer end
+  spared by_start t = at_closers (λ (k : ℕ). look k (ending_row by_start) ≡ fail) refl refl refl refl closer end
+  spared by_test t = at_closers (λ (k : ℕ). look k (ending_row by_test) ≡ fail) refl refl refl refl closer end
   spared by_step t = absurd t
-  spared byObject t = absurd t
+  spared by_object t = absurd t
   spared (by_case seen) t = at_closers (λ (k : ℕ). look k (ending_row (by_case seen)) ≡ fail) refl refl refl refl closer end
-  spared byParen t = absurd t
-  spared byBracket t = absurd t
-  spared byColon t = at_closers (λ (k : ℕ). look k (ending_row byColon) ≡ fail) refl refl refl refl closer end
+  spared by_paren t = absurd t
+  spared by_bracket t = absurd t
+  spared by_colon t = at_closers (λ (k : ℕ). look k (ending_row by_colon) ≡ fail) refl refl refl refl closer end
   spared (by_item items) t = absurd t
 
   pub none_ends : {from : Control} {ending : Ending} → Ended from ending → T (spares ending) → GoesOn closer from
@@ -252,38 +252,38 @@ module _ (closer : ℕ) (end : T (is_end closer)) where
       let n42 : place ≡ 42 → ⊥ = λ e. rw (settled.no_name e) at end in
       let n43 : place ≡ 43 → ⊥ = λ e. rw (settled.no_catch e) at end in
       simp (ne_eqb place 0 n0, ne_eqb place 3 n3, ne_eqb place 4 n4, ne_eqb place 11 n11, ne_eqb place 15 n15, ne_eqb place 24 n24, ne_eqb place 30 n30, ne_eqb place 33 n33, ne_eqb place 34 n34, ne_eqb place 41 n41, ne_eqb place 42 n42, ne_eqb place 43 n43, ne_eqb place 44 settled.no_try)
-      (at 1 (returnFirst (setting_by setting)) refl refl refl refl
-      (at 2 (operandDue expression target) refl refl refl refl
-      (at 5 (throwFirst (setting_by setting)) refl refl refl refl
-      (at 6 (jumpFirst (setting_by setting)) refl refl refl refl
+      (at 1 (return_first (setting_by setting)) refl refl refl refl
+      (at 2 (operand_due expression target) refl refl refl refl
+      (at 5 (throw_first (setting_by setting)) refl refl refl refl
+      (at 6 (jump_first (setting_by setting)) refl refl refl refl
       (one_of (eqb place 7) (named_goes_on (variables_by ending setting))
-      (at 8 (semicolonDue (setting_by setting)) refl refl refl refl
-      (at 9 startDue refl refl refl refl
-      (at 10 testDue refl refl refl refl
-      (at 12 (memberDue expression target) refl refl refl refl
-      (at 13 ifFirst refl refl refl refl
-      (at 14 (dotLast expression target) refl refl refl refl
-      (at 16 propertyNamed refl refl refl refl
-      (at 17 (headFirst (setting_by setting)) refl refl refl refl
-      (at 18 (variableDue (variables_by ending setting)) refl refl refl refl
-      (at 19 (bodyDone (setting_by setting)) refl refl refl refl
-      (at 20 (testFirst (setting_by setting)) refl refl refl refl
-      (at 21 (forFirst (setting_by setting)) refl refl refl refl
-      (at 22 (switchFirst (setting_by setting)) refl refl refl refl
-      (at 23 (switchPast (setting_by setting)) refl refl refl refl
-      (at 25 defaultFirst refl refl refl refl
-      (at 26 tryFirst refl refl refl refl
-      (at 27 tryDone refl refl refl refl
-      (at 28 catchFirst refl refl refl refl
-      (at 29 catchDue refl refl refl refl
-      (at 31 catchPast refl refl refl refl
-      (at 32 finallyFirst refl refl refl refl
-      (at 35 (functionFirst (operand_in expression target)) refl refl refl refl
-      (at 36 (functionNamed (operand_in expression target)) refl refl refl refl
-      (at 37 (parameterPast (operand_in expression target)) refl refl refl refl
-      (at 38 (functionFirst declared) refl refl refl refl
-      (at 39 (functionNamed declared) refl refl refl refl
-      (at 40 (parameterPast declared) refl refl refl refl
+      (at 8 (semicolon_due (setting_by setting)) refl refl refl refl
+      (at 9 start_due refl refl refl refl
+      (at 10 test_due refl refl refl refl
+      (at 12 (member_due expression target) refl refl refl refl
+      (at 13 if_first refl refl refl refl
+      (at 14 (dot_last expression target) refl refl refl refl
+      (at 16 property_named refl refl refl refl
+      (at 17 (head_first (setting_by setting)) refl refl refl refl
+      (at 18 (variable_due (variables_by ending setting)) refl refl refl refl
+      (at 19 (body_done (setting_by setting)) refl refl refl refl
+      (at 20 (test_first (setting_by setting)) refl refl refl refl
+      (at 21 (for_first (setting_by setting)) refl refl refl refl
+      (at 22 (switch_first (setting_by setting)) refl refl refl refl
+      (at 23 (switch_past (setting_by setting)) refl refl refl refl
+      (at 25 default_first refl refl refl refl
+      (at 26 try_first refl refl refl refl
+      (at 27 try_done refl refl refl refl
+      (at 28 catch_first refl refl refl refl
+      (at 29 catch_due refl refl refl refl
+      (at 31 catch_past refl refl refl refl
+      (at 32 finally_first refl refl refl refl
+      (at 35 (function_first (operand_in expression target)) refl refl refl refl
+      (at 36 (function_named (operand_in expression target)) refl refl refl refl
+      (at 37 (parameter_past (operand_in expression target)) refl refl refl refl
+      (at 38 (function_first declared) refl refl refl refl
+      (at 39 (function_named declared) refl refl refl refl
+      (at 40 (parameter_past declared) refl refl refl refl
       (clause_goes_on (leb 45 place) refl)))))))))))))))))))))))))))))))))
     where
       expression : Ending
@@ -296,10 +296,10 @@ module _ (closer : ℕ) (end : T (is_end closer)) where
           → look end_of_text (row x false) ≡ fail → {y : Control} → GoesOn closer y → GoesOn closer (cond (eqb place k) x y)
       at k x paren brace bracket text later = one_of (eqb place k) (no_closer_at x paren brace bracket text) later
 
-      named_goes_on : (variables : Variables) → GoesOn closer (variableNamed variables)
-      named_goes_on (in_statement s) = no_closer_at (variableNamed (in_statement s)) refl refl refl refl
-      named_goes_on (in_head true) = no_closer_at (variableNamed (in_head true)) refl refl refl refl
-      named_goes_on (in_head false) = no_closer_at (variableNamed (in_head false)) refl refl refl refl
+      named_goes_on : (variables : Variables) → GoesOn closer (variable_named variables)
+      named_goes_on (in_statement s) = no_closer_at (variable_named (in_statement s)) refl refl refl refl
+      named_goes_on (in_head true) = no_closer_at (variable_named (in_head true)) refl refl refl refl
+      named_goes_on (in_head false) = no_closer_at (variable_named (in_head false)) refl refl refl refl
 
       -- no `}` comes here
       clause_goes_on : (b : Bool) → leb 45 place ≡ b → GoesOn closer (cond b (statement_due false in_clause) finished)

@@ -6,7 +6,7 @@ use native.Mathlib.Omega.{arith}
 use borrow.Author.Tests.{eq-eqb, ne_eqb, eqb-false, le-leb}
 use lib.Dec.{T, eqb, ltb, ltb→lt}
 use Rattle.machine.specs.Scopes.{body, block}
-use Rattle.machine.specs.Machinery.Machine.{ifNest, elseNest, doNest, among, in_clause, in_nest, by_item, statement_due}
+use Rattle.machine.specs.Machinery.Machine.{if_nest, else_nest, do_nest, among, in_clause, in_nest, by_item, statement_due}
 use Rattle.controls.specs.Machinery.Numbers.{setting_by, nest_by, items_by, ending_by, control_by}
 
 -- numbers that are passed one by one
@@ -14,7 +14,7 @@ pub beyond : (k n : ℕ) → k ≤ n → (n ≡ k → ⊥) → k + 1 ≤ n
 beyond k n h other = omega arith
 
 -- a nest, by the number of the setting in it
-nest_of : (a b : Bool) → cond a (in_nest ifNest) (cond b (in_nest elseNest) (in_nest doNest)) ≡ in_nest (cond a ifNest (cond b elseNest doNest))
+nest_of : (a b : Bool) → cond a (in_nest if_nest) (cond b (in_nest else_nest) (in_nest do_nest)) ≡ in_nest (cond a if_nest (cond b else_nest do_nest))
 nest_of true b = refl
 nest_of false true = refl
 nest_of false false = refl
@@ -35,7 +35,7 @@ module _ (setting : ℕ) where
   pub nest_setting : 2 < setting → setting_by setting ≡ in_nest (nest_by setting)
   nest_setting h = no_body (λ e. omega arith) ∙ rw (ne_eqb setting 1 (λ e. omega arith), ne_eqb setting 2 (λ e. omega arith))
 
-  pub last_setting : 5 ≤ setting → setting_by setting ≡ in_nest doNest
+  pub last_setting : 5 ≤ setting → setting_by setting ≡ in_nest do_nest
   unfolding nest_by
   last_setting h = nest_setting (omega arith) ∙ rw (ne_eqb setting 3 (λ e. omega arith), ne_eqb setting 4 (λ e. omega arith))
 

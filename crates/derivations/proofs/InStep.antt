@@ -7,9 +7,9 @@ use lib.Dec.{T, ltb}
 use Rattle.rule.specs.Trees.{Trees, none}
 use Rattle.rule.specs.Rule.{backwards, group_class, unanswered}
 use Rattle.rule.specs.Levels.{Levels, whole_text, inside, kind_of, on_top}
-use Rattle.rule.specs.Machinery.Summary.{Summary, afterOperator, summary}
+use Rattle.rule.specs.Machinery.Summary.{Summary, after_operator, summary}
 use Rattle.derivations.specs.Tokens.{Token, token}
-use Rattle.machine.specs.Machinery.Machine.{end_of_text, Frame, Ending, Control, someTarget, operandDue, Closing, Open, grouped, nested, asking, State, dead, live, start, asks}
+use Rattle.machine.specs.Machinery.Machine.{end_of_text, Frame, Ending, Control, some_target, operand_due, Closing, Open, grouped, nested, asking, State, dead, live, start, asks}
 use Rattle.machine.proofs.Ran.{ran, ran_is_run, stays_dead, anywhere, is_live}
 use Rattle.derivations.proofs.Classes.{questions_of}
 use Rattle.agreement.proofs.Related.{related, takes_over}
@@ -35,8 +35,8 @@ pub data Stacks : List Open → Levels → Type 0 where
       → Stacks rest around → Stacks (grouped behind closing mark f ∷ rest) (inside around kind first newline trees)
   in-nest : {behind : Control} {closing : Closing} {mark : ℕ} {f : Frame} {rest : List Open} {levels : Levels} → T (takes_over behind)
       → asked rest ≡ 0 → Fits behind rest → Stacks rest levels → Stacks (nested behind closing mark f ∷ rest) levels
-  in_question : {ending : Ending} {mark : ℕ} {f : Frame} {rest : List Open} {levels : Levels} → T (related (operandDue ending someTarget) (kind_of levels) afterOperator)
-      → Fits (operandDue ending someTarget) rest → Stacks rest levels → Stacks (asking ending mark f ∷ rest) levels
+  in_question : {ending : Ending} {mark : ℕ} {f : Frame} {rest : List Open} {levels : Levels} → T (related (operand_due ending some_target) (kind_of levels) after_operator)
+      → Fits (operand_due ending some_target) rest → Stacks rest levels → Stacks (asking ending mark f ∷ rest) levels
 
 -- a machine that has stopped is in step with all levels
 pub data InStep : State → Levels → Type 0 where

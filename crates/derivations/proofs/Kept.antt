@@ -23,10 +23,10 @@ use Rattle.machine.specs.Syntax.{Syntax}
 use Rattle.machine.specs.Machinery.Machine.{
   Frame,
   Ending,
-  byColon,
+  by_colon,
   Control,
-  someTarget,
-  operandDue,
+  some_target,
+  operand_due,
   Closing,
   Action,
   fail,
@@ -34,7 +34,7 @@ use Rattle.machine.specs.Machinery.Machine.{
   push,
   enter,
   pop,
-  popIn,
+  pop_in,
   leave,
   ask,
   turn,
@@ -48,8 +48,8 @@ use Rattle.machine.specs.Machinery.Machine.{
   State,
   live,
   value_of,
-  expressionValue,
-  listValue,
+  expression_value,
+  list_value,
   head_in,
   pop_to,
   turn_to,
@@ -148,7 +148,7 @@ module _ (limits : Limits) (levels : Levels) (e : Element) where
   -- a `?` is opened
   question_outcome : {ending : Ending} {mark : ℕ} {f inner : Frame} {around : List Open} → AsksRight (kind_of levels) (summary_of levels) e.newline (some_open levels) (class_of e) ending
       → questions_of levels ≡ asked around → Stacks around levels
-      → Outcome limits levels e (some_open levels) (live (operandDue byColon someTarget) inner (asking ending mark f ∷ around)) (step limits levels e)
+      → Outcome limits levels e (some_open levels) (live (operand_due by_colon some_target) inner (asking ending mark f ∷ around)) (step limits levels e)
   unfolding settled_class tree_class
   question_outcome {ending} {mark} {f} {inner} {around} a n s =
       let class : class_of e ≡ question = eqb→eq (class_of e) question a.is_question in
@@ -282,9 +282,9 @@ module _ (limits : Limits) (levels : Levels) (e : Element) where
   acted out left spot f around n s (pop value) t alive =
       let a = pop_allowed (kind_of levels) (summary_of levels) newline (some_open levels) (class_of e) value t in
       keep a.0 (closer_outcome limits levels e (some_open levels) spot.first (value_of value f) s a.1 a.2 alive)
-  acted out left spot f around n s popIn t alive =
+  acted out left spot f around n s pop_in t alive =
       let a = pop_in_allowed (kind_of levels) (summary_of levels) newline (some_open levels) (class_of e) t in
-      keep a.0 (closer_outcome limits levels e (some_open levels) spot.first (value_of listValue f) (head_stacks s) a.1 a.2 alive)
+      keep a.0 (closer_outcome limits levels e (some_open levels) spot.first (value_of list_value f) (head_stacks s) a.1 a.2 alive)
   acted out left spot f around n s (leave value) t alive =
       left (value_of value f) (leave_allowed (kind_of levels) (summary_of levels) newline (some_open levels) (class_of e) value t) alive
   acted out left spot f around n s (ask ending) t alive =
@@ -293,7 +293,7 @@ module _ (limits : Limits) (levels : Levels) (e : Element) where
   acted out left spot f around n s turn t alive =
       let a = turn_allowed (kind_of levels) (summary_of levels) newline (some_open levels) (class_of e) t in
       let c = both (eqb (class_of e) colon) (some_open levels) a.2 in
-      keep a.0 (answer_outcome limits levels e spot.first (value_of expressionValue f) a.1 c.0 (holds (some_open levels) c.1) n s alive)
+      keep a.0 (answer_outcome limits levels e spot.first (value_of expression_value f) a.1 c.0 (holds (some_open levels) c.1) n s alive)
   acted out left spot f around n s finish t alive =
       absurd (no_end (told e) (finish_allowed (kind_of levels) (summary_of levels) newline (some_open levels) (class_of e) t))
 
@@ -373,7 +373,7 @@ module _ (levels : Levels) (spot : Spot) where
   ended out left f s (enter within effect outer behind closing) is_open t alive =
       absurd (enter_allowed (kind_of levels) (summary_of levels) spot.newline is_open end_of_text within effect outer behind closing t).goes.leaf
   ended out left f s (pop value) is_open t alive = absurd (pop_allowed (kind_of levels) (summary_of levels) spot.newline is_open end_of_text value t).1
-  ended out left f s popIn is_open t alive = absurd (pop_in_allowed (kind_of levels) (summary_of levels) spot.newline is_open end_of_text t).1
+  ended out left f s pop_in is_open t alive = absurd (pop_in_allowed (kind_of levels) (summary_of levels) spot.newline is_open end_of_text t).1
   ended out left f s (leave value) is_open t alive =
       left (value_of value f) (leave_allowed (kind_of levels) (summary_of levels) spot.newline is_open end_of_text value t) alive
   ended out left f s (ask ending) is_open t alive = absurd (ask_allowed (kind_of levels) (summary_of levels) spot.newline is_open end_of_text ending t).leaf

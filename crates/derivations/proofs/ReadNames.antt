@@ -20,14 +20,14 @@ use Rattle.prefix.proofs.Course.{Course, ended, went, accepted_course}
 use Rattle.derivations.specs.Cuts.{is_closer, recorded}
 use Rattle.derivations.specs.Tokens.{Token, token, Spot, name, word_name, class_of, token_of, tokens_from, tokens}
 use Rattle.derivations.specs.TreeElements.{elements_of}
-use Rattle.grammar.specs.Grammar.{callArguments, arrayElements, objectProperties}
+use Rattle.grammar.specs.Grammar.{call_arguments, array_elements, object_properties}
 use Rattle.machine.specs.Machinery.Machine.{
   Frame,
-  byStatement,
-  byReturn,
-  byParen,
-  byBracket,
-  byColon,
+  by_statement,
+  by_return,
+  by_paren,
+  by_bracket,
+  by_colon,
   by_item,
   declared,
   operand_in,
@@ -39,22 +39,22 @@ use Rattle.machine.specs.Machinery.Machine.{
   Control,
   statement_due,
   statement_done,
-  nameFirst,
-  returnFirst,
-  variableDue,
-  ifFirst,
-  operandDue,
-  memberDue,
-  operandDone,
+  name_first,
+  return_first,
+  variable_due,
+  if_first,
+  operand_due,
+  member_due,
+  operand_done,
   postfix_done,
-  dotLast,
-  functionFirst,
-  functionNamed,
-  parameterPast,
+  dot_last,
+  function_first,
+  function_named,
+  parameter_past,
   item_due,
-  propertyNamed,
+  property_named,
   parameter_due,
-  parameterNamed,
+  parameter_named,
   finished,
   Open,
   State,
@@ -87,36 +87,36 @@ names_alike (statement_due false (among scope)) spot f around t = absurd t
 names_alike (statement_due false in_clause) spot f around t = absurd t
 names_alike (statement_due false (in_nest nest)) spot f around t = absurd t
 names_alike (statement_done nest) spot f around t = absurd t
-names_alike (nameFirst setting) spot f around t = absurd t
-names_alike (returnFirst setting) spot f around t = absurd t
-names_alike (variableDue (in_statement setting)) spot f around t = absurd t
-names_alike (variableDue (in_head first)) spot f around t = absurd t
-names_alike ifFirst spot f around t = absurd t
-names_alike (operandDue (byStatement setting) target) spot f around t = absurd t
-names_alike (operandDue (byReturn setting) target) spot f around t = absurd t
-names_alike (operandDue byParen target) spot f around t = absurd t
-names_alike (operandDue byBracket target) spot f around t = absurd t
-names_alike (operandDue (by_item callArguments) target) spot f around t = absurd t
-names_alike (operandDue (by_item arrayElements) target) spot f around t = absurd t
-names_alike (operandDue (by_item objectProperties) target) spot f around t = absurd t
-names_alike (operandDue byColon target) spot f around t = absurd t
-names_alike (memberDue ending target) spot f around t = absurd t
-names_alike (operandDone ending target) spot f around t = absurd t
+names_alike (name_first setting) spot f around t = absurd t
+names_alike (return_first setting) spot f around t = absurd t
+names_alike (variable_due (in_statement setting)) spot f around t = absurd t
+names_alike (variable_due (in_head first)) spot f around t = absurd t
+names_alike if_first spot f around t = absurd t
+names_alike (operand_due (by_statement setting) target) spot f around t = absurd t
+names_alike (operand_due (by_return setting) target) spot f around t = absurd t
+names_alike (operand_due by_paren target) spot f around t = absurd t
+names_alike (operand_due by_bracket target) spot f around t = absurd t
+names_alike (operand_due (by_item call_arguments) target) spot f around t = absurd t
+names_alike (operand_due (by_item array_elements) target) spot f around t = absurd t
+names_alike (operand_due (by_item object_properties) target) spot f around t = absurd t
+names_alike (operand_due by_colon target) spot f around t = absurd t
+names_alike (member_due ending target) spot f around t = absurd t
+names_alike (operand_done ending target) spot f around t = absurd t
 names_alike (postfix_done ending) spot f around t = absurd t
-names_alike (dotLast ending target) spot f around t = refl
-names_alike (functionFirst declared) spot f around t = absurd t
-names_alike (functionFirst (operand_in ending target)) spot f around t = absurd t
-names_alike (functionNamed declared) spot f around t = absurd t
-names_alike (functionNamed (operand_in ending target)) spot f around t = absurd t
-names_alike (parameterPast declared) spot f around t = absurd t
-names_alike (parameterPast (operand_in ending target)) spot f around t = absurd t
-names_alike (item_due callArguments) spot f around t = absurd t
-names_alike (item_due arrayElements) spot f around t = absurd t
-names_alike (item_due objectProperties) spot f around t = refl
-names_alike propertyNamed spot f around t = absurd t
+names_alike (dot_last ending target) spot f around t = refl
+names_alike (function_first declared) spot f around t = absurd t
+names_alike (function_first (operand_in ending target)) spot f around t = absurd t
+names_alike (function_named declared) spot f around t = absurd t
+names_alike (function_named (operand_in ending target)) spot f around t = absurd t
+names_alike (parameter_past declared) spot f around t = absurd t
+names_alike (parameter_past (operand_in ending target)) spot f around t = absurd t
+names_alike (item_due call_arguments) spot f around t = absurd t
+names_alike (item_due array_elements) spot f around t = absurd t
+names_alike (item_due object_properties) spot f around t = refl
+names_alike property_named spot f around t = absurd t
 names_alike (parameter_due true) spot f around t = absurd t
 names_alike (parameter_due false) spot f around t = absurd t
-names_alike parameterNamed spot f around t = absurd t
+names_alike parameter_named spot f around t = absurd t
 names_alike finished spot f around t = absurd t
 names_alike control spot f around t = elim t [ ]
 

@@ -14,7 +14,7 @@ use Rattle.rule.specs.Trees.{Trees, none, leaf, group, paren_kind, object_kind, 
 use Rattle.rule.specs.Levels.{Levels, whole_text, inside, slash_opens, settled_in, on_top}
 use Rattle.rule.specs.Machinery.Summary.{operand}
 use Rattle.derivations.specs.Tokens.{class_of, increment, decrement, colon, open_paren, open_bracket, open_brace}
-use Rattle.derivations.specs.Senses.{Sense, beforeAt, after_at, answerAt, sense_of}
+use Rattle.derivations.specs.Senses.{Sense, before_at, after_at, answer_at, sense_of}
 use Rattle.machine.specs.Machinery.Machine.{Control, Frame, Open, State, live}
 use Rattle.agreement.proofs.TreeClasses.{is_leaf, no_leaf, opens_group, opened_kind, closes_group, holds, fails, is_update}
 use Rattle.derivations.proofs.Classes.{settled-kind, questions_of}
@@ -70,7 +70,7 @@ module _ (levels : Levels) (e : Element) (next : Control) (g : Frame) (around : 
     where
       go : (u c b x : Bool) → T (implies u (alike x (not b)))
           → sense_of (cond u (cond b before_kind after_kind) (cond c answer_kind e.kind)) e.first
-          ≡ cond u (cond x (after_at e.first) (beforeAt e.first) ∷ []) (cond c (answerAt e.first ∷ []) [])
+          ≡ cond u (cond x (after_at e.first) (before_at e.first) ∷ []) (cond c (answer_at e.first ∷ []) [])
       go true c true true t = absurd t
       go true c true false t = refl
       go true c false true t = refl

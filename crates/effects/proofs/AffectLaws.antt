@@ -23,23 +23,23 @@ use Rattle.machine.specs.Machinery.Machine.{
   head_words,
   jump_words,
   keep,
-  takeName,
-  takeMember,
-  endExpression,
-  endValue,
-  endBare,
-  endEmpty,
-  endVariable,
-  takeLabel,
-  takeElse,
-  holdWord,
-  takeLeaf,
-  takeOperator,
-  takePrefix,
-  takePostfix,
-  startStatement,
-  noTarget,
-  someTarget,
+  take_name,
+  take_member,
+  end_expression,
+  end_value,
+  end_bare,
+  end_empty,
+  end_variable,
+  take_label,
+  take_else,
+  hold_word,
+  take_leaf,
+  take_operator,
+  take_prefix,
+  take_postfix,
+  start_statement,
+  no_target,
+  some_target,
   allows_in,
   Setting,
   Control,
@@ -59,8 +59,8 @@ use Rattle.controls.specs.Machinery.Steps.{
   Leads,
   to_name,
   to_leaf,
-  to_function,
-  to_declaration,
+  to-function,
+  to-declaration,
   to_start,
   to_empty,
   to_else,
@@ -142,12 +142,12 @@ binary_fine : (within : Bool) (class : ℕ) → T (is_among (binary_operators_by
 binary_fine true class listed = fine class (at is_fine (found (binary_operators_by true) class listed) tt)
 binary_fine false class listed = fine class (at is_fine (found (binary_operators_by false) class listed) tt)
 
-operator_fine : {class : ℕ} {from to : Control} → Leads (takeOperator class) from to → Fine class
+operator_fine : {class : ℕ} {from to : Control} → Leads (take_operator class) from to → Fine class
 operator_fine {class = class} (to_assign may listed) = fine class (at is_fine (found assignment_operators class listed) tt)
 operator_fine {class = class} (to_operator {ending = ending} listed ended) = binary_fine (allows_in ending) class listed
 operator_fine (to_comma takes ended) = fine comma tt
 
-prefix_tight : {kind : ℕ} {from to : Control} → Leads (takePrefix kind) from to → 1 ≤ tightness kind
+prefix_tight : {kind : ℕ} {from to : Control} → Leads (take_prefix kind) from to → 1 ≤ tightness kind
 prefix_tight (to_prefix class listed due takes) =
     leb→le 1 (tightness (prefix_kind class)) (at (λ (k : ℕ). leb 1 (tightness (prefix_kind k))) (found prefix_operators class listed) tt)
 prefix_tight (to_new due) = omega arith
@@ -181,7 +181,7 @@ started_begins started_var = tt
 started_begins started_for = tt
 started_begins started_switch = tt
 
-start_begins : {kind : ℕ} {from to : Control} → Leads (startStatement kind) from to → T (is_beginning kind)
+start_begins : {kind : ℕ} {from to : Control} → Leads (start_statement kind) from to → T (is_beginning kind)
 unfolding binding
 start_begins (to_start started) = started_begins started
 start_begins to_variable = tt
@@ -218,103 +218,103 @@ effect_kept effect class a b d e f g h i j k m n o p q =
 
 module _ {l : Level} {stack cells : List ℕ} where
   pub leaf_affects : (class mark : ℕ) {r : Level} {cells' : List ℕ} → (r ≡ made_one l) × (cells' ≡ put_record cells l.count class mark (l.count - l.start + 1))
-      → Affects (takeLeaf class) mark l stack cells r stack cells'
+      → Affects (take_leaf class) mark l stack cells r stack cells'
   leaf_affects class mark e from to g nests table stack₀ first floor passed s (to_leaf due) more = rw (e.0, e.1) (takes_leaf more class mark due s)
 
   pub member_affects : (mark : ℕ) {r : Level} {cells' : List ℕ} → (r ≡ made_one l) × (cells' ≡ put_record cells l.count member_syntax mark (l.count - l.start + 1))
-      → Affects takeMember mark l stack cells r stack cells'
+      → Affects take_member mark l stack cells r stack cells'
   member_affects mark e from to g nests table stack₀ first floor passed s to_member more = rw (e.0, e.1) (takes_member more mark s)
 
   operator_affected : (class mark : ℕ) {from to : Control} {g : Frame} {nests : List machine.Open} {table stack₀ : List ℕ} {first floor passed : ℕ} {left : Level} {after : List ℕ}
       → mark ≤ most_trees → (l.top + 1) * width ≤ length stack → first + floor + passed < most_trees
       → (left.floor ≡ l.floor) × (left.held ≡ l.held) × Closes (threshold class + 1) l stack cells left after
-      → Leads (takeOperator class) from to → Fine class → Stands from g nests table stack₀ first floor passed l stack cells
-      → Stands to (machine.affect (takeOperator class) mark g) nests table stack₀ first floor (passed + 1) (waiting_one left)
+      → Leads (take_operator class) from to → Fine class → Stands from g nests table stack₀ first floor passed l stack cells
+      → Stands to (machine.affect (take_operator class) mark g) nests table stack₀ first floor (passed + 1) (waiting_one left)
       (stack_with stack left.top class mark left.start) after
   operator_affected class mark small room more closes (to_assign may listed) o s =
-      takes_operator more someTarget class mark small room o.tight o.some o.other closes.0 closes.1 closes.2 ended_operand s
+      takes_operator more some_target class mark small room o.tight o.some o.other closes.0 closes.1 closes.2 ended_operand s
   operator_affected class mark small room more closes (to_operator listed ended) o s =
-      takes_operator more noTarget class mark small room o.tight o.some o.other closes.0 closes.1 closes.2 ended s
+      takes_operator more no_target class mark small room o.tight o.some o.other closes.0 closes.1 closes.2 ended s
   operator_affected class mark small room more closes (to_comma takes ended) o s =
-      takes_operator more someTarget class mark small room o.tight o.some o.other closes.0 closes.1 closes.2 ended s
+      takes_operator more some_target class mark small room o.tight o.some o.other closes.0 closes.1 closes.2 ended s
 
   pub operator_affects : (class mark least : ℕ) {left r : Level} {after cells' : List ℕ} → mark ≤ most_trees → (l.top + 1) * width ≤ length stack → least ≡ threshold class
       → (left.floor ≡ l.floor) × (left.held ≡ l.held) × Closes (least + 1) l stack cells left cells'
-      → (r ≡ waiting_one left) × (after ≡ stack_with stack left.top class mark left.start) → Affects (takeOperator class) mark l stack cells r after cells'
+      → (r ≡ waiting_one left) × (after ≡ stack_with stack left.top class mark left.start) → Affects (take_operator class) mark l stack cells r after cells'
   operator_affects class mark least small room tight closes e from to g nests table stack₀ first floor passed s leads more =
       rw (e.0, e.1) (operator_affected class mark small room more (closes.0, closes.1, rw tight at closes.2) leads (operator_fine leads) s)
 
   prefix_affected : (kind mark : ℕ) {from to : Control} {g : Frame} {nests : List machine.Open} {table stack₀ : List ℕ} {first floor passed : ℕ} → mark ≤ most_trees
-      → (l.top + 1) * width ≤ length stack → first + floor + passed < most_trees → Leads (takePrefix kind) from to → 1 ≤ tightness kind
+      → (l.top + 1) * width ≤ length stack → first + floor + passed < most_trees → Leads (take_prefix kind) from to → 1 ≤ tightness kind
       → Stands from g nests table stack₀ first floor passed l stack cells
-      → Stands to (machine.affect (takePrefix kind) mark g) nests table stack₀ first floor (passed + 1) (waiting_one l) (stack_with stack l.top kind mark l.start) cells
+      → Stands to (machine.affect (take_prefix kind) mark g) nests table stack₀ first floor (passed + 1) (waiting_one l) (stack_with stack l.top kind mark l.start) cells
   prefix_affected kind mark small room more (to_prefix class listed due takes) tight s = takes-prefix more kind mark small room tight due s
   prefix_affected kind mark small room more (to_new due) tight s = takes_new more mark small room due s
 
   pub prefix_affects : (kind mark : ℕ) {by : ℕ} {r : Level} {after : List ℕ} → mark ≤ most_trees → (l.top + 1) * width ≤ length stack → by ≡ kind
-      → (r ≡ waiting_one l) × (after ≡ stack_with stack l.top by mark l.start) → Affects (takePrefix kind) mark l stack cells r after cells
+      → (r ≡ waiting_one l) × (after ≡ stack_with stack l.top by mark l.start) → Affects (take_prefix kind) mark l stack cells r after cells
   prefix_affects kind mark small room is e from to g nests table stack₀ first floor passed s leads more =
       rw (e.0, e.1, is) (prefix_affected kind mark small room more leads (prefix_tight leads) s)
 
   postfix_affected : (kind mark : ℕ) {from to : Control} {g : Frame} {nests : List machine.Open} {table stack₀ : List ℕ} {first floor passed : ℕ} {left : Level} {after : List ℕ}
       → first + floor + passed < most_trees → (left.floor ≡ l.floor) × (left.held ≡ l.held) × Closes (new_precedence + 1) l stack cells left after
-      → Leads (takePostfix kind) from to → Stands from g nests table stack₀ first floor passed l stack cells
-      → Stands to (machine.affect (takePostfix kind) mark g) nests table stack₀ first floor (passed + 1) (made_one left) stack
+      → Leads (take_postfix kind) from to → Stands from g nests table stack₀ first floor passed l stack cells
+      → Stands to (machine.affect (take_postfix kind) mark g) nests table stack₀ first floor (passed + 1) (made_one left) stack
       (put_record after left.count kind mark (left.count - left.start + 1))
   postfix_affected kind mark more closes (to_postfix class listed) s = takes_postfix more kind mark closes.0 closes.1 closes.2 s
 
   pub postfix_affects : (kind mark : ℕ) {by : ℕ} {left r : Level} {after cells' : List ℕ} → by ≡ kind
       → (left.floor ≡ l.floor) × (left.held ≡ l.held) × Closes (new_precedence + 1) l stack cells left after
-      → (r ≡ made_one left) × (cells' ≡ put_record after left.count by mark (left.count - left.start + 1)) → Affects (takePostfix kind) mark l stack cells r stack cells'
+      → (r ≡ made_one left) × (cells' ≡ put_record after left.count by mark (left.count - left.start + 1)) → Affects (take_postfix kind) mark l stack cells r stack cells'
   postfix_affects kind mark is closes e from to g nests table stack₀ first floor passed s leads more = rw (e.0, e.1, is) (postfix_affected kind mark more closes leads s)
 
   pub label_affects : (mark : ℕ) {r : Level} {after : List ℕ} → (l.top + 1) * width ≤ length stack
-      → (r ≡ waiting_one l) × (after ≡ stack_with stack l.top label_syntax l.held l.start) → Affects takeLabel mark l stack cells r after cells
+      → (r ≡ waiting_one l) × (after ≡ stack_with stack l.top label_syntax l.held l.start) → Affects take_label mark l stack cells r after cells
   label_affects mark room e from to g nests table stack₀ first floor passed s to_label more = rw (e.0, e.1) (takes_label more mark room s)
 
-  pub word_affects : (mark : ℕ) {r : Level} → mark ≤ most_trees → r ≡ with_held mark l → Affects holdWord mark l stack cells r stack cells
-  word_affects mark small e from to g nests table stack₀ first floor passed s (to_function due) more = rw e (holds_word more mark small due s)
-  word_affects mark small e from to g nests table stack₀ first floor passed s to_declaration more = rw e (holds_declared more mark small s)
+  pub word_affects : (mark : ℕ) {r : Level} → mark ≤ most_trees → r ≡ with_held mark l → Affects hold_word mark l stack cells r stack cells
+  word_affects mark small e from to g nests table stack₀ first floor passed s (to-function due) more = rw e (holds_word more mark small due s)
+  word_affects mark small e from to g nests table stack₀ first floor passed s to-declaration more = rw e (holds_declared more mark small s)
 
-  pub name_affects : (mark : ℕ) {r : Level} → mark ≤ most_trees → r ≡ with_held mark l → Affects takeName mark l stack cells r stack cells
+  pub name_affects : (mark : ℕ) {r : Level} → mark ≤ most_trees → r ≡ with_held mark l → Affects take_name mark l stack cells r stack cells
   name_affects mark small e from to g nests table stack₀ first floor passed s to_name more = rw e (holds_name more mark small s)
 
   pub start_affects : (kind mark : ℕ) {by : ℕ} {r : Level} {after : List ℕ} → mark ≤ most_trees → (l.top + 1) * width ≤ length stack → by ≡ kind
-      → (r ≡ waiting_one l) × (after ≡ stack_with stack l.top by mark l.start) → Affects (startStatement kind) mark l stack cells r after cells
+      → (r ≡ waiting_one l) × (after ≡ stack_with stack l.top by mark l.start) → Affects (start_statement kind) mark l stack cells r after cells
   start_affects kind mark small room is e from to g nests table stack₀ first floor passed s leads more =
       let b = begins kind (start_begins leads) in
       rw (e.0, e.1, is) (starts_statement more mark small room leads b.some b.binds s)
 
   pub expression_affects : (mark : ℕ) {left one all : Level} {after cells' cells'' : List ℕ} → (left.floor ≡ l.floor) × (left.held ≡ l.held) × Closes 2 l stack cells left after
       → (one ≡ made_one left) × (cells' ≡ put_record after left.count expression_syntax mark (left.count - left.start + 1)) → Completes one stack cells' all cells''
-      → Affects endExpression mark l stack cells all stack cells''
+      → Affects end_expression mark l stack cells all stack cells''
   expression_affects mark closes e completes from to g nests table stack₀ first floor passed s (to_end ended) more =
       ends_expression more mark closes.0 closes.1 closes.2 (rw (e.0, e.1) at completes) ended s
 
-  pub value_affects : (mark : ℕ) {all : Level} {cells' : List ℕ} → Completes l stack cells all cells' → Affects endValue mark l stack cells all stack cells'
+  pub value_affects : (mark : ℕ) {all : Level} {cells' : List ℕ} → Completes l stack cells all cells' → Affects end_value mark l stack cells all stack cells'
   value_affects mark completes from to g nests table stack₀ first floor passed s leads more = ends_value more mark completes (at_value leads s)
 
   pub bare_affects : (mark k m : ℕ) {one all : Level} {cells' cells'' : List ℕ} → get_or stack ((l.top - 1) * width) 0 ≡ k → get_or stack ((l.top - 1) * width + 1) 0 ≡ m
       → (one ≡ made_one (back_one l)) × (cells' ≡ put_record cells l.count (k - 1) m (l.count - l.count + 1)) → Completes one stack cells' all cells''
-      → Affects endBare mark l stack cells all stack cells''
+      → Affects end_bare mark l stack cells all stack cells''
   bare_affects mark k m kind_at mark-at e completes from to g nests table stack₀ first floor passed s (to_bare_end {setting = setting}) more =
       ends-bare more mark (at_word {setting = setting} s s.shaped refl) kind_at mark-at (rw (e.0, e.1) at completes)
   bare_affects mark k m kind_at mark-at e completes from to g nests table stack₀ first floor passed s (to_bare_jump {setting = setting}) more =
       ends-bare more mark (at_word {setting = setting} s s.shaped refl) kind_at mark-at (rw (e.0, e.1) at completes)
 
   pub empty_affects : (mark : ℕ) {one all : Level} {cells' cells'' : List ℕ} → (one ≡ made_one l) × (cells' ≡ put_record cells l.count empty_syntax mark (l.count - l.start + 1))
-      → Completes one stack cells' all cells'' → Affects endEmpty mark l stack cells all stack cells''
+      → Completes one stack cells' all cells'' → Affects end_empty mark l stack cells all stack cells''
   empty_affects mark e completes from to g nests table stack₀ first floor passed s to_empty more = ends_empty more mark (rw (e.0, e.1) at completes) s
 
   pub variable_affects : (mark m : ℕ) {whole one : Level} {after cells' : List ℕ} → (whole.floor ≡ l.floor) × (whole.held ≡ l.held) × Closes 2 l stack cells whole after
       → get_or stack ((whole.top - 1) * width + 1) 0 ≡ m
       → (one ≡ made_one (left_one whole stack)) × (cells' ≡ put_record after whole.count variable_syntax m (whole.count - get_or stack ((whole.top - 1) * width + 2) 0 + 1))
-      → Affects endVariable mark l stack cells (restarted one) stack cells'
+      → Affects end_variable mark l stack cells (restarted one) stack cells'
   variable_affects mark m closes mark-at e from to g nests table stack₀ first floor passed s (to_next_variable ended) more =
       rw (e.0, e.1) (ends_variable more mark closes.0 closes.1 closes.2 mark-at ended s)
 
   pub else_affects : (mark : ℕ) {r : Level} {after : List ℕ} → mark ≤ most_trees → (l.top + 1) * width ≤ length stack
-      → (r ≡ waiting_one (undone_one l stack)) × (after ≡ stack_with stack l.top else_word mark (get_or stack ((l.top - 1) * width + 2) 0)) → Affects takeElse mark l stack cells r after cells
+      → (r ≡ waiting_one (undone_one l stack)) × (after ≡ stack_with stack l.top else_word mark (get_or stack ((l.top - 1) * width + 2) 0)) → Affects take_else mark l stack cells r after cells
   else_affects mark small room e from to g nests table stack₀ first floor passed s to_else more = rw (e.0, e.1) (takes_else more mark small room s)
 
   pub keep_affects : (mark : ℕ) → Affects keep mark l stack cells l stack cells
@@ -322,23 +322,23 @@ module _ {l : Level} {stack cells : List ℕ} where
 
 -- what the calls in between ask for
 module _ {kind by mark : ℕ} {l : Level} {stack cells : List ℕ} where
-  pub prefix_asks : MayAffect (takePrefix kind) mark l stack cells → by ≡ kind
+  pub prefix_asks : MayAffect (take_prefix kind) mark l stack cells → by ≡ kind
       → ((l.top + 1) * width ≤ length stack) × (by < 65536) × (mark ≤ most_trees) × (l.start ≤ most_trees)
   prefix_asks may is =
       let s = may.somewhere.stands in
       (may.room, omega (arith, is, operator_small kind (prefix_tight may.leads)), omega (arith, may.marked), omega (arith, s.holds.counts, s.holds.few))
 
-  pub start_asks : MayAffect (startStatement kind) mark l stack cells → by ≡ kind
+  pub start_asks : MayAffect (start_statement kind) mark l stack cells → by ≡ kind
       → ((l.top + 1) * width ≤ length stack) × (by < 65536) × (mark ≤ most_trees) × (l.start ≤ most_trees)
   start_asks may is =
       let s = may.somewhere.stands in
       (may.room, omega (arith, is, (begins kind (start_begins may.leads)).small), omega (arith, may.marked), omega (arith, s.holds.counts, s.holds.few))
 
-pub threshold_small : {class mark : ℕ} {l : Level} {stack cells : List ℕ} → MayAffect (takeOperator class) mark l stack cells → threshold class ≤ new_precedence
+pub threshold_small : {class mark : ℕ} {l : Level} {stack cells : List ℕ} → MayAffect (take_operator class) mark l stack cells → threshold class ≤ new_precedence
 threshold_small may = (operator_fine may.leads).small
 
 module _ {mark : ℕ} {l r : Level} {stack cells after : List ℕ} where
-  pub operator_asks : (least : ℕ) {class : ℕ} → MayAffect (takeOperator class) mark l stack cells → (r.floor ≡ l.floor) × (r.held ≡ l.held) × Closes least l stack cells r after
+  pub operator_asks : (least : ℕ) {class : ℕ} → MayAffect (take_operator class) mark l stack cells → (r.floor ≡ l.floor) × (r.held ≡ l.held) × Closes least l stack cells r after
       → ((r.top + 1) * width ≤ length stack) × (class < 65536) × (mark ≤ most_trees) × (r.start ≤ most_trees)
   operator_asks least {class = class} may closes =
       let s = may.somewhere.stands in
@@ -352,7 +352,7 @@ module _ {mark : ℕ} {l r : Level} {stack cells after : List ℕ} where
       let light = closes_lightens _ s.holds closes.0 closes.2 in
       (light.started, omega (arith, light, s.holds.few), omega (arith, may.marked))
 
-  pub expression_held : (kind : ℕ) {one : Level} {cells' : List ℕ} → MayAffect endExpression mark l stack cells
+  pub expression_held : (kind : ℕ) {one : Level} {cells' : List ℕ} → MayAffect end_expression mark l stack cells
       → (r.floor ≡ l.floor) × (r.held ≡ l.held) × Closes 2 l stack cells r after
       → (one ≡ made_one r) × (cells' ≡ put_record after r.count kind mark (r.count - r.start + 1)) → Backed one stack cells'
   expression_held kind may closes e =
@@ -361,7 +361,7 @@ module _ {mark : ℕ} {l r : Level} {stack cells after : List ℕ} where
       rw (e.0, e.1)
       (backed (carries_made (carries_expression (carried s) closes.0 closes.1 closes.2) kind mark (omega (arith, light, s.passes, may.more))).holds)
 
-pub empty_held : {mark : ℕ} {l one : Level} {stack cells cells' : List ℕ} → MayAffect endEmpty mark l stack cells
+pub empty_held : {mark : ℕ} {l one : Level} {stack cells cells' : List ℕ} → MayAffect end_empty mark l stack cells
     → (one ≡ made_one l) × (cells' ≡ put_record cells l.count empty_syntax mark (l.count - l.start + 1)) → Backed one stack cells'
 empty_held {mark = mark} may e =
     let s = may.somewhere.stands in
@@ -402,15 +402,15 @@ module _ {l : Level} {stack cells : List ℕ} where
         holds = λ k m e. rw (e.0, e.1) (backed (carries_made (carries_back h.carries) k m (omega (arith, h.passes))).holds);
       }
 
-  alone : {from to : Control} {g : Frame} {nests : List machine.Open} {table stack₀ : List ℕ} {first floor passed : ℕ} → Leads endBare from to
+  alone : {from to : Control} {g : Frame} {nests : List machine.Open} {table stack₀ : List ℕ} {first floor passed : ℕ} → Leads end_bare from to
       → Stands from g nests table stack₀ first floor passed l stack cells → first + floor + passed < most_trees → Alone l stack cells
   alone (to_bare_end {setting = setting}) s more = word_alone (at_word {setting = setting} s s.shaped refl) more
   alone (to_bare_jump {setting = setting}) s more = word_alone (at_word {setting = setting} s s.shaped refl) more
 
-  pub bare_asks : {mark : ℕ} → MayAffect endBare mark l stack cells → Alone l stack cells
+  pub bare_asks : {mark : ℕ} → MayAffect end_bare mark l stack cells → Alone l stack cells
   bare_asks may = alone may.leads may.somewhere.stands may.more
 
-  joining : {from to : Control} {g : Frame} {nests : List machine.Open} {table stack₀ : List ℕ} {first floor passed : ℕ} {r : Level} {after : List ℕ} → Leads endVariable from to
+  joining : {from to : Control} {g : Frame} {nests : List machine.Open} {table stack₀ : List ℕ} {first floor passed : ℕ} {r : Level} {after : List ℕ} → Leads end_variable from to
       → Stands from g nests table stack₀ first floor passed l stack cells → (r.floor ≡ l.floor) × (r.held ≡ l.held) × Closes 2 l stack cells r after → Joining r stack
   joining (to_next_variable ended) s closes =
       let h = carries_expression (at_variable ended s).carries closes.0 closes.1 closes.2 in
@@ -423,23 +423,23 @@ module _ {l : Level} {stack cells : List ℕ} where
         room = omega (arith, h.holds.few);
       }
 
-  pub variable_asks : {mark : ℕ} {r : Level} {after : List ℕ} → MayAffect endVariable mark l stack cells
+  pub variable_asks : {mark : ℕ} {r : Level} {after : List ℕ} → MayAffect end_variable mark l stack cells
       → (r.floor ≡ l.floor) × (r.held ≡ l.held) × Closes 2 l stack cells r after → Joining r stack
   variable_asks may closes = joining may.leads may.somewhere.stands closes
 
-  before : {from to : Control} {g : Frame} {nests : List machine.Open} {table stack₀ : List ℕ} {first floor passed : ℕ} → Leads takeElse from to
+  before : {from to : Control} {g : Frame} {nests : List machine.Open} {table stack₀ : List ℕ} {first floor passed : ℕ} → Leads take_else from to
       → Stands from g nests table stack₀ first floor passed l stack cells → Before l stack
   before to_else s = let a = carries_around s.shaped.4 (left-one refl) (nest_done s) in record { waits = a.waits; fits = a.fits; started = a.started }
 
-  pub else_asks : {mark : ℕ} → MayAffect takeElse mark l stack cells → Before l stack
+  pub else_asks : {mark : ℕ} → MayAffect take_else mark l stack cells → Before l stack
   else_asks may = before may.leads may.somewhere.stands
 
   -- neither what ends a bare statement nor what ends a variable takes account of the mark
-  pub bare_any : (mark : ℕ) {r : Level} {after cells' : List ℕ} → Affects endBare 0 l stack cells r after cells' → Affects endBare mark l stack cells r after cells'
+  pub bare_any : (mark : ℕ) {r : Level} {after cells' : List ℕ} → Affects end_bare 0 l stack cells r after cells' → Affects end_bare mark l stack cells r after cells'
   bare_any mark affects from to (frame done starts waiting operand) nests table stack₀ first floor passed s leads more =
       affects from to (frame done starts waiting operand) nests table stack₀ first floor passed s leads more
 
-  pub variable_any : (mark : ℕ) {r : Level} {after cells' : List ℕ} → Affects endVariable 0 l stack cells r after cells' → Affects endVariable mark l stack cells r after cells'
+  pub variable_any : (mark : ℕ) {r : Level} {after cells' : List ℕ} → Affects end_variable 0 l stack cells r after cells' → Affects end_variable mark l stack cells r after cells'
   variable_any mark affects from to (frame done starts waiting operand) nests table stack₀ first floor passed s leads more =
       affects from to (frame done starts waiting operand) nests table stack₀ first floor passed s leads more
 

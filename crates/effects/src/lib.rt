@@ -2,7 +2,7 @@
 #![tactic(auto)]
 
 ghost use Rattle.machine.specs.Operators.{prefix_kind, postfix_kind};
-ghost use Rattle.machine.specs.Machinery.Machine.{endExpression, endBare, endEmpty, endVariable, takeElse, takeOperator, takePrefix, takePostfix};
+ghost use Rattle.machine.specs.Machinery.Machine.{end_expression, end_bare, end_empty, end_variable, take_else, take_operator, take_prefix, take_postfix};
 ghost use Rattle.controls.specs.Machinery.Numbers.{effect_by};
 ghost use Rattle.frames.specs.Machinery.Effects.{MayAffect, Affects};
 
@@ -12,8 +12,8 @@ use waiting::Level;
 
 // An operator behind an operand.
 fn operated(l: Level, class: u32, mark: usize, waiting: &mut [u16], syntax: &mut [u32]) -> Level
-    requires { MayAffect (takeOperator class) mark l waiting.old syntax.old }
-    ensures { Affects (takeOperator class) mark l waiting.old syntax.old result waiting.new syntax.new }
+    requires { MayAffect (take_operator class) mark l waiting.old syntax.old }
+    ensures { Affects (take_operator class) mark l waiting.old syntax.old result waiting.new syntax.new }
 {
     let least = bindings::threshold(class) + 1;
     let left = waiting::closed(l, least, waiting, syntax);
@@ -22,8 +22,8 @@ fn operated(l: Level, class: u32, mark: usize, waiting: &mut [u16], syntax: &mut
 
 // An operator before its operand, or `new`.
 fn prefixed(l: Level, class: u32, mark: usize, waiting: &mut [u16], syntax: &[u32]) -> Level
-    requires { MayAffect (takePrefix (prefix_kind class)) mark l waiting.old syntax.now }
-    ensures { Affects (takePrefix (prefix_kind class)) mark l waiting.old syntax.now result waiting.new syntax.now }
+    requires { MayAffect (take_prefix (prefix_kind class)) mark l waiting.old syntax.now }
+    ensures { Affects (take_prefix (prefix_kind class)) mark l waiting.old syntax.now result waiting.new syntax.now }
 {
     let kind = bindings::prefix_kind(class);
     waiting::wait(l, kind, mark, waiting)
@@ -31,8 +31,8 @@ fn prefixed(l: Level, class: u32, mark: usize, waiting: &mut [u16], syntax: &[u3
 
 // `++` or `--` behind an operand: what binds as `new` does is closed first.
 fn postfixed(l: Level, class: u32, mark: usize, waiting: &[u16], syntax: &mut [u32]) -> Level
-    requires { MayAffect (takePostfix (postfix_kind class)) mark l waiting.now syntax.old }
-    ensures { Affects (takePostfix (postfix_kind class)) mark l waiting.now syntax.old result waiting.now syntax.new }
+    requires { MayAffect (take_postfix (postfix_kind class)) mark l waiting.now syntax.old }
+    ensures { Affects (take_postfix (postfix_kind class)) mark l waiting.now syntax.old result waiting.now syntax.new }
 {
     let whole = waiting::closed(l, 15, waiting, syntax);
     let kind = bindings::postfix_kind(class);
@@ -41,8 +41,8 @@ fn postfixed(l: Level, class: u32, mark: usize, waiting: &[u16], syntax: &mut [u
 
 // `;` behind an expression.
 fn expression_ended(l: Level, mark: usize, waiting: &[u16], syntax: &mut [u32]) -> Level
-    requires { MayAffect endExpression mark l waiting.now syntax.old }
-    ensures { Affects endExpression mark l waiting.now syntax.old result waiting.now syntax.new }
+    requires { MayAffect end_expression mark l waiting.now syntax.old }
+    ensures { Affects end_expression mark l waiting.now syntax.old result waiting.now syntax.new }
 {
     let whole = waiting::closed(l, 2, waiting, syntax);
     let one = waiting::made(whole, records::EXPRESSION, mark, syntax);
@@ -51,8 +51,8 @@ fn expression_ended(l: Level, mark: usize, waiting: &[u16], syntax: &mut [u32]) 
 
 // `;` behind `return`, `continue` or `break`: what waits last has nothing behind its word, and its kind is the number before.
 fn bare_ended(l: Level, waiting: &[u16], syntax: &mut [u32]) -> Level
-    requires { MayAffect endBare 0 l waiting.now syntax.old }
-    ensures { Affects endBare 0 l waiting.now syntax.old result waiting.now syntax.new }
+    requires { MayAffect end_bare 0 l waiting.now syntax.old }
+    ensures { Affects end_bare 0 l waiting.now syntax.old result waiting.now syntax.new }
 {
     let top = l.top - 1;
     let mark = waiting[top * waiting::WIDTH + 1] as usize;
@@ -70,8 +70,8 @@ fn bare_ended(l: Level, waiting: &[u16], syntax: &mut [u32]) -> Level
 
 // A variable ends: it joins those before it, which stand behind the `var` that waits.
 fn variable_ended(l: Level, waiting: &[u16], syntax: &mut [u32]) -> Level
-    requires { MayAffect endVariable 0 l waiting.now syntax.old }
-    ensures { Affects endVariable 0 l waiting.now syntax.old result waiting.now syntax.new }
+    requires { MayAffect end_variable 0 l waiting.now syntax.old }
+    ensures { Affects end_variable 0 l waiting.now syntax.old result waiting.now syntax.new }
 {
     let whole = waiting::closed(l, 2, waiting, syntax);
     let top = whole.top - 1;
@@ -95,8 +95,8 @@ fn variable_ended(l: Level, waiting: &[u16], syntax: &mut [u32]) -> Level
 
 // `else`: the `if` before it, which is all that its nest has, is its first part.
 fn other_started(l: Level, mark: usize, waiting: &mut [u16], syntax: &[u32]) -> Level
-    requires { MayAffect takeElse mark l waiting.old syntax.now }
-    ensures { Affects takeElse mark l waiting.old syntax.now result waiting.new syntax.now }
+    requires { MayAffect take_else mark l waiting.old syntax.now }
+    ensures { Affects take_else mark l waiting.old syntax.now result waiting.new syntax.now }
 {
     let whole = Level {
         count: l.count,
@@ -110,8 +110,8 @@ fn other_started(l: Level, mark: usize, waiting: &mut [u16], syntax: &[u32]) -> 
 
 // An empty statement.
 fn empty_ended(l: Level, mark: usize, waiting: &[u16], syntax: &mut [u32]) -> Level
-    requires { MayAffect endEmpty mark l waiting.now syntax.old }
-    ensures { Affects endEmpty mark l waiting.now syntax.old result waiting.now syntax.new }
+    requires { MayAffect end_empty mark l waiting.now syntax.old }
+    ensures { Affects end_empty mark l waiting.now syntax.old result waiting.now syntax.new }
 {
     let one = waiting::made(l, records::EMPTY, mark, syntax);
     waiting::completed(one, waiting, syntax)

@@ -7,8 +7,8 @@ use borrow.Author.Tests.{eqb-true, ne_eqb}
 use lib.Dec.{T, eqb}
 use Rattle.machine.specs.Tokens.{name, new_word, colon, open_paren, open_brace, open_bracket, function_word}
 use Rattle.machine.specs.Operators.{prefix_operators, prefix_kind, is_among}
-use Rattle.machine.specs.Scopes.{arrayElements, objectProperties}
-use Rattle.machine.specs.Machinery.Machine.{Setting, Target, noTarget, someTarget, Ending, byParen, operand_in, statement_due, nameFirst, operandDue, memberDue, operandDone, functionFirst, item_due, takeLeaf, takePrefix, takeLabel, holdWord, toParens, toArray, toObject, Entry, on, Action, fail, goto, push, look, values, primaries, operand, member, no_parameter, row}
+use Rattle.machine.specs.Scopes.{array_elements, object_properties}
+use Rattle.machine.specs.Machinery.Machine.{Setting, Target, no_target, some_target, Ending, by_paren, operand_in, statement_due, name_first, operand_due, member_due, operand_done, function_first, item_due, take_leaf, take_prefix, take_label, hold_word, to_parens, to_array, to_object, Entry, on, Action, fail, goto, push, look, values, primaries, operand, member, no_parameter, row}
 use Rattle.machine.specs.Machinery.Classes.{is_leaf, is_end, is_single}
 use Rattle.controls.proofs.ClassLaws.{among_all, among_apart, leaf_among}
 use Rattle.controls.proofs.EndLaws.{NoCloser, at_closers}
@@ -18,37 +18,37 @@ module _ (class : ℕ) (ending : Ending) (target : Target) where
   -- what `primaries` has besides values
   abbrev groups : List Entry
   groups =
-      on open_paren (push (operandDue byParen someTarget) (operandDone ending target) toParens)
-      ∷ on open_bracket (push (item_due arrayElements) (operandDone ending target) toArray)
-      ∷ on new_word (goto (memberDue ending target) (takePrefix new_word))
+      on open_paren (push (operand_due by_paren some_target) (operand_done ending target) to_parens)
+      ∷ on open_bracket (push (item_due array_elements) (operand_done ending target) to_array)
+      ∷ on new_word (goto (member_due ending target) (take_prefix new_word))
       ∷ []
 
   -- the leaves at once
-  pub leaf_row : is_leaf class ≡ true → (look class (member ending target) ≡ goto (operandDone ending target) (takeLeaf class)) × T (is_single class)
+  pub leaf_row : is_leaf class ≡ true → (look class (member ending target) ≡ goto (operand_done ending target) (take_leaf class)) × T (is_single class)
   leaf_row is = go (eqb class name) refl (sym (leaf_among class) ∙ is)
     where
       go : (b : Bool) → eqb class name ≡ b → cond b true (is_among values class) ≡ true
-          → (look class (member ending target) ≡ goto (operandDone ending target) (takeLeaf class)) × T (is_single class)
+          → (look class (member ending target) ≡ goto (operand_done ending target) (take_leaf class)) × T (is_single class)
       go true e is = rw (eqb-true class name e) (refl, tt)
       go false e is = (
         rw (e, among_apart class values open_brace refl is, among_apart class values function_word refl is)
-            (among_entry class (λ class. goto (operandDone ending target) (takeLeaf class)) values groups is),
+            (among_entry class (λ class. goto (operand_done ending target) (take_leaf class)) values groups is),
         among_all class is_single values tt is,
       )
 
   -- operators before an operand at once, and what is no such operator
   pub prefix_row : is_among prefix_operators class ≡ true
-      → (look class (operand ending target) ≡ goto (operandDue ending noTarget) (takePrefix (prefix_kind class))) × T (is_single class)
+      → (look class (operand ending target) ≡ goto (operand_due ending no_target) (take_prefix (prefix_kind class))) × T (is_single class)
   prefix_row is = (
     rw (among_apart class prefix_operators name refl is, among_apart class prefix_operators open_brace refl is, among_apart class prefix_operators function_word refl is)
-        (among_entry class (λ class. goto (operandDue ending noTarget) (takePrefix (prefix_kind class))) prefix_operators (primaries ending target []) is),
+        (among_entry class (λ class. goto (operand_due ending no_target) (take_prefix (prefix_kind class))) prefix_operators (primaries ending target []) is),
     among_all class is_single prefix_operators tt is,
   )
 
   pub no_prefix_row : is_among prefix_operators class ≡ false → look class (operand ending target) ≡ look class (member ending target)
   no_prefix_row none =
-      ap (λ (x : Action). cond (eqb class name) (goto (operandDone ending target) (takeLeaf name)) (cond (eqb class open_brace) (push (item_due objectProperties) (operandDone ending target) toObject) (cond (eqb class function_word) (goto (functionFirst (operand_in ending target)) holdWord) x)))
-      (other_entry class (λ class. goto (operandDue ending noTarget) (takePrefix (prefix_kind class))) prefix_operators (primaries ending target []) none)
+      ap (λ (x : Action). cond (eqb class name) (goto (operand_done ending target) (take_leaf name)) (cond (eqb class open_brace) (push (item_due object_properties) (operand_done ending target) to_object) (cond (eqb class function_word) (goto (function_first (operand_in ending target)) hold_word) x)))
+      (other_entry class (λ class. goto (operand_due ending no_target) (take_prefix (prefix_kind class))) prefix_operators (primaries ending target []) none)
 
   -- a class that starts no operand
   pub no_member : is_leaf class ≡ false → (class ≡ open_paren → ⊥) → (class ≡ open_brace → ⊥) → (class ≡ open_bracket → ⊥) → (class ≡ function_word → ⊥)
@@ -59,12 +59,12 @@ module _ (class : ℕ) (ending : Ending) (target : Target) where
       go true e none = absurd (subst T none tt)
       go false f none =
           rw (f, ne_eqb class open_brace b, ne_eqb class function_word d)
-          (other_entry class (λ class. goto (operandDone ending target) (takeLeaf class)) values groups none
+          (other_entry class (λ class. goto (operand_done ending target) (take_leaf class)) values groups none
           ∙ rw (ne_eqb class open_paren a, ne_eqb class open_bracket c, ne_eqb class new_word e))
 
 -- a name that is held, before `:`
 pub label_row : (class : ℕ) (setting : Setting) (newline : Bool) → class ≡ colon
-    → look class (row (nameFirst setting) newline) ≡ look class (on colon (goto (statement_due true setting) takeLabel) ∷ [])
+    → look class (row (name_first setting) newline) ≡ look class (on colon (goto (statement_due true setting) take_label) ∷ [])
 label_row class setting newline e = rw e
 
 -- no operand starts with a closer

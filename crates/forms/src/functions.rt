@@ -1,6 +1,6 @@
 // Rows of functions and of their parameters.
 ghost use Rattle.std.specs.Prelude.{Bool, false, ℕ, ◌≤◌, ◌<◌};
-ghost use Rattle.machine.specs.Machinery.Machine.{operand_in, functionFirst, look, row};
+ghost use Rattle.machine.specs.Machinery.Machine.{operand_in, function_first, look, row};
 ghost use Rattle.controls.specs.Machinery.Numbers.{ending_by, target_by, control_by};
 ghost use Rattle.controls.specs.Machinery.Steps.{Means};
 
@@ -60,7 +60,7 @@ pub fn function_row(place: u32, ending: u32, setting: u32, flag: bool, class: u3
 
 // Behind `function` in an expression, which needs no name.
 fn unnamed_row(ending: u32, setting: u32, flag: bool, class: u32) -> Step
-    ensures { Means (functionFirst (operand_in (ending_by ending setting) (target_by ending flag))) class result (look class (row (functionFirst (operand_in (ending_by ending setting) (target_by ending flag))) false)) }
+    ensures { Means (function_first (operand_in (ending_by ending setting) (target_by ending flag))) class result (look class (row (function_first (operand_in (ending_by ending setting) (target_by ending flag))) false)) }
 {
     if class == tokens::NAME {
         return goto(FUNCTION_NAMED, ending, setting, flag, KEEP);

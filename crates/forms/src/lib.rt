@@ -3,7 +3,7 @@
 
 ghost use Rattle.std.specs.Prelude.{Bool, true, [], ◌∷◌, ◌≤◌, ◌<◌, T};
 ghost use Rattle.machine.specs.Tokens.{open_paren};
-ghost use Rattle.machine.specs.Scopes.{arrayElements};
+ghost use Rattle.machine.specs.Scopes.{array_elements};
 ghost use Rattle.machine.specs.Machinery.Machine.{item_due, on, goto, push, look, names, operand, member, item_row, row};
 ghost use Rattle.controls.specs.Machinery.Numbers.{items_by, ending_by, target_by, control_by, effect_by, closing_by, inside_by};
 ghost use Rattle.machine.specs.Machinery.Classes.{is_opener, is_single};
@@ -139,7 +139,7 @@ fn head_row(class: u32, place: u32, setting: u32, closing: u32) -> Step
 
 // An element of an array, or the `,` of a hole.
 fn element_row(class: u32) -> Step
-    ensures { Means (item_due arrayElements) class result (look class (item_row arrayElements)) }
+    ensures { Means (item_due array_elements) class result (look class (item_row array_elements)) }
 {
     if class == tokens::COMMA {
         return goto(ITEM_DUE, BY_ELEMENT, BODY, true, KEEP);

@@ -2,7 +2,7 @@
 ghost use Rattle.std.specs.Prelude.{Bool, true, false, [], ◌∷◌, ℕ, ◌≤◌};
 ghost use Rattle.machine.specs.Tokens.{open_brace};
 ghost use Rattle.machine.specs.Scopes.{block};
-ghost use Rattle.machine.specs.Machinery.Machine.{among, someTarget, by_case, toBlock, statement_due, operandDue, switchPast, clause_due, defaultFirst, tryDone, on, push, look, row};
+ghost use Rattle.machine.specs.Machinery.Machine.{among, some_target, by_case, to_block, statement_due, operand_due, switch_past, clause_due, default_first, try_done, on, push, look, row};
 ghost use Rattle.controls.specs.Machinery.Numbers.{setting_by, control_by};
 ghost use Rattle.controls.specs.Machinery.Steps.{Spans, Means, Goes};
 
@@ -50,7 +50,7 @@ pub fn word_form_row(place: u32, ending: u32, setting: u32, class: u32) -> Step
 
 // The block of a `switch`.
 fn switch_row(class: u32, setting: u32) -> Step
-    ensures { Means (switchPast (setting_by setting)) class result (look class (row (switchPast (setting_by setting)) false)) }
+    ensures { Means (switch_past (setting_by setting)) class result (look class (row (switch_past (setting_by setting)) false)) }
 {
     if class == tokens::OPEN_BRACE {
         return Step::Push(behind_statement(setting), TO_CLAUSES);
@@ -81,7 +81,7 @@ fn clause_row(class: u32, seen: bool) -> Step
 
 // The value of a `case` tells whether a `default` has come.
 fn case_row(seen: bool) -> Step
-    ensures { Goes result (operandDue (by_case seen) someTarget) 7 }
+    ensures { Goes result (operand_due (by_case seen) some_target) 7 }
 {
     if seen {
         return goto(OPERAND_DUE, BY_LAST_CASE, BODY, true, START_STATEMENT);
@@ -91,7 +91,7 @@ fn case_row(seen: bool) -> Step
 
 // Behind `default`.
 fn default_row(class: u32) -> Step
-    ensures { Means defaultFirst class result (look class (row defaultFirst false)) }
+    ensures { Means default_first class result (look class (row default_first false)) }
 {
     if class == tokens::COLON {
         return Step::Enter(OF_LAST_CLAUSE, BODY);
@@ -118,7 +118,7 @@ pub fn try_row(place: u32, flag: bool, class: u32) -> Step
 
 // A block of a `try`, behind which the machine stands at a place.
 fn block_row(class: u32, place: u32) -> Step
-    ensures { (from : Rattle.machine.specs.Machinery.Machine.Control) → Spans toBlock from (control_by place 0 0 true) → Means from class result (look class (on open_brace (push (statement_due false (among block)) (control_by place 0 0 true) toBlock) ∷ [])) }
+    ensures { (from : Rattle.machine.specs.Machinery.Machine.Control) → Spans to_block from (control_by place 0 0 true) → Means from class result (look class (on open_brace (push (statement_due false (among block)) (control_by place 0 0 true) to_block) ∷ [])) }
 {
     opens(
         class,
@@ -133,7 +133,7 @@ fn block_row(class: u32, place: u32) -> Step
 
 // Behind the block of a `try`.
 fn handler_row(class: u32) -> Step
-    ensures { Means tryDone class result (look class (row tryDone false)) }
+    ensures { Means try_done class result (look class (row try_done false)) }
 {
     if class == tokens::CATCH {
         return goto(CATCH_FIRST, BY_STATEMENT, BODY, true, START_STATEMENT);

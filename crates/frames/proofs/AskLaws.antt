@@ -9,7 +9,7 @@ use Rattle.machine.specs.Tokens.{question}
 use Rattle.machine.specs.Syntax.{Syntax, nil}
 use Rattle.machine.specs.Operators.{least_binary}
 use Rattle.machine.specs.Machinery.Machine as machine
-use Rattle.machine.specs.Machinery.Machine.{Frame, wrap, empty, operand_of, value_of, expressionValue, someTarget, byColon, Control, operandDue, asking}
+use Rattle.machine.specs.Machinery.Machine.{Frame, wrap, empty, operand_of, value_of, expression_value, some_target, by_colon, Control, operand_due, asking}
 use Rattle.controls.specs.Machinery.Numbers.{control_of}
 use Rattle.controls.specs.Machinery.Steps.{Ended}
 use Rattle.controls.specs.declared.Control as code
@@ -23,8 +23,8 @@ use Rattle.frames.proofs.AtLaws.{AtEnded, at_ended}
 
 -- what stands behind an open `?` is the rest of its left side
 turned : {g : Frame} {nests : List machine.Open} {table stack₀ : List ℕ} {first floor next : ℕ} {r : Level} {stack after : List ℕ} {c : code.Control} {value : Syntax} (kind : ℕ)
-    → value_of expressionValue g ≡ value → (a : Answering nests table stack₀ first floor value r stack after)
-    → r.count + r.top ≤ first + floor + next → first + floor + next ≤ most_trees → get_or stack ((r.top - 1) * width) 0 ≡ kind → control_of c ≡ operandDue (asked_in kind) someTarget
+    → value_of expression_value g ≡ value → (a : Answering nests table stack₀ first floor value r stack after)
+    → r.count + r.top ≤ first + floor + next → first + floor + next ≤ most_trees → get_or stack ((r.top - 1) * width) 0 ≡ kind → control_of c ≡ operand_due (asked_in kind) some_target
     → TurnedTo g nests table stack₀ first floor next (record { control = c; level = restarted r }) (stack_as stack r.top question) after
 turned kind value_is a passes few at control_is =
     let same : kind ≡ a.kind = omega (arith, a.stacked) in
@@ -43,7 +43,7 @@ module _ {g : Frame} {nests : List machine.Open} {table stack₀ : List ℕ} {fi
   -- what is binary or tighter is closed, and the condition waits
   pub asks : {from : Control} (kind mark : ℕ) → first + floor + passed < most_trees → AskNumber kind → mark ≤ most_trees → (l.top + 1) * width ≤ length stack → Closes (least_binary + 1) l stack cells r after
       → Ended from (asked_in kind) → Stands from g nests table stack₀ first floor passed l stack cells
-      → Stands (operandDue byColon someTarget) empty (asking (asked_in kind) mark (machine.reduced least_binary g) ∷ nests) table stack₀ first floor (passed + 1) (waiting_one r)
+      → Stands (operand_due by_colon some_target) empty (asking (asked_in kind) mark (machine.reduced least_binary g) ∷ nests) table stack₀ first floor (passed + 1) (waiting_one r)
       (stack_with stack r.top kind mark r.start) after
   asks kind mark more many small fits closes ended s =
       let e = at_ended ended s in
@@ -56,14 +56,14 @@ module _ {g : Frame} {nests : List machine.Open} {table stack₀ : List ℕ} {fi
       (refl, (refl, refl, asked)) tt (omega (arith, light, e.passes)) (omega arith))
 
   -- all operators behind it are closed
-  pub answering : (e : AtEnded byColon g nests table stack₀ first floor passed l stack cells) → Closes 2 l stack cells r after
+  pub answering : (e : AtEnded by_colon g nests table stack₀ first floor passed l stack cells) → Closes 2 l stack cells r after
       → Answering nests table stack₀ first floor (wrap e.waiting e.operand) r stack after
   answering e closes = carries_answered e.within.2 (rw (e.within.0, e.within.1) at (carries_expression e.carries f w closes))
 
-  pub turns : {c : code.Control} (kind : ℕ) → first + floor + passed < most_trees → (e : AtEnded byColon g nests table stack₀ first floor passed l stack cells) → Closes 2 l stack cells r after
-      → get_or stack ((r.top - 1) * width) 0 ≡ kind → control_of c ≡ operandDue (asked_in kind) someTarget
+  pub turns : {c : code.Control} (kind : ℕ) → first + floor + passed < most_trees → (e : AtEnded by_colon g nests table stack₀ first floor passed l stack cells) → Closes 2 l stack cells r after
+      → get_or stack ((r.top - 1) * width) 0 ≡ kind → control_of c ≡ operand_due (asked_in kind) some_target
       → TurnedTo g nests table stack₀ first floor (passed + 1) (record { control = c; level = restarted r }) (stack_as stack r.top question) after
   turns kind more e closes at control_is =
       let light = closes_lightens _ e.carries.holds f closes in
-      turned kind (ap (value_of expressionValue) e.is ∙ ap operand_of (reduce_wraps e.done e.starts e.waiting e.operand)) (answering e closes)
+      turned kind (ap (value_of expression_value) e.is ∙ ap operand_of (reduce_wraps e.done e.starts e.waiting e.operand)) (answering e closes)
       (omega (arith, light, e.passes)) (omega arith) at control_is

@@ -20,39 +20,39 @@ use Rattle.machine.specs.Machinery.Machine.{
   in_statement,
   in_head,
   Target,
-  noTarget,
-  someTarget,
-  loneTarget,
+  no_target,
+  some_target,
+  lone_target,
   takes_in,
-  endValue,
+  end_value,
   behind_statement,
   behind_comma,
   behind_variables,
   Ending,
-  byStatement,
-  byReturn,
+  by_statement,
+  by_return,
   by_variable,
-  byStart,
-  byTest,
+  by_start,
+  by_test,
   by_step,
-  byObject,
+  by_object,
   by_case,
-  byParen,
-  byBracket,
-  byColon,
+  by_paren,
+  by_bracket,
+  by_colon,
   by_item,
   Control,
   statement_due,
   statement_done,
   clause_due,
-  tryDone,
-  catchDone,
-  tryEnded,
-  testDue,
-  stepDue,
-  operandDue,
+  try_done,
+  catch_done,
+  try_ended,
+  test_due,
+  step_due,
+  operand_due,
 }
-use Rattle.controls.specs.Machinery.Steps.{Due, due_operand, due_value, due_thrown, due_item, due_statement, due_start, due_test, due_step, due_member, Ended, ended_operand, ended_postfix, VariableEnded, ended_bare, ended_value, before_target, before_variable, PartEnded, no_start, ended_start, no_test, ended_test, Leads, to_return_end, to_variables_end, to_semicolon, to_item_end, to_next_part, to_object}
+use Rattle.controls.specs.Machinery.Steps.{Due, due_operand, due_value, due_thrown, due_item, due_statement, due_start, due_test, due_step, due_member, Ended, ended_operand, ended_postfix, VariableEnded, ended_bare, ended_value, before_target, before_variable, PartEnded, no_start, ended_start, no_test, ended_test, Leads, to_return_end, to_variables_end, to_semicolon, to_item_end, to_next_part, to-object}
 use Rattle.waiting.specs.declared.Level.{Level}
 use Rattle.frames.specs.Machinery.Stands.{InNest, InSetting, InVariables, Within, ItemsAlone, WordAlone, PartDue, written, Stands}
 use Rattle.frames.proofs.CarryLaws.{
@@ -113,13 +113,13 @@ pub record AtNone (g : Frame) (nests : List machine.Open) (table stack₀ : List
 pub data Behind (done : Syntax) (nests : List machine.Open) : Control → Type 0 where
   behind-statement : (setting : Setting) → InSetting setting done nests → Behind done nests (behind_statement setting)
   behind_item : (items : Items) → nests ≡ [] → Behind done nests (behind_comma items)
-  behind_start : nests ≡ [] → Behind done nests testDue
-  behind_test : nests ≡ [] → Behind done nests stepDue
+  behind_start : nests ≡ [] → Behind done nests test_due
+  behind_test : nests ≡ [] → Behind done nests step_due
   behind_clause : {seen : Bool} → nests ≡ [] → Behind done nests (clause_due seen)
-  behind_tried : InNest nests → Behind done nests tryDone
-  behind_handled : InNest nests → Behind done nests catchDone
-  behind_finally : InNest nests → Behind done nests tryEnded
-  behind-target : nests ≡ [] → Behind done nests (operandDue byObject someTarget)
+  behind_tried : InNest nests → Behind done nests try_done
+  behind_handled : InNest nests → Behind done nests catch_done
+  behind_finally : InNest nests → Behind done nests try_ended
+  behind-target : nests ≡ [] → Behind done nests (operand_due by_object some_target)
 
 -- where a value ends one of these
 pub record AtValue (to : Control) (g : Frame) (nests : List machine.Open) (table stack₀ : List ℕ) (first floor passed : ℕ) (l : Level) (stack cells : List ℕ) : Type 0 where
@@ -152,20 +152,20 @@ module _ {nests : List machine.Open} where
   variables_behind (in_head first) done within = behind_start within
 
   in_target : (ending : Ending) (target : Target) → T (takes_in ending target) → (done : Syntax) (starts : List Pending) → Within ending done starts nests → nests ≡ []
-  in_target ending noTarget t done starts w = absurd t
-  in_target ending someTarget t done starts w = absurd t
-  in_target (byStatement setting) loneTarget t done starts w = absurd t
-  in_target (byReturn setting) loneTarget t done starts w = absurd t
-  in_target (by_variable place) loneTarget t done starts w = absurd t
-  in_target byStart loneTarget t done starts w = w.1
-  in_target byTest loneTarget t done starts w = absurd t
-  in_target by_step loneTarget t done starts w = absurd t
-  in_target byObject loneTarget t done starts w = absurd t
-  in_target (by_case seen) loneTarget t done starts w = absurd t
-  in_target byParen loneTarget t done starts w = absurd t
-  in_target byBracket loneTarget t done starts w = absurd t
-  in_target byColon loneTarget t done starts w = absurd t
-  in_target (by_item items) loneTarget t done starts w = absurd t
+  in_target ending no_target t done starts w = absurd t
+  in_target ending some_target t done starts w = absurd t
+  in_target (by_statement setting) lone_target t done starts w = absurd t
+  in_target (by_return setting) lone_target t done starts w = absurd t
+  in_target (by_variable place) lone_target t done starts w = absurd t
+  in_target by_start lone_target t done starts w = w.1
+  in_target by_test lone_target t done starts w = absurd t
+  in_target by_step lone_target t done starts w = absurd t
+  in_target by_object lone_target t done starts w = absurd t
+  in_target (by_case seen) lone_target t done starts w = absurd t
+  in_target by_paren lone_target t done starts w = absurd t
+  in_target by_bracket lone_target t done starts w = absurd t
+  in_target by_colon lone_target t done starts w = absurd t
+  in_target (by_item items) lone_target t done starts w = absurd t
 
 module _ {g : Frame} {nests : List machine.Open} {table stack₀ : List ℕ} {first floor passed : ℕ} {l : Level} {stack cells : List ℕ} where
   pub at_part : {c : Control} {setting : Setting} (s : Stands c g nests table stack₀ first floor passed l stack cells)
@@ -342,7 +342,7 @@ module _ {g : Frame} {nests : List machine.Open} {table stack₀ : List ℕ} {fi
   part_value no_test s = behind_none (λ done none. behind_test none) (at_none s s.shaped refl)
   part_value (ended_test ended) s = behind_ended (λ done starts w. behind_test w.1) ended s
 
-  pub at_value : {from to : Control} → Leads endValue from to → Stands from g nests table stack₀ first floor passed l stack cells
+  pub at_value : {from to : Control} → Leads end_value from to → Stands from g nests table stack₀ first floor passed l stack cells
       → AtValue to g nests table stack₀ first floor passed l stack cells
   at_value (to_return_end {setting = setting} ended) s = behind_ended (λ done starts w. behind-statement setting w) ended s
   at_value (to_variables_end {place = place} ended) s = behind_variable (variables_behind place) ended s
@@ -359,9 +359,9 @@ module _ {g : Frame} {nests : List machine.Open} {table stack₀ : List ℕ} {fi
       }
   at_value (to_item_end {items = items} ended) s = behind_ended (λ done starts w. behind_item items w.1) ended s
   at_value (to_next_part ended) s = part_value ended s
-  at_value (to_object (before_target {ending = ending} {target = target} t)) s =
+  at_value (to-object (before_target {ending = ending} {target = target} t)) s =
       behind_ended (λ done starts w. behind-target (in_target ending target t done starts w)) ended_operand s
-  at_value (to_object (before_variable ended)) s = behind_variable (λ done w. behind-target w) ended s
+  at_value (to-object (before_variable ended)) s = behind_variable (λ done w. behind-target w) ended s
 
   -- all that a nest has is its statement
   pub nest_done : {nest : Nest} (s : Stands (statement_done nest) g nests table stack₀ first floor passed l stack cells)

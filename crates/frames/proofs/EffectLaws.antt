@@ -8,7 +8,7 @@ use lib.ListN.{length, get_or}
 use Rattle.tables.specs.Records.{most_trees}
 use Rattle.machine.specs.Tokens.{name, new_word, var_word, else_word, case_word, default_word, catch_word, finally_word}
 use Rattle.machine.specs.Syntax.{Syntax, nil, node, snoc, member_syntax, expression_syntax, label_syntax, variable_syntax, empty_syntax}
-use Rattle.machine.specs.Scopes.{callArguments, arrayElements, objectProperties, body}
+use Rattle.machine.specs.Scopes.{call_arguments, array_elements, object_properties, body}
 use Rattle.machine.specs.Machinery.Machine as machine
 use Rattle.machine.specs.Machinery.Machine.{
   Pending,
@@ -19,8 +19,8 @@ use Rattle.machine.specs.Machinery.Machine.{
   tightness,
   new_precedence,
   threshold,
-  ifNest,
-  elseNest,
+  if_nest,
+  else_nest,
   Setting,
   among,
   in_clause,
@@ -30,45 +30,45 @@ use Rattle.machine.specs.Machinery.Machine.{
   in_head,
   later_variables,
   Target,
-  noTarget,
-  someTarget,
+  no_target,
+  some_target,
   behind_statement,
   keep,
-  takeMember,
-  endExpression,
-  endValue,
-  endBare,
-  endEmpty,
-  endVariable,
-  takeLabel,
-  takeElse,
-  holdWord,
-  startStatement,
-  takeLeaf,
-  takeName,
-  takeOperator,
-  takePrefix,
-  takePostfix,
+  take_member,
+  end_expression,
+  end_value,
+  end_bare,
+  end_empty,
+  end_variable,
+  take_label,
+  take_else,
+  hold_word,
+  start_statement,
+  take_leaf,
+  take_name,
+  take_operator,
+  take_prefix,
+  take_postfix,
   Ending,
-  byStatement,
+  by_statement,
   declared,
   operand_in,
   Control,
   statement_due,
   statement_done,
-  nameFirst,
+  name_first,
   clause_due,
-  defaultFirst,
-  variableDue,
-  variableNamed,
-  operandDue,
-  memberDue,
-  operandDone,
+  default_first,
+  variable_due,
+  variable_named,
+  operand_due,
+  member_due,
+  operand_done,
   postfix_done,
-  dotLast,
-  functionFirst,
+  dot_last,
+  function_first,
 }
-use Rattle.controls.specs.Machinery.Steps.{Due, Ended, VariableEnded, Started, started_return, started_throw, started_jump, started_head, started_debugger, started_var, started_for, started_switch, Leads, to_start, to_variable, to_head_variable, to_case, to_default, to_catch, to_finally, to_finally_behind, to_initialiser, to_caught, to_test, to_jump_label, to_dot, to_hole, to_function_name, to_property, to_value, to_parameter, to_next_parameter}
+use Rattle.controls.specs.Machinery.Steps.{Due, Ended, VariableEnded, Started, started_return, started_throw, started_jump, started_head, started_debugger, started_var, started_for, started_switch, Leads, to_start, to_variable, to_head_variable, to_case, to_default, to_catch, to_finally, to_finally_behind, to_initialiser, to_caught, to-test, to_jump_label, to_dot, to_hole, to_function_name, to_property, to_value, to-parameter, to_next_parameter}
 use Rattle.controls.specs.Machinery.Written.{put_record}
 use Rattle.waiting.specs.Machinery.Waiting.{width, binding, Closes, Completes, stack_with, waiting_one, made_one, with_held, restarted}
 use Rattle.waiting.specs.declared.Level.{Level}
@@ -104,9 +104,9 @@ pub behind : {nests : List machine.Open} {table stack₀ : List ℕ} {first floo
 behind (behind-statement (among scope) none) h passes few = stands nil h (refl, refl, refl, none) tt (omega arith) few
 behind (behind-statement in_clause inside) h passes few = stands nil h (refl, refl, refl, inside) tt (omega arith) few
 behind {value = value} (behind-statement (in_nest nest) (e, inside)) h passes few = stands nil h (refl, refl, refl, record { last = value; is = rw e }, inside) tt (omega arith) few
-behind (behind_item callArguments none) h passes few = stands nil h (refl, (refl, none)) tt (omega arith) few
-behind (behind_item arrayElements none) h passes few = stands nil h (refl, refl, refl, none) tt (omega arith) few
-behind (behind_item objectProperties none) h passes few = stands nil h (refl, refl, refl, none) tt (omega arith) few
+behind (behind_item call_arguments none) h passes few = stands nil h (refl, (refl, none)) tt (omega arith) few
+behind (behind_item array_elements none) h passes few = stands nil h (refl, refl, refl, none) tt (omega arith) few
+behind (behind_item object_properties none) h passes few = stands nil h (refl, refl, refl, none) tt (omega arith) few
 behind (behind_start none) h passes few = stands nil h (refl, refl, refl, none) tt (omega arith) few
 behind (behind_test none) h passes few = stands nil h (refl, refl, refl, none) tt (omega arith) few
 behind (behind_clause none) h passes few = stands nil h (refl, refl, refl, none) tt (omega arith) few
@@ -148,7 +148,7 @@ module _ {g : Frame} {nests : List machine.Open} {table stack₀ : List ℕ} {fi
   keeps mark to_initialiser s =
       rw s.is (stands s.operand (carried s) (s.shaped.2, (s.shaped.0, s.shaped.3)) tt (omega (arith, s.passes)) (omega arith))
   keeps mark to_caught s = rw s.is (stands s.operand (carried s) s.shaped tt (omega (arith, s.passes)) (omega arith))
-  keeps mark to_test s = rw s.is (stands s.operand (carried s) s.shaped tt (omega (arith, s.passes)) (omega arith))
+  keeps mark to-test s = rw s.is (stands s.operand (carried s) s.shaped tt (omega (arith, s.passes)) (omega arith))
   keeps mark to_jump_label s = rw s.is (stands s.operand (carried s) (s.shaped.1, s.shaped.3) tt (omega (arith, s.passes)) (omega arith))
   keeps mark to_dot s = rw s.is (stands s.operand (carried s) s.shaped tt (omega (arith, s.passes)) (omega arith))
   keeps mark to_hole s = rw s.is (stands s.operand (carried s) s.shaped tt (omega (arith, s.passes)) (omega arith))
@@ -156,20 +156,20 @@ module _ {g : Frame} {nests : List machine.Open} {table stack₀ : List ℕ} {fi
   keeps mark to_property s = rw s.is (stands s.operand (carried s) s.shaped tt (omega (arith, s.passes)) (omega arith))
   keeps mark to_value s =
       rw s.is (stands s.operand (carried s) (s.shaped.2, (s.shaped.0, s.shaped.3)) tt (omega (arith, s.passes)) (omega arith))
-  keeps mark to_parameter s = rw s.is (stands s.operand (carried s) s.shaped tt (omega (arith, s.passes)) (omega arith))
+  keeps mark to-parameter s = rw s.is (stands s.operand (carried s) s.shaped tt (omega (arith, s.passes)) (omega arith))
   keeps mark to_next_parameter s = rw s.is (stands s.operand (carried s) s.shaped tt (omega (arith, s.passes)) (omega arith))
 
   -- a record is the operand
   pub takes_leaf : {from : Control} {ending : Ending} {target : Target} (class mark : ℕ) → Due from ending target
       → Stands from g nests table stack₀ first floor passed l stack cells
-      → Stands (operandDone ending target) (machine.affect (takeLeaf class) mark g) nests table stack₀ first floor (passed + 1) (made_one l) stack
+      → Stands (operand_done ending target) (machine.affect (take_leaf class) mark g) nests table stack₀ first floor (passed + 1) (made_one l) stack
       (put_record cells l.count class mark (l.count - l.start + 1))
   takes_leaf class mark due s =
       let h = at_operand due s in
       rw h.is (stands (node class mark nil nil) (carries_made h.carries class mark (omega arith)) h.within tt (omega arith) (omega arith))
 
-  pub takes_member : {ending : Ending} {target : Target} (mark : ℕ) → Stands (dotLast ending target) g nests table stack₀ first floor passed l stack cells
-      → Stands (operandDone ending target) (machine.affect takeMember mark g) nests table stack₀ first floor (passed + 1) (made_one l) stack
+  pub takes_member : {ending : Ending} {target : Target} (mark : ℕ) → Stands (dot_last ending target) g nests table stack₀ first floor passed l stack cells
+      → Stands (operand_done ending target) (machine.affect take_member mark g) nests table stack₀ first floor (passed + 1) (made_one l) stack
       (put_record cells l.count member_syntax mark (l.count - l.start + 1))
   takes_member mark s =
       rw s.is
@@ -178,20 +178,20 @@ module _ {g : Frame} {nests : List machine.Open} {table stack₀ : List ℕ} {fi
 
   -- a name or word is held
   pub holds_name : {must : Bool} {setting : Setting} (mark : ℕ) → mark ≤ most_trees → Stands (statement_due must setting) g nests table stack₀ first floor passed l stack cells
-      → Stands (nameFirst setting) (machine.affect takeName mark g) nests table stack₀ first floor (passed + 1) (with_held mark l) stack cells
+      → Stands (name_first setting) (machine.affect take_name mark g) nests table stack₀ first floor (passed + 1) (with_held mark l) stack cells
   holds_name mark small s =
       let h = at_statement s in
       rw h.is (stands (node name mark nil nil) (carries_word h.carries mark small) (refl, h.within) refl (omega arith) (omega arith))
 
   pub holds_word : {from : Control} {ending : Ending} {target : Target} (mark : ℕ) → mark ≤ most_trees → Due from ending target
       → Stands from g nests table stack₀ first floor passed l stack cells
-      → Stands (functionFirst (operand_in ending target)) (machine.affect holdWord mark g) nests table stack₀ first floor (passed + 1) (with_held mark l) stack cells
+      → Stands (function_first (operand_in ending target)) (machine.affect hold_word mark g) nests table stack₀ first floor (passed + 1) (with_held mark l) stack cells
   holds_word mark small due s =
       let h = at_operand due s in
       rw h.is (stands (held_word mark) (carries_word h.carries mark small) h.within refl (omega arith) (omega arith))
 
   pub holds_declared : (mark : ℕ) → mark ≤ most_trees → Stands (statement_due false (among body)) g nests table stack₀ first floor passed l stack cells
-      → Stands (functionFirst declared) (machine.affect holdWord mark g) nests table stack₀ first floor (passed + 1) (with_held mark l) stack cells
+      → Stands (function_first declared) (machine.affect hold_word mark g) nests table stack₀ first floor (passed + 1) (with_held mark l) stack cells
   holds_declared mark small s =
       rw s.is
       (stands (held_word mark) (carries_word (rw s.shaped.2 at (carried s)) mark small) (s.shaped.0, s.shaped.1, s.shaped.3) refl
@@ -199,8 +199,8 @@ module _ {g : Frame} {nests : List machine.Open} {table stack₀ : List ℕ} {fi
 
   -- a beginning of a statement waits, or of a variable, a clause, or what follows the block of a `try`
   starts_variable : {place : Variables} (mark : ℕ) → mark ≤ most_trees → (l.top + 1) * width ≤ length stack
-      → Stands (variableDue place) g nests table stack₀ first floor passed l stack cells
-      → Stands (variableNamed place) (machine.affect (startStatement variable_syntax) mark g) nests table stack₀ first floor (passed + 1) (waiting_one l)
+      → Stands (variable_due place) g nests table stack₀ first floor passed l stack cells
+      → Stands (variable_named place) (machine.affect (start_statement variable_syntax) mark g) nests table stack₀ first floor (passed + 1) (waiting_one l)
       (stack_with stack l.top variable_syntax mark l.start) cells
   unfolding binding
   starts_variable mark small fits s =
@@ -210,8 +210,8 @@ module _ {g : Frame} {nests : List machine.Open} {table stack₀ : List ℕ} {fi
       (record { mark = mark; others = s.starts; is = refl; var = s.shaped.0 }, refl, refl, s.shaped.3) tt (omega (arith, s.passes)) (omega arith))
 
   pub starts_statement : {kind : ℕ} {from to : Control} (mark : ℕ) → mark ≤ most_trees → (l.top + 1) * width ≤ length stack
-      → Leads (startStatement kind) from to → 1 ≤ kind → binding kind ≡ 1 → Stands from g nests table stack₀ first floor passed l stack cells
-      → Stands to (machine.affect (startStatement kind) mark g) nests table stack₀ first floor (passed + 1) (waiting_one l) (stack_with stack l.top kind mark l.start) cells
+      → Leads (start_statement kind) from to → 1 ≤ kind → binding kind ≡ 1 → Stands from g nests table stack₀ first floor passed l stack cells
+      → Stands to (machine.affect (start_statement kind) mark g) nests table stack₀ first floor (passed + 1) (waiting_one l) (stack_with stack l.top kind mark l.start) cells
   starts_statement {kind = kind} mark small fits (to_start started) some binds s =
       let h = at_statement s in
       rw h.is (begins started some h.within (carries_beginning kind mark h.carries (omega arith) small fits binds) (omega arith) (omega arith))
@@ -241,8 +241,8 @@ module _ {g : Frame} {nests : List machine.Open} {table stack₀ : List ℕ} {fi
       let h = at_part {setting = in_clause} s (s.shaped.1, s.shaped.2, s.shaped.3) refl in
       rw h.is (stands nil (carries_beginning finally_word mark h.carries (omega arith) small fits binds) (refl, refl, h.within) tt (omega arith) (omega arith))
 
-  pub takes_else : (mark : ℕ) → mark ≤ most_trees → (l.top + 1) * width ≤ length stack → Stands (statement_done ifNest) g nests table stack₀ first floor passed l stack cells
-      → Stands (statement_due true (in_nest elseNest)) (machine.affect takeElse mark g) nests table stack₀ first floor (passed + 1) (waiting_one (undone_one l stack))
+  pub takes_else : (mark : ℕ) → mark ≤ most_trees → (l.top + 1) * width ≤ length stack → Stands (statement_done if_nest) g nests table stack₀ first floor passed l stack cells
+      → Stands (statement_due true (in_nest else_nest)) (machine.affect take_else mark g) nests table stack₀ first floor (passed + 1) (waiting_one (undone_one l stack))
       (stack_with stack l.top else_word mark (get_or stack ((l.top - 1) * width + 2) 0)) cells
   unfolding binding
   takes_else mark small fits s =
@@ -250,8 +250,8 @@ module _ {g : Frame} {nests : List machine.Open} {table stack₀ : List ℕ} {fi
       (stands nil (carries_beginning else_word mark (carries_undone s.shaped.4 (nest_done s)) (omega (arith, s.passes)) small fits refl)
       (refl, refl, (refl, s.shaped.4)) tt (omega (arith, s.passes)) (omega arith))
 
-  pub takes_label : {setting : Setting} (mark : ℕ) → (l.top + 1) * width ≤ length stack → Stands (nameFirst setting) g nests table stack₀ first floor passed l stack cells
-      → Stands (statement_due true setting) (machine.affect takeLabel mark g) nests table stack₀ first floor (passed + 1) (waiting_one l)
+  pub takes_label : {setting : Setting} (mark : ℕ) → (l.top + 1) * width ≤ length stack → Stands (name_first setting) g nests table stack₀ first floor passed l stack cells
+      → Stands (statement_due true setting) (machine.affect take_label mark g) nests table stack₀ first floor (passed + 1) (waiting_one l)
       (stack_with stack l.top label_syntax l.held l.start) cells
   unfolding binding
   takes_label mark fits s =
@@ -262,7 +262,7 @@ module _ {g : Frame} {nests : List machine.Open} {table stack₀ : List ℕ} {fi
   -- an operator before its operand waits, with no left side
   pub takes-prefix : {from : Control} {ending : Ending} {target : Target} (kind mark : ℕ) → mark ≤ most_trees → (l.top + 1) * width ≤ length stack → 1 ≤ tightness kind
       → Due from ending target → Stands from g nests table stack₀ first floor passed l stack cells
-      → Stands (operandDue ending noTarget) (machine.affect (takePrefix kind) mark g) nests table stack₀ first floor (passed + 1) (waiting_one l)
+      → Stands (operand_due ending no_target) (machine.affect (take_prefix kind) mark g) nests table stack₀ first floor (passed + 1) (waiting_one l)
       (stack_with stack l.top kind mark l.start) cells
   takes-prefix kind mark small fits tight due s =
       let h = at_operand due s in
@@ -271,7 +271,7 @@ module _ {g : Frame} {nests : List machine.Open} {table stack₀ : List ℕ} {fi
 
   pub takes_new : {from : Control} {ending : Ending} {target : Target} (mark : ℕ) → mark ≤ most_trees → (l.top + 1) * width ≤ length stack
       → Due from ending target → Stands from g nests table stack₀ first floor passed l stack cells
-      → Stands (memberDue ending target) (machine.affect (takePrefix new_word) mark g) nests table stack₀ first floor (passed + 1) (waiting_one l)
+      → Stands (member_due ending target) (machine.affect (take_prefix new_word) mark g) nests table stack₀ first floor (passed + 1) (waiting_one l)
       (stack_with stack l.top new_word mark l.start) cells
   takes_new mark small fits due s =
       let h = at_operand due s in
@@ -281,8 +281,8 @@ module _ {g : Frame} {nests : List machine.Open} {table stack₀ : List ℕ} {fi
 
   -- one behind it makes a part, once the `new`s that wait are closed
   pub takes_postfix : {ending : Ending} {target : Target} (kind mark : ℕ) {r : Level} {after : List ℕ} → r.floor ≡ l.floor → r.held ≡ l.held
-      → Closes (new_precedence + 1) l stack cells r after → Stands (operandDone ending target) g nests table stack₀ first floor passed l stack cells
-      → Stands (postfix_done ending) (machine.affect (takePostfix kind) mark g) nests table stack₀ first floor (passed + 1) (made_one r) stack
+      → Closes (new_precedence + 1) l stack cells r after → Stands (operand_done ending target) g nests table stack₀ first floor passed l stack cells
+      → Stands (postfix_done ending) (machine.affect (take_postfix kind) mark g) nests table stack₀ first floor (passed + 1) (made_one r) stack
       (put_record after r.count kind mark (r.count - r.start + 1))
   takes_postfix kind mark f w closes s =
       let h = carried s in
@@ -297,7 +297,7 @@ module _ {g : Frame} {nests : List machine.Open} {table stack₀ : List ℕ} {fi
   pub takes_operator : {from : Control} {ending : Ending} (next : Target) (class mark : ℕ) {r : Level} {after : List ℕ} → mark ≤ most_trees
       → (l.top + 1) * width ≤ length stack → 1 ≤ tightness class → 1 ≤ threshold class → (class ≡ new_word → ⊥) → r.floor ≡ l.floor → r.held ≡ l.held
       → Closes (threshold class + 1) l stack cells r after → Ended from ending → Stands from g nests table stack₀ first floor passed l stack cells
-      → Stands (operandDue ending next) (machine.affect (takeOperator class) mark g) nests table stack₀ first floor (passed + 1) (waiting_one r)
+      → Stands (operand_due ending next) (machine.affect (take_operator class) mark g) nests table stack₀ first floor (passed + 1) (waiting_one r)
       (stack_with stack r.top class mark r.start) after
   takes_operator next class mark small fits tight some other f w closes ended s =
       let e = at_ended ended s in
@@ -312,8 +312,8 @@ module _ {g : Frame} {nests : List machine.Open} {table stack₀ : List ℕ} {fi
   -- a statement is complete, or an item
   pub ends_expression : {from : Control} {setting : Setting} (mark : ℕ) {r all : Level} {after cells' : List ℕ} → r.floor ≡ l.floor → r.held ≡ l.held
       → Closes 2 l stack cells r after → Completes (made_one r) stack (put_record after r.count expression_syntax mark (r.count - r.start + 1)) all cells'
-      → Ended from (byStatement setting) → Stands from g nests table stack₀ first floor passed l stack cells
-      → Stands (behind_statement setting) (machine.affect endExpression mark g) nests table stack₀ first floor (passed + 1) all stack cells'
+      → Ended from (by_statement setting) → Stands from g nests table stack₀ first floor passed l stack cells
+      → Stands (behind_statement setting) (machine.affect end_expression mark g) nests table stack₀ first floor (passed + 1) all stack cells'
   ends_expression {setting = setting} mark f w closes completes ended s =
       let e = at_ended ended s in
       let light = closes_lightens _ e.carries.holds f closes in
@@ -323,7 +323,7 @@ module _ {g : Frame} {nests : List machine.Open} {table stack₀ : List ℕ} {fi
       (behind (behind-statement setting e.within) (carries_statement one completes) (omega (arith, light, lighter, e.passes)) (omega arith))
 
   pub ends_value : {to : Control} (mark : ℕ) {all : Level} {cells' : List ℕ} → Completes l stack cells all cells' → AtValue to g nests table stack₀ first floor passed l stack cells
-      → Stands to (machine.affect endValue mark g) nests table stack₀ first floor (passed + 1) all stack cells'
+      → Stands to (machine.affect end_value mark g) nests table stack₀ first floor (passed + 1) all stack cells'
   ends_value mark completes e =
       let lighter = completes_lightens e.carries completes in
       rw (e.is, reduce_wraps e.done e.starts e.waiting e.operand)
@@ -332,7 +332,7 @@ module _ {g : Frame} {nests : List machine.Open} {table stack₀ : List ℕ} {fi
   pub ends-bare : {setting : Setting} (mark : ℕ) {k m : ℕ} {all : Level} {cells' : List ℕ} → AtWord setting g nests table stack₀ first floor passed l stack cells
       → get_or stack ((l.top - 1) * width) 0 ≡ k → get_or stack ((l.top - 1) * width + 1) 0 ≡ m
       → Completes (made_one (back_one l)) stack (put_record cells l.count (k - 1) m (l.count - l.count + 1)) all cells'
-      → Stands (behind_statement setting) (machine.affect endBare mark g) nests table stack₀ first floor (passed + 1) all stack cells'
+      → Stands (behind_statement setting) (machine.affect end_bare mark g) nests table stack₀ first floor (passed + 1) all stack cells'
   ends-bare {setting = setting} mark {k = k} {m = m} h kind_at mark-at completes =
       let u = uppermost h.carries.holds in
       let same_kind : k ≡ h.kind = omega (arith, u.kind_is) in
@@ -344,7 +344,7 @@ module _ {g : Frame} {nests : List machine.Open} {table stack₀ : List ℕ} {fi
   pub ends_empty : {must : Bool} {setting : Setting} (mark : ℕ) {all : Level} {cells' : List ℕ}
       → Completes (made_one l) stack (put_record cells l.count empty_syntax mark (l.count - l.start + 1)) all cells'
       → Stands (statement_due must setting) g nests table stack₀ first floor passed l stack cells
-      → Stands (behind_statement setting) (machine.affect endEmpty mark g) nests table stack₀ first floor (passed + 1) all stack cells'
+      → Stands (behind_statement setting) (machine.affect end_empty mark g) nests table stack₀ first floor (passed + 1) all stack cells'
   ends_empty {setting = setting} mark completes s =
       let h = at_statement s in
       let one = carries_made h.carries empty_syntax mark (omega (arith, h.passes)) in
@@ -355,7 +355,7 @@ module _ {g : Frame} {nests : List machine.Open} {table stack₀ : List ℕ} {fi
   pub ends_variable : {from : Control} {place : Variables} (mark : ℕ) {m : ℕ} {r : Level} {after : List ℕ} → r.floor ≡ l.floor → r.held ≡ l.held
       → Closes 2 l stack cells r after → get_or stack ((r.top - 1) * width + 1) 0 ≡ m → VariableEnded from place
       → Stands from g nests table stack₀ first floor passed l stack cells
-      → Stands (variableDue (later_variables place)) (machine.affect endVariable mark g) nests table stack₀ first floor (passed + 1) (restarted (made_one (left_one r stack))) stack
+      → Stands (variable_due (later_variables place)) (machine.affect end_variable mark g) nests table stack₀ first floor (passed + 1) (restarted (made_one (left_one r stack))) stack
       (put_record after r.count variable_syntax m (r.count - get_or stack ((r.top - 1) * width + 2) 0 + 1))
   ends_variable {place = place} mark {m = m} f w closes mark-at ended s =
       let e = at_variable ended s in

@@ -11,7 +11,7 @@ use Rattle.tables.specs.Records.{most_trees}
 use Rattle.machine.specs.Tokens.{Token, token, Spot, name, colon, else_word, do_word, try_word, finally_word}
 use Rattle.machine.specs.Syntax.{Syntax, nil, node, snoc}
 use Rattle.machine.specs.Machinery.Machine as machine
-use Rattle.machine.specs.Machinery.Machine.{Pending, pending, Frame, frame, wrap, complete_head, held_word, empty, ifNest, elseNest, doNest, Setting, in_clause, in_nest, someTarget, behind_statement, Closing, holdWord, keep, endHead, byStatement, by_case, Control, statement_due, nameFirst, bodyDone, clause_due, tryFirst, ifFirst, operandDone, Action, look, row, leave, Value, value_of, nested, act, live, run}
+use Rattle.machine.specs.Machinery.Machine.{Pending, pending, Frame, frame, wrap, complete_head, held_word, empty, if_nest, else_nest, do_nest, Setting, in_clause, in_nest, some_target, behind_statement, Closing, hold_word, keep, end_head, by_statement, by_case, Control, statement_due, name_first, body_done, clause_due, try_first, if_first, operand_done, Action, look, row, leave, Value, value_of, nested, act, live, run}
 use Rattle.controls.specs.Machinery.Numbers.{setting_by, control_by, control_of, entered_by, worded_by, outside_by, behind_by, left_by}
 use Rattle.controls.specs.Machinery.Steps.{Enters, enters_if, enters_do, enters_try, enters_case, enters_last_case, enters_default}
 use Rattle.controls.specs.declared.Control as code
@@ -28,9 +28,9 @@ use Rattle.frames.proofs.ParameterLaws.{behind_kind}
 
 -- where a nest is done, the table leaves it
 pub leaving_row : {class : ℕ} {c : Control} {value : Value} → Leaving class c value → (newline : Bool) → look class (row c newline) ≡ leave value
-leaving_row {class = class} (leaving_statement {nest = ifNest} other) newline = rw (ne_eqb class else_word (other refl))
-leaving_row (leaving_statement {nest = elseNest} other) newline = refl
-leaving_row (leaving_statement {nest = doNest} other) newline = refl
+leaving_row {class = class} (leaving_statement {nest = if_nest} other) newline = rw (ne_eqb class else_word (other refl))
+leaving_row (leaving_statement {nest = else_nest} other) newline = refl
+leaving_row (leaving_statement {nest = do_nest} other) newline = refl
 leaving_row {class = class} (leaving_catch other) newline = rw (ne_eqb class finally_word other)
 leaving_row leaving_try newline = refl
 leaving_row (leaving_case e) newline = rw e
@@ -54,7 +54,7 @@ nest_takes g f nests rest {class = class} leaving nests-are behinds closes aroun
     ap (λ (a : Action). run (act a class spot g (nests ++ around)) u) (leaving_row leaving spot.newline) ∙ rw (nests-are, behinds, closes)
 
 pub name_takes : (setting : Setting) (g : Frame) (around : List machine.Open) (class : ℕ) (spot : Spot) (u : List Token) → (class ≡ colon → ⊥)
-    → run (live (nameFirst setting) g around) (token class spot ∷ u) ≡ run (live (operandDone (byStatement setting) someTarget) g around) (token class spot ∷ u)
+    → run (live (name_first setting) g around) (token class spot ∷ u) ≡ run (live (operand_done (by_statement setting) some_target) g around) (token class spot ∷ u)
 name_takes setting g around class spot u other = rw (ne_eqb class colon other)
 
 -- what stands where a nest starts
@@ -65,7 +65,7 @@ unfolding entered_by worded_by
 entered {nests = nests} {table = table} {stack₀ = stack₀} {first = first} {floor = floor} {passed = passed} {l = l} {stack = stack} {cells = cells} nest mark inside word h passes few =
     go (eqb nest 0) (eqb nest 1) (eqb nest 2)
   where
-    go : (a b d : Bool) → Stands (cond a ifFirst (cond b (statement_due true (in_nest doNest)) (cond d tryFirst (statement_due false in_clause)))) (machine.affect (cond a holdWord keep) mark empty) nests table stack₀ first floor passed l stack cells
+    go : (a b d : Bool) → Stands (cond a if_first (cond b (statement_due true (in_nest do_nest)) (cond d try_first (statement_due false in_clause)))) (machine.affect (cond a hold_word keep) mark empty) nests table stack₀ first floor passed l stack cells
     go true b d = stands (held_word mark) h (refl, refl, refl, inside) (rw word) (omega arith) few
     go false true d = stands nil h (refl, refl, (refl, inside)) tt (omega arith) few
     go false false true = stands nil h (refl, refl, inside) tt (omega arith) few
@@ -110,7 +110,7 @@ module _ {g : Frame} {nests : List machine.Open} {table stack₀ : List ℕ} {fi
       (record {
         done = e.done;
         starts = pending b.kind b.mark (wrap e.waiting e.operand) ∷ b.before;
-        is = ap (machine.affect endHead mark) e.is ∙ ap complete_head (reduce_wraps e.done e.starts e.waiting e.operand) ∙ rw b.is;
+        is = ap (machine.affect end_head mark) e.is ∙ ap complete_head (reduce_wraps e.done e.starts e.waiting e.operand) ∙ rw b.is;
         within = record { in-statement = λ few. absurd (omega arith); in_clauses = λ more. e.within.1 };
         carries = carries_headed (rw b.is at (carries_expression e.carries k.same_floor k.same_held k.closes));
         passes = omega (arith, light, e.passes);
@@ -159,7 +159,7 @@ module _ (nest : ℕ) (setting : Setting) where
   unfolding behind_by
   nest-kind = go (eqb nest 1) (ltb nest 3)
     where
-      go : (a b : Bool) → of_parameter (cond a (bodyDone setting) (cond b (behind_statement setting) (clause_due (eqb nest 4)))) ≡ false
+      go : (a b : Bool) → of_parameter (cond a (body_done setting) (cond b (behind_statement setting) (clause_due (eqb nest 4)))) ≡ false
       go true b = refl
       go false true = behind_kind setting
       go false false = refl
@@ -173,7 +173,7 @@ module _ (nest : ℕ) (setting : Setting) where
       behind_owes in_clause = refl
       behind_owes (in_nest n) = refl
 
-      go : (a b : Bool) → owed (cond a (bodyDone setting) (cond b (behind_statement setting) (clause_due (eqb nest 4)))) ≡ 0
+      go : (a b : Bool) → owed (cond a (body_done setting) (cond b (behind_statement setting) (clause_due (eqb nest 4)))) ≡ 0
       go true b = refl
       go false true = behind_owes setting
       go false false = refl
@@ -195,7 +195,7 @@ pub clause_behind : (nest setting : ℕ) → 3 ≤ nest → behind_by nest (sett
 unfolding behind_by control_by
 clause_behind nest setting many = rw (ne_eqb nest 1 (λ e. omega arith), le-ltb nest 3 many)
 
-pub do_behind : (setting : Setting) → behind_by 1 setting ≡ bodyDone setting
+pub do_behind : (setting : Setting) → behind_by 1 setting ≡ body_done setting
 unfolding behind_by
 do_behind setting = refl
 
@@ -250,7 +250,7 @@ module _ {g : Frame} {nests : List machine.Open} {table stack₀ : List ℕ} {fi
     pub left_do : a.nest ≡ 1 → Moved from class g nests table stack₀ first floor passed (record { control = c; level = restarted l }) (stack_as stack l.top do_word) cells
     left_do one =
         let p = leaving_passes leaving s in
-        let body : control_of c ≡ bodyDone (setting_by a.setting) = behinds ∙ rw one (do_behind (setting_by a.setting)) in
+        let body : control_of c ≡ body_done (setting_by a.setting) = behinds ∙ rw one (do_behind (setting_by a.setting)) in
         let less = a.within.in-statement (omega (arith, one)) in
         record {
           frame_then = frame a.done (pending do_word a.mark (value_of kind g) ∷ a.starts) [] nil;
@@ -261,8 +261,8 @@ module _ {g : Frame} {nests : List machine.Open} {table stack₀ : List ℕ} {fi
         }
 
   -- a held name is an operand before what is no `:`
-  pub names : {setting : Setting} → Stands (nameFirst setting) g nests table stack₀ first floor passed l stack cells
-      → Stands (operandDone (byStatement setting) someTarget) g nests table stack₀ first floor passed (made_one l) stack (put_record cells l.count name l.held (l.count - l.start + 1))
+  pub names : {setting : Setting} → Stands (name_first setting) g nests table stack₀ first floor passed l stack cells
+      → Stands (operand_done (by_statement setting) some_target) g nests table stack₀ first floor passed (made_one l) stack (put_record cells l.count name l.held (l.count - l.start + 1))
   names s =
       rw (s.is, s.held)
       (stands (node name l.held nil nil) (carries_made (carried s) name l.held (omega (arith, s.passes, s.few))) s.shaped.1 tt (omega (arith, s.passes)) s.few)

@@ -6,8 +6,8 @@ use native.Mathlib.Omega.{arith}
 use borrow.Author.Tests.{eqb-true}
 use lib.Dec.{eqb}
 use Rattle.machine.specs.Syntax.{Syntax, nil}
-use Rattle.machine.specs.Scopes.{Items, callArguments, arrayElements, objectProperties}
-use Rattle.machine.specs.Machinery.Machine.{Frame, Setting, among, in_clause, in_nest, Variables, in_statement, in_head, Target, behind_statement, behind_variables, behind_comma, Effect, Closing, toParameter, Ending, Control, Action}
+use Rattle.machine.specs.Scopes.{Items, call_arguments, array_elements, object_properties}
+use Rattle.machine.specs.Machinery.Machine.{Frame, Setting, among, in_clause, in_nest, Variables, in_statement, in_head, Target, behind_statement, behind_variables, behind_comma, Effect, Closing, to_parameter, Ending, Control, Action}
 use Rattle.controls.specs.Machinery.Numbers.{closing_by, inside_by}
 use Rattle.controls.specs.Machinery.Steps.{
   Due,
@@ -46,8 +46,8 @@ use Rattle.controls.specs.Machinery.Steps.{
   Leads,
   to_name,
   to_leaf,
-  to_function,
-  to_declaration,
+  to-function,
+  to-declaration,
   to_start,
   to_empty,
   to_else,
@@ -57,14 +57,14 @@ use Rattle.controls.specs.Machinery.Steps.{
   to_variables_end,
   to_head_variable,
   to_next_part,
-  to_object,
+  to-object,
   to_case,
   to_default,
   to_catch,
   to_finally,
   to_finally_behind,
   to_caught,
-  to_test,
+  to-test,
   to_jump_label,
   to_bare_jump,
   to_semicolon,
@@ -85,7 +85,7 @@ use Rattle.controls.specs.Machinery.Steps.{
   to_function_name,
   to_property,
   to_value,
-  to_parameter,
+  to-parameter,
   to_next_parameter,
   Spans,
   past_parens,
@@ -174,15 +174,15 @@ variables_kind (in_statement setting) = behind_kind setting
 variables_kind (in_head first) = refl
 
 comma_kind : (items : Items) → of_parameter (behind_comma items) ≡ false
-comma_kind callArguments = refl
-comma_kind arrayElements = refl
-comma_kind objectProperties = refl
+comma_kind call_arguments = refl
+comma_kind array_elements = refl
+comma_kind object_properties = refl
 
 pub leads_kind : {effect : Effect} {from to : Control} → Leads effect from to → of_parameter to ≡ of_parameter from
 leads_kind to_name = refl
 leads_kind (to_leaf due) = due_kind due
-leads_kind (to_function due) = due_kind due
-leads_kind to_declaration = refl
+leads_kind (to-function due) = due_kind due
+leads_kind to-declaration = refl
 leads_kind (to_start started) = start-kind started
 leads_kind (to_empty {setting = setting}) = behind_kind setting
 leads_kind to_else = refl
@@ -192,14 +192,14 @@ leads_kind (to_next_variable ended) = sym (variable_kind ended)
 leads_kind (to_variables_end {place = place} ended) = variables_kind place ∙ sym (variable_kind ended)
 leads_kind to_head_variable = refl
 leads_kind (to_next_part ended) = part_kind ended
-leads_kind (to_object before) = before-kind before
+leads_kind (to-object before) = before-kind before
 leads_kind to_case = refl
 leads_kind to_default = refl
 leads_kind to_catch = refl
 leads_kind to_finally = refl
 leads_kind to_finally_behind = refl
 leads_kind to_caught = refl
-leads_kind to_test = refl
+leads_kind to-test = refl
 leads_kind to_jump_label = refl
 leads_kind (to_bare_jump {setting = setting}) = behind_kind setting
 leads_kind (to_semicolon {setting = setting}) = behind_kind setting
@@ -220,7 +220,7 @@ leads_kind to_hole = refl
 leads_kind to_function_name = refl
 leads_kind to_property = refl
 leads_kind to_value = refl
-leads_kind to_parameter = refl
+leads_kind to-parameter = refl
 leads_kind to_next_parameter = refl
 
 pub spans_kind : {closing : Closing} {from to : Control} → Spans closing from to → of_parameter to ≡ of_parameter from
@@ -248,13 +248,13 @@ spans_kind past_function = refl
 
 -- where it starts, and its value: no other group is one of parameters
 data Plain (inside : Bool) : Closing → Type 0 where
-  plain : {closing : Closing} → (closing ≡ toParameter → inside ≡ true) → Plain inside closing
+  plain : {closing : Closing} → (closing ≡ to_parameter → inside ≡ true) → Plain inside closing
 
 either : {inside : Bool} (b : Bool) {x y : Closing} → (b ≡ true → Plain inside x) → Plain inside y → Plain inside (cond b x y)
 either true u v = u refl
 either false u v = v
 
-plain_inside : {inside : Bool} {closing : Closing} → Plain inside closing → closing ≡ toParameter → inside ≡ true
+plain_inside : {inside : Bool} {closing : Closing} → Plain inside closing → closing ≡ to_parameter → inside ≡ true
 plain_inside (plain h) = h
 
 parameter_first : (closing : ℕ) → closing ≡ 4 → of_parameter (inside_by closing) ≡ true
@@ -265,7 +265,7 @@ caught_first : (closing : ℕ) → closing ≡ 14 → of_parameter (inside_by cl
 unfolding inside_by
 caught_first closing e = rw e
 
-pub parameter_inside : (closing : ℕ) → closing_by closing ≡ toParameter → of_parameter (inside_by closing) ≡ true
+pub parameter_inside : (closing : ℕ) → closing_by closing ≡ to_parameter → of_parameter (inside_by closing) ≡ true
 unfolding closing_by
 parameter_inside closing =
     plain_inside

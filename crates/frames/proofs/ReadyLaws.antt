@@ -11,7 +11,7 @@ use Rattle.tables.specs.Records.{most_trees, most_syntax}
 use Rattle.machine.specs.Tokens.{name, colon, else_word, do_word, try_word, case_word, default_word, finally_word, close_brace}
 use Rattle.machine.specs.Syntax.{Syntax}
 use Rattle.machine.specs.Machinery.Machine as machine
-use Rattle.machine.specs.Machinery.Machine.{Frame, ifNest, elseNest, doNest, Setting, in_clause, Target, Ending, Control, statement_due, statement_done, nameFirst, bodyDone, catchDone, tryEnded, operandDone, Value, value_of, doneValue, statementValue}
+use Rattle.machine.specs.Machinery.Machine.{Frame, if_nest, else_nest, do_nest, Setting, in_clause, Target, Ending, Control, statement_due, statement_done, name_first, body_done, catch_done, try_ended, operand_done, Value, value_of, done_value, statement_value}
 use Rattle.controls.specs.Machinery.Numbers.{setting_by, nest_by, ending_by, target_by, control_by, control_of, behind_by}
 use Rattle.controls.specs.Machinery.Steps.{SettledAt, Settled}
 use Rattle.controls.specs.declared.Control as code
@@ -36,7 +36,7 @@ no_leb a b beyond = go (leb a b) refl
     go false e = e
 
 module _ (at : code.Control) where
-  control_named : at.place ≡ 42 → control_of at ≡ nameFirst (setting_by at.setting)
+  control_named : at.place ≡ 42 → control_of at ≡ name_first (setting_by at.setting)
   unfolding control_of control_by
   control_named e = rw e
 
@@ -44,15 +44,15 @@ module _ (at : code.Control) where
   unfolding control_of control_by
   control_done e = rw e
 
-  control_catch : at.place ≡ 43 → control_of at ≡ catchDone
+  control_catch : at.place ≡ 43 → control_of at ≡ catch_done
   unfolding control_of control_by
   control_catch e = rw e
 
-  control_try : at.place ≡ 44 → control_of at ≡ tryEnded
+  control_try : at.place ≡ 44 → control_of at ≡ try_ended
   unfolding control_of control_by
   control_try e = rw e
 
-  operand_settles : {ending : Ending} {target : Target} (class : ℕ) → control_of at ≡ operandDone ending target → Settled at class
+  operand_settles : {ending : Ending} {target : Target} (class : ℕ) → control_of at ≡ operand_done ending target → Settled at class
   operand_settles class e =
       record {
         no_nest = λ p. let q = control_done p in let z : ◌≡◌ {A = ℕ} 0 1 = cc in absurd (omega arith);
@@ -68,7 +68,7 @@ module _ (at : code.Control) where
       let none : owed (control_of at) ≡ 0 = rw e (nest_owes nest setting) in
       omega arith
 
-  body_goes_on : {setting : Setting} → control_of at ≡ bodyDone setting → may_be_done at.place ≡ false
+  body_goes_on : {setting : Setting} → control_of at ≡ body_done setting → may_be_done at.place ≡ false
   unfolding may_be_done
   body_goes_on e =
       rw (
@@ -187,7 +187,7 @@ module _ {l : Level} {stack cells : List ℕ} where
         → (r ≡ restarted l) × (stack' ≡ stack_as stack l.top do_word) → Leaves l stack cells (record { control = c; level = r }) stack' cells
     unfolding control_by
     do_leaves one behinds e =
-        let d : control_of c ≡ bodyDone (setting_by (number % settings)) = behinds in
+        let d : control_of c ≡ body_done (setting_by (number % settings)) = behinds in
         let b : control_of c ≡ behind_by 1 (setting_by (number % settings)) = d ∙ sym (do_behind (setting_by (number % settings))) in
         rw (e.0, e.1)
         (record {
@@ -242,23 +242,23 @@ settled_name place setting class is label =
       no_clause = λ e. absurd (omega arith);
     }
 
-no_if : (setting : ℕ) → (setting ≡ 3 → ⊥) → nest_by setting ≡ ifNest → ⊥
+no_if : (setting : ℕ) → (setting ≡ 3 → ⊥) → nest_by setting ≡ if_nest → ⊥
 unfolding nest_by
 no_if setting other e = go (eqb setting 4) (rw (ne_eqb setting 3 other) at e)
   where
-    go : (b : Bool) → cond b elseNest doNest ≡ ifNest → ⊥
+    go : (b : Bool) → cond b else_nest do_nest ≡ if_nest → ⊥
     go true e = let w : ◌≡◌ {A = ℕ} 0 1 = cc in omega arith
     go false e = let w : ◌≡◌ {A = ℕ} 0 1 = cc in omega arith
 
 -- the tests of `is_done_at`, taken apart
-nest_test : (setting class : ℕ) → (not (eqb class else_word) || not (eqb setting 3)) ≡ true → nest_by setting ≡ ifNest → class ≡ else_word → ⊥
+nest_test : (setting class : ℕ) → (not (eqb class else_word) || not (eqb setting 3)) ≡ true → nest_by setting ≡ if_nest → class ≡ else_word → ⊥
 nest_test setting class e i f = no_if setting (λ t. let z : ◌≡◌ {A = ℕ} 0 1 = (let w : false ≡ true = rw (eq-eqb class else_word f, eq-eqb setting 3 t) at e in cc) in omega arith) i
 
-clause_test : (class : ℕ) → ends_clause class ≡ true → Leaving class (statement_due false in_clause) doneValue
+clause_test : (class : ℕ) → ends_clause class ≡ true → Leaving class (statement_due false in_clause) done_value
 unfolding ends_clause
 clause_test class e = go (eqb class case_word) (eqb class default_word) (eqb class close_brace) refl refl refl e
   where
-    go : (a b d : Bool) → eqb class case_word ≡ a → eqb class default_word ≡ b → eqb class close_brace ≡ d → (a || (b || d)) ≡ true → Leaving class (statement_due false in_clause) doneValue
+    go : (a b d : Bool) → eqb class case_word ≡ a → eqb class default_word ≡ b → eqb class close_brace ≡ d → (a || (b || d)) ≡ true → Leaving class (statement_due false in_clause) done_value
     go true b d x y z e = leaving_case (eqb-true class case_word x)
     go false true d x y z e = leaving_default (eqb-true class default_word y)
     go false false true x y z e = leaving_clauses (eqb-true class close_brace z)
@@ -276,12 +276,12 @@ done_here at class e = go (eqb at.place 41) (eqb at.place 43) (eqb at.place 44) 
         → cond a (not (eqb class else_word) || not (eqb at.setting 3)) (cond b (not (eqb class finally_word)) (cond d true (cond f (ends_clause class) false))) ≡ true
         → Done at class
     go true b d f x y z w e =
-        record { value = statementValue; leaving = rw (control_done at (eqb-true at.place 41 x)) (leaving_statement (nest_test at.setting class e)); may = rw x }
+        record { value = statement_value; leaving = rw (control_done at (eqb-true at.place 41 x)) (leaving_statement (nest_test at.setting class e)); may = rw x }
     go false true d f x y z w e =
-        record { value = doneValue; leaving = rw (control_catch at (eqb-true at.place 43 y)) (leaving_catch (eqb-false class finally_word (not_true (eqb class finally_word) e))); may = rw (x, y) }
-    go false false true f x y z w e = record { value = doneValue; leaving = rw (control_try at (eqb-true at.place 44 z)) leaving_try; may = rw (x, y, z) }
+        record { value = done_value; leaving = rw (control_catch at (eqb-true at.place 43 y)) (leaving_catch (eqb-false class finally_word (not_true (eqb class finally_word) e))); may = rw (x, y) }
+    go false false true f x y z w e = record { value = done_value; leaving = rw (control_try at (eqb-true at.place 44 z)) leaving_try; may = rw (x, y, z) }
     go false false false true x y z w e =
-        record { value = doneValue; leaving = rw (in-clause at (leb-true 45 at.place w)) (clause_test class e); may = rw (x, y, z, w) }
+        record { value = done_value; leaving = rw (in-clause at (leb-true 45 at.place w)) (clause_test class e); may = rw (x, y, z, w) }
     go false false false false x y z w e = absurd (let v : ◌≡◌ {A = ℕ} 0 1 = cc in omega arith)
 
 -- where the tests fail

@@ -29,7 +29,7 @@ use Rattle.machine.specs.Machinery.Machine.{
   State,
   dead,
   live,
-  popIn,
+  pop_in,
   head_in,
   pop_to,
   turn_to,
@@ -86,7 +86,7 @@ module _ (newline : Bool) (mark here there : ℕ) where
   acts_alike out away left (pop value) f around = pops_alike _ around
   acts_alike out away left (leave value) f around = left _
   acts_alike out away left (ask ending) f around = alike
-  acts_alike out away left popIn f around = pops_alike _ (head_in around)
+  acts_alike out away left pop_in f around = pops_alike _ (head_in around)
   acts_alike out away left turn f around = turns_alike _ around
   acts_alike out away left finish f around = finishes_alike f around
 

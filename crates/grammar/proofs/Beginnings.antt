@@ -28,9 +28,9 @@ use Rattle.grammar.specs.Grammar.{
   identifier,
   reserved_word,
   Items,
-  callArguments,
-  arrayElements,
-  objectProperties,
+  call_arguments,
+  array_elements,
+  object_properties,
   ItemStart,
   at_argument,
   at_element,
@@ -46,10 +46,10 @@ use Rattle.grammar.specs.Grammar.{
   chain_member,
   chain_call,
   chain_new,
-  targetForm,
+  target_form,
   binary_form,
-  assignForm,
-  expressionForm,
+  assign_form,
+  expression_form,
   Derives,
   target_chain,
   target_new,
@@ -72,49 +72,49 @@ use Rattle.machine.specs.Machinery.Machine.{
   Setting,
   among,
   statement_due,
-  nameFirst,
-  returnFirst,
-  throwFirst,
-  jumpFirst,
-  semicolonDue,
-  variableDue,
+  name_first,
+  return_first,
+  throw_first,
+  jump_first,
+  semicolon_due,
+  variable_due,
   Variables,
   in_statement,
   in_head,
-  startDue,
-  testDue,
-  stepDue,
+  start_due,
+  test_due,
+  step_due,
   behind_statement,
-  operandDue,
-  memberDue,
-  operandDone,
-  byStatement,
-  byReturn,
+  operand_due,
+  member_due,
+  operand_done,
+  by_statement,
+  by_return,
   by_item,
-  byStart,
-  byTest,
+  by_start,
+  by_test,
   by_step,
   Target,
-  noTarget,
-  someTarget,
-  loneTarget,
+  no_target,
+  some_target,
+  lone_target,
   keep,
-  takeName,
-  takeLabel,
-  takeLeaf,
-  takePrefix,
-  holdWord,
-  startStatement,
-  endBare,
-  endValue,
-  doneValue,
-  listValue,
-  toBlock,
-  toStatement,
+  take_name,
+  take_label,
+  take_leaf,
+  take_prefix,
+  hold_word,
+  start_statement,
+  end_bare,
+  end_value,
+  done_value,
+  list_value,
+  to_block,
+  to_statement,
   Control,
-  ifFirst,
+  if_first,
   item_due,
-  propertyNamed,
+  property_named,
   behind_comma,
   Action,
   goto,
@@ -187,7 +187,7 @@ chain_begins (chain_member called object) = followed true tt (chain_begins objec
 chain_begins (chain_call callee values) = followed true tt (chain_begins callee)
 chain_begins (chain_new callee values) = begins_by tt tt
 
-pub target_begins : {calls : Bool} {before after : List Token} {value : Syntax} → Derives (targetForm calls) before after value
+pub target_begins : {calls : Bool} {before after : List Token} {value : Syntax} → Derives (target_form calls) before after value
     → Begins target_starts (no_colon after) before
 target_begins (target_chain chain) = chain_begins chain
 target_begins (target_new callee) = begins_by tt tt
@@ -213,14 +213,14 @@ binary_begins {within} (binary_operator {class = class} op tight left right) =
     followed (not (eqb class colon)) (operator_no_colon binary_operators tt class (binary_by within class op)) (binary_begins left)
 
 -- where no `:` stands behind the whole, it begins as no label does
-pub assign_begins : {within : Bool} {before after : List Token} {value : Syntax} → Derives (assignForm within) before after value → T (no_colon after)
+pub assign_begins : {within : Bool} {before after : List Token} {value : Syntax} → Derives (assign_form within) before after value → T (no_colon after)
     → Begins expression_starts true before
 assign_begins {after = after} (assign_binary binary) next = followed (no_colon after) next (binary_begins binary)
 assign_begins (assign_to {class = class} op target value) next =
     followed (not (eqb class colon)) (operator_no_colon assignment_operators tt class op) (widened (target_begins target))
 assign_begins (assign_conditional condition first second) next = followed true tt (binary_begins condition)
 
-pub expression_begins : {within : Bool} {before after : List Token} {value : Syntax} → Derives (expressionForm within) before after value → T (no_colon after)
+pub expression_begins : {within : Bool} {before after : List Token} {value : Syntax} → Derives (expression_form within) before after value → T (no_colon after)
     → Begins expression_starts true before
 expression_begins (expression_assign value) next = assign_begins value next
 expression_begins (expression_comma left right) next = expression_begins left tt
@@ -245,25 +245,25 @@ between_variables (in_head only) first = in_head first
 
 -- the parts of the head of a `for`: where each may begin, its ending, what its first chain may be, and the class that ends it
 pub data HeadPart : Control → Ending → Target → ℕ → Type 0 where
-  start_part : HeadPart startDue byStart loneTarget semicolon
-  test_part : HeadPart testDue byTest someTarget semicolon
-  step_part : HeadPart stepDue by_step someTarget close_paren
+  start_part : HeadPart start_due by_start lone_target semicolon
+  test_part : HeadPart test_due by_test some_target semicolon
+  step_part : HeadPart step_due by_step some_target close_paren
 
 -- the entries of the row where a statement may begin that begin no expression
 abbrev statement_only : Setting → List Entry
 statement_only setting =
-    on open_brace (push (statement_due false (among block)) (behind_statement setting) toBlock)
-    ∷ on if_word (enter ifFirst holdWord keep (behind_statement setting) toStatement)
-    ∷ on return_word (goto (returnFirst setting) (startStatement full_return_syntax))
-    ∷ on name (goto (nameFirst setting) takeName)
+    on open_brace (push (statement_due false (among block)) (behind_statement setting) to_block)
+    ∷ on if_word (enter if_first hold_word keep (behind_statement setting) to_statement)
+    ∷ on return_word (goto (return_first setting) (start_statement full_return_syntax))
+    ∷ on name (goto (name_first setting) take_name)
     ∷ word_row setting []
 
 -- other beginnings of an expression are looked up alike where a statement may begin and where an operand is due
 statement_or_operand : (must : Bool) (setting : Setting) (class : ℕ) → T (is_among (plain_starts ++ prefix_operators) class)
-    → look class (statement_only setting ++ beginnings (byStatement setting) someTarget (no_statement must setting)) ≡ look class (operand (byStatement setting) someTarget)
+    → look class (statement_only setting ++ beginnings (by_statement setting) some_target (no_statement must setting)) ≡ look class (operand (by_statement setting) some_target)
 statement_or_operand must setting class h =
-    let plain = beginnings (byStatement setting) someTarget [] in
-    let starts = operand_begins (byStatement setting) someTarget [] in
+    let plain = beginnings (by_statement setting) some_target [] in
+    let starts = operand_begins (by_statement setting) some_target [] in
     look_beyond (statement_only setting) (plain ++ no_statement must setting) class (here (λ x. not (has_entry (statement_only setting) x)) tt)
     ∙ look_within plain (no_statement must setting) class (here (has_entry plain) tt)
     ∙ sym (look_beyond starts plain class (here (λ x. not (has_entry starts x)) tt))
@@ -276,12 +276,12 @@ member_or_operand : (ending : Ending) (target : Target) (class : ℕ) → T (is_
     → look class (member ending target) ≡ look class (operand ending target)
 member_or_operand ending target class h =
     sym (look_under (operand_begins ending target []) (beginnings ending target []) (primaries ending target []) class
-    (look_behind (λ class. goto (operandDue ending noTarget) (takePrefix (prefix_kind class))) prefix_operators (primaries ending target []) class
+    (look_behind (λ class. goto (operand_due ending no_target) (take_prefix (prefix_kind class))) prefix_operators (primaries ending target []) class
     (at_class (λ x. not (is_among prefix_operators x)) target_starts class h tt)))
 
 -- leaves are looked up where an operand is due
 pub look_leaf : {class : ℕ} (ending : Ending) (target : Target) → Leaf class
-    → look class (operand ending target) ≡ goto (operandDone ending target) (takeLeaf class)
+    → look class (operand ending target) ≡ goto (operand_done ending target) (take_leaf class)
 look_leaf ending target leaf_name = refl
 look_leaf ending target leaf_number = refl
 look_leaf ending target leaf_string = refl
@@ -293,11 +293,11 @@ look_leaf ending target leaf_false = refl
 
 -- operators before an operand are looked up behind names, objects and functions
 pub look_prefix : (ending : Ending) (target : Target) (class : ℕ) → T (is_among prefix_operators class)
-    → look class (operand ending target) ≡ goto (operandDue ending noTarget) (takePrefix (prefix_kind class))
+    → look class (operand ending target) ≡ goto (operand_due ending no_target) (take_prefix (prefix_kind class))
 look_prefix ending target class op =
     let starts = operand_begins ending target [] in
     look_beyond starts (beginnings ending target []) class (at_class (λ x. not (has_entry starts x)) prefix_operators class op tt)
-    ∙ look_each (λ class. goto (operandDue ending noTarget) (takePrefix (prefix_kind class))) prefix_operators (primaries ending target []) class op
+    ∙ look_each (λ class. goto (operand_due ending no_target) (take_prefix (prefix_kind class))) prefix_operators (primaries ending target []) class op
 
 not_either : (a b : Bool) → T (not (a || b)) → T (not a) × T (not b)
 not_either true b h = absurd h
@@ -306,36 +306,36 @@ not_either false b h = (tt, h)
 module _ {A : Type 0} {seen : State → List Token → A} (sees : Sees seen) where
   -- a name before no `:` is an operand
   name_is_operand : (setting : Setting) (f : Frame) (around : List Open) (rest : List Token) → T (no_colon rest)
-      → seen (live (nameFirst setting) f around) rest ≡ seen (live (operandDone (byStatement setting) someTarget) f around) rest
+      → seen (live (name_first setting) f around) rest ≡ seen (live (operand_done (by_statement setting) some_target) f around) rest
   name_is_operand setting f around [] next = absurd next
   name_is_operand setting f around (token class spot ∷ rest) next =
-      sees.by_take (live (nameFirst setting) f around) (live (operandDone (byStatement setting) someTarget) f around) (token class spot) rest refl
+      sees.by_take (live (name_first setting) f around) (live (operand_done (by_statement setting) some_target) f around) (token class spot) rest refl
       (ap (λ (z : Action). act z class spot f around)
-      (look_past class colon (goto (statement_due true setting) takeLabel) (after_operand (byStatement setting) someTarget spot.newline) next))
+      (look_past class colon (goto (statement_due true setting) take_label) (after_operand (by_statement setting) some_target spot.newline) next))
 
   -- "not starting with `{` or `function`": a statement that begins as an expression is taken as one
   pub expression_is_taken : (must : Bool) (setting : Setting) (f : Frame) (around : List Open) {before : List Token}
       → Begins expression_starts true before → T (starts_expression before)
-      → seen (live (statement_due must setting) f around) before ≡ seen (live (operandDue (byStatement setting) someTarget) f around) before
+      → seen (live (statement_due must setting) f around) before ≡ seen (live (operand_due (by_statement setting) some_target) f around) before
   expression_is_taken must setting f around (by_class {class = class} {spot = spot} {rest = rest} listed next) allowed =
       go (eqb class name) (λ t. t) (λ t. t)
     where
       by_name : (f : Frame) → T (no_colon rest)
           → seen (live (statement_due must setting) f around) (token name spot ∷ rest)
-          ≡ seen (live (operandDue (byStatement setting) someTarget) f around) (token name spot ∷ rest)
+          ≡ seen (live (operand_due (by_statement setting) some_target) f around) (token name spot ∷ rest)
       by_name (frame done starts waiting operand) next =
           let f = frame done starts waiting operand in
           sees.past_other (live (statement_due must setting) f around) name spot rest tt
           ∙ name_is_operand setting (frame done starts waiting (node name spot.mark nil nil)) around rest next
-          ∙ sym (sees.past_other (live (operandDue (byStatement setting) someTarget) f around) name spot rest tt)
+          ∙ sym (sees.past_other (live (operand_due (by_statement setting) some_target) f around) name spot rest tt)
 
       go : (b : Bool) → (T b → T (eqb class name)) → (T (not b) → T (not (eqb class name)))
           → seen (live (statement_due must setting) f around) (token class spot ∷ rest)
-          ≡ seen (live (operandDue (byStatement setting) someTarget) f around) (token class spot ∷ rest)
+          ≡ seen (live (operand_due (by_statement setting) some_target) f around) (token class spot ∷ rest)
       go true same other = rw (eqb→eq class name (same tt)) (by_name f (next (same tt) tt))
       go false same other =
           let neither = not_either (eqb class open_brace) (eqb class function_word) allowed in
-          sees.by_take (live (statement_due must setting) f around) (live (operandDue (byStatement setting) someTarget) f around) (token class spot) rest refl
+          sees.by_take (live (statement_due must setting) f around) (live (operand_due (by_statement setting) some_target) f around) (token class spot) rest refl
           (ap (λ (z : Action). act z class spot f around)
           (statement_or_operand must setting class
           (among_rest function_word (plain_starts ++ prefix_operators) class neither.1
@@ -344,92 +344,92 @@ module _ {A : Type 0} {seen : State → List Token → A} (sees : Sees seen) whe
 
   -- behind `new` no operator may come: a Target is taken as any operand
   pub target_is_taken : {past : Bool} (ending : Ending) (target : Target) (f : Frame) (around : List Open) {before : List Token} → Begins target_starts past before
-      → seen (live (memberDue ending target) f around) before ≡ seen (live (operandDue ending target) f around) before
+      → seen (live (member_due ending target) f around) before ≡ seen (live (operand_due ending target) f around) before
   target_is_taken ending target f around (by_class {class = class} {spot = spot} {rest = rest} listed next) =
-      sees.by_take (live (memberDue ending target) f around) (live (operandDue ending target) f around) (token class spot) rest refl
+      sees.by_take (live (member_due ending target) f around) (live (operand_due ending target) f around) (token class spot) rest refl
       (ap (λ (z : Action). act z class spot f around) (member_or_operand ending target class listed))
 
   -- an expression is taken where the entries for an operand stand behind others
   operand_is_taken : {past : Bool} (control : Control) (ending : Ending) (target : Target) (others : List Entry) (f : Frame) (around : List Open)
       {class : ℕ} {spot : Spot} {rest : List Token} → T (each_class (λ x. not (has_entry others x)) expression_starts)
-      → asks control ≡ asks (operandDue ending target) → row control spot.newline ≡ others ++ operand ending target
+      → asks control ≡ asks (operand_due ending target) → row control spot.newline ≡ others ++ operand ending target
       → Begins expression_starts past (token class spot ∷ rest)
-      → seen (live control f around) (token class spot ∷ rest) ≡ seen (live (operandDue ending target) f around) (token class spot ∷ rest)
+      → seen (live control f around) (token class spot ∷ rest) ≡ seen (live (operand_due ending target) f around) (token class spot ∷ rest)
   operand_is_taken control ending target others f around none asked same (by_class {class = class} {spot = spot} {rest = rest} listed next) =
-      sees.by_take (live control f around) (live (operandDue ending target) f around) (token class spot) rest asked
+      sees.by_take (live control f around) (live (operand_due ending target) f around) (token class spot) rest asked
       (ap (λ (z : List Entry). act (look class z) class spot f around) same
       ∙ ap (λ (z : Action). act z class spot f around)
       (look_beyond others (operand ending target) class (at_class (λ x. not (has_entry others x)) expression_starts class listed none)))
 
   -- "with no line end after `return`": a value is taken
   pub value_is_returned : (setting : Setting) (f : Frame) (around : List Open) (before : List Token) → Begins expression_starts true before → T (on_same_line before)
-      → seen (live (returnFirst setting) f around) before ≡ seen (live (operandDue (byReturn setting) someTarget) f around) before
+      → seen (live (return_first setting) f around) before ≡ seen (live (operand_due (by_return setting) some_target) f around) before
   value_is_returned setting f around [] begins same = elim begins [ ]
   value_is_returned setting f around (token class spot ∷ rest) begins same =
-      let bare = on semicolon (goto (behind_statement setting) endBare) in
-      operand_is_taken (returnFirst setting) (byReturn setting) someTarget (bare ∷ []) f around tt refl
-      (ap (λ (z : List Entry). bare ∷ z) (no_newline spot.newline (operand (byReturn setting) someTarget) same)) begins
+      let bare = on semicolon (goto (behind_statement setting) end_bare) in
+      operand_is_taken (return_first setting) (by_return setting) some_target (bare ∷ []) f around tt refl
+      (ap (λ (z : List Entry). bare ∷ z) (no_newline spot.newline (operand (by_return setting) some_target) same)) begins
 
   -- the same of `throw`, behind which no `;` may come
   pub value_is_thrown : (setting : Setting) (f : Frame) (around : List Open) (before : List Token) → Begins expression_starts true before → T (on_same_line before)
-      → seen (live (throwFirst setting) f around) before ≡ seen (live (operandDue (byReturn setting) someTarget) f around) before
+      → seen (live (throw_first setting) f around) before ≡ seen (live (operand_due (by_return setting) some_target) f around) before
   value_is_thrown setting f around [] begins same = elim begins [ ]
   value_is_thrown setting f around (token class spot ∷ rest) begins same =
-      operand_is_taken (throwFirst setting) (byReturn setting) someTarget [] f around tt refl
-      (no_newline spot.newline (operand (byReturn setting) someTarget) same) begins
+      operand_is_taken (throw_first setting) (by_return setting) some_target [] f around tt refl
+      (no_newline spot.newline (operand (by_return setting) some_target) same) begins
 
   -- `continue` and `break`: a label on the same line is taken
   pub label_is_taken : (setting : Setting) (f : Frame) (around : List Open) (label : Spot) (rest : List Token) → T (not label.newline)
-      → seen (live (jumpFirst setting) f around) (token name label ∷ rest) ≡ seen (live (semicolonDue setting) f around) rest
+      → seen (live (jump_first setting) f around) (token name label ∷ rest) ≡ seen (live (semicolon_due setting) f around) rest
   label_is_taken setting f around label rest same =
-      sees.past_other (live (jumpFirst setting) f around) name label rest tt
+      sees.past_other (live (jump_first setting) f around) name label rest tt
       ∙ ap (λ (z : List Entry). seen (act (look name z) name label f around) rest)
-      (no_newline label.newline (on name (goto (semicolonDue setting) keep) ∷ []) same)
+      (no_newline label.newline (on name (goto (semicolon_due setting) keep) ∷ []) same)
 
   -- the value of an item is taken
   argument_is_taken : (f : Frame) (around : List Open) (before : List Token) → Begins expression_starts true before
-      → seen (live (item_due callArguments) f around) before ≡ seen (live (operandDue (by_item callArguments) someTarget) f around) before
+      → seen (live (item_due call_arguments) f around) before ≡ seen (live (operand_due (by_item call_arguments) some_target) f around) before
   argument_is_taken f around [] begins = elim begins [ ]
   argument_is_taken f around (token class spot ∷ rest) begins =
-      operand_is_taken (item_due callArguments) (by_item callArguments) someTarget (on close_paren (pop doneValue) ∷ []) f around tt refl refl begins
+      operand_is_taken (item_due call_arguments) (by_item call_arguments) some_target (on close_paren (pop done_value) ∷ []) f around tt refl refl begins
 
   element_is_taken : (f : Frame) (around : List Open) (before : List Token) → Begins expression_starts true before
-      → seen (live (item_due arrayElements) f around) before ≡ seen (live (operandDue (by_item arrayElements) someTarget) f around) before
+      → seen (live (item_due array_elements) f around) before ≡ seen (live (operand_due (by_item array_elements) some_target) f around) before
   element_is_taken f around [] begins = elim begins [ ]
   element_is_taken f around (token class spot ∷ rest) begins =
-      operand_is_taken (item_due arrayElements) (by_item arrayElements) someTarget
-      (on comma (goto (item_due arrayElements) keep) ∷ on close_bracket (pop doneValue) ∷ []) f around tt refl refl begins
+      operand_is_taken (item_due array_elements) (by_item array_elements) some_target
+      (on comma (goto (item_due array_elements) keep) ∷ on close_bracket (pop done_value) ∷ []) f around tt refl refl begins
 
-  property_is_taken : (f : Frame) (around : List Open) {before here : List Token} → ItemStart objectProperties before here
-      → seen (live (item_due objectProperties) f around) before ≡ seen (live (operandDue (by_item objectProperties) someTarget) f around) here
+  property_is_taken : (f : Frame) (around : List Open) {before here : List Token} → ItemStart object_properties before here
+      → seen (live (item_due object_properties) f around) before ≡ seen (live (operand_due (by_item object_properties) some_target) f around) here
   property_is_taken f around (at_property {called = called} {sign = sign} {here = here} identifier) =
-      sees.past_other (live (item_due objectProperties) f around) name called (token colon sign ∷ here) tt
-      ∙ sees.past_other (live propertyNamed f around) colon sign here tt
+      sees.past_other (live (item_due object_properties) f around) name called (token colon sign ∷ here) tt
+      ∙ sees.past_other (live property_named f around) colon sign here tt
   property_is_taken f around (at_property {called = called} {sign = sign} {here = here} reserved_word) =
-      sees.past_other (live (item_due objectProperties) f around) word_name called (token colon sign ∷ here) tt
-      ∙ sees.past_other (live propertyNamed f around) colon sign here tt
+      sees.past_other (live (item_due object_properties) f around) word_name called (token colon sign ∷ here) tt
+      ∙ sees.past_other (live property_named f around) colon sign here tt
 
   pub item_is_taken : (items : Items) (first : Bool) (f : Frame) (around : List Open) {before here : List Token} → ItemStart items before here
       → Begins expression_starts true here
-      → seen (live (between_items items first) f around) before ≡ seen (live (operandDue (by_item items) someTarget) f around) here
-  item_is_taken callArguments true f around {before} at_argument begins = argument_is_taken f around before begins
-  item_is_taken callArguments false f around at_argument begins = refl
-  item_is_taken arrayElements true f around {before} at_element begins = element_is_taken f around before begins
-  item_is_taken arrayElements false f around {before} at_element begins = element_is_taken f around before begins
-  item_is_taken objectProperties true f around starts begins = property_is_taken f around starts
-  item_is_taken objectProperties false f around starts begins = property_is_taken f around starts
+      → seen (live (between_items items first) f around) before ≡ seen (live (operand_due (by_item items) some_target) f around) here
+  item_is_taken call_arguments true f around {before} at_argument begins = argument_is_taken f around before begins
+  item_is_taken call_arguments false f around at_argument begins = refl
+  item_is_taken array_elements true f around {before} at_element begins = element_is_taken f around before begins
+  item_is_taken array_elements false f around {before} at_element begins = element_is_taken f around before begins
+  item_is_taken object_properties true f around starts begins = property_is_taken f around starts
+  item_is_taken object_properties false f around starts begins = property_is_taken f around starts
 
   -- a part of the head of a `for` is taken
   pub part_is_taken : {control : Control} {ending : Ending} {target : Target} {class : ℕ} → HeadPart control ending target class → (f : Frame)
       (around : List Open) (before : List Token) → Begins expression_starts true before
-      → seen (live control f around) before ≡ seen (live (operandDue ending target) f around) before
+      → seen (live control f around) before ≡ seen (live (operand_due ending target) f around) before
   part_is_taken start_part f around [] begins = elim begins [ ]
   part_is_taken test_part f around [] begins = elim begins [ ]
   part_is_taken step_part f around [] begins = elim begins [ ]
   part_is_taken start_part f around (token class spot ∷ rest) begins =
-      operand_is_taken startDue byStart loneTarget
-      (on semicolon (goto testDue endValue) ∷ on var_word (goto (variableDue (in_head true)) (startStatement var_word)) ∷ []) f around tt refl refl begins
+      operand_is_taken start_due by_start lone_target
+      (on semicolon (goto test_due end_value) ∷ on var_word (goto (variable_due (in_head true)) (start_statement var_word)) ∷ []) f around tt refl refl begins
   part_is_taken test_part f around (token class spot ∷ rest) begins =
-      operand_is_taken testDue byTest someTarget (on semicolon (goto stepDue endValue) ∷ []) f around tt refl refl begins
+      operand_is_taken test_due by_test some_target (on semicolon (goto step_due end_value) ∷ []) f around tt refl refl begins
   part_is_taken step_part f around (token class spot ∷ rest) begins =
-      operand_is_taken stepDue by_step someTarget (on close_paren (pop listValue) ∷ []) f around tt refl refl begins
+      operand_is_taken step_due by_step some_target (on close_paren (pop list_value) ∷ []) f around tt refl refl begins

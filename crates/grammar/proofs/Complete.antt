@@ -28,9 +28,9 @@ use Rattle.grammar.specs.Grammar.{
   body,
   block,
   Items,
-  callArguments,
-  arrayElements,
-  objectProperties,
+  call_arguments,
+  array_elements,
+  object_properties,
   may_end_in_comma,
   Names,
   one_name,
@@ -39,24 +39,24 @@ use Rattle.grammar.specs.Grammar.{
   no_parameters,
   some_parameters,
   Form,
-  expressionForm,
-  assignForm,
+  expression_form,
+  assign_form,
   binary_form,
   unary_form,
-  targetForm,
-  chainForm,
-  functionForm,
-  statementForm,
-  blockForm,
-  catchForm,
-  finallyForm,
-  clausesForm,
-  variablesForm,
-  variableForm,
-  optionalForm,
+  target_form,
+  chain_form,
+  function_form,
+  statement_form,
+  block_form,
+  catch_form,
+  finally_form,
+  clauses_form,
+  variables_form,
+  variable_form,
+  optional_form,
   statements_form,
-  itemsForm,
-  listForm,
+  items_form,
+  list_form,
   Derives,
   Function,
   chain_leaf,
@@ -128,7 +128,7 @@ use Rattle.grammar.specs.Grammar.{
   add_declaration,
   Program,
 }
-use Rattle.machine.specs.Machinery.Machine.{end_of_text, Pending, pending, Frame, frame, empty, prefix_precedence, new_precedence, tightness, complete_statement, called, mark_of, held_word, toParameter, toStatement, toBody, toBlock, toTry, takeElse, startStatement, statementValue, doneValue, Target, noTarget, someTarget, loneTarget, is_target, allows_in, Ending, byStatement, byReturn, by_variable, byStart, byObject, by_case, byParen, byBracket, byColon, by_item, Role, declared, operand_in, Nest, ifNest, elseNest, doNest, Setting, among, in_clause, in_nest, Variables, in_statement, in_head, Control, statement_due, statement_done, behind_statement, clause_due, tryFirst, tryDone, catchPast, catchDone, finallyFirst, tryEnded, variableDue, bodyDone, operandDue, operandDone, functionFirst, functionNamed, item_due, parameter_due, parameterNamed, parameterPast, Closing, close, list_closer, finished, look, row, Action, goto, leave, otherwise, Open, grouped, nested, asking, State, dead, live, act, consume, run, start}
+use Rattle.machine.specs.Machinery.Machine.{end_of_text, Pending, pending, Frame, frame, empty, prefix_precedence, new_precedence, tightness, complete_statement, called, mark_of, held_word, to_parameter, to_statement, to_body, to_block, to_try, take_else, start_statement, statement_value, done_value, Target, no_target, some_target, lone_target, is_target, allows_in, Ending, by_statement, by_return, by_variable, by_start, by_object, by_case, by_paren, by_bracket, by_colon, by_item, Role, declared, operand_in, Nest, if_nest, else_nest, do_nest, Setting, among, in_clause, in_nest, Variables, in_statement, in_head, Control, statement_due, statement_done, behind_statement, clause_due, try_first, try_done, catch_past, catch_done, finally_first, try_ended, variable_due, body_done, operand_due, operand_done, function_first, function_named, item_due, parameter_due, parameter_named, parameter_past, Closing, close, list_closer, finished, look, row, Action, goto, leave, otherwise, Open, grouped, nested, asking, State, dead, live, act, consume, run, start}
 use Rattle.machine.proofs.Ran.{ran, ran_is_run, anywhere}
 use Rattle.grammar.proofs.TableLaws.{look_past, holds_at, binary_by, binary_tightness, binary_under_prefix, assignment_tightness, prefix_tightness}
 use Rattle.grammar.proofs.ReduceLaws.{Looser, looser_up}
@@ -137,8 +137,8 @@ use Rattle.grammar.proofs.Following.{past_operand, takes_comma}
 use Rattle.grammar.proofs.Passing.{
   Reached,
   Passed,
-  by_paren,
-  by_bracket,
+  by-paren,
+  by-bracket,
   group_passed,
   item_passed,
   ListPassed,
@@ -178,7 +178,7 @@ use Rattle.grammar.proofs.Passing.{
 -- behind a function: the control, and the frame
 abbrev pub behind_function : Role → Control
 behind_function declared = statement_due false (among body)
-behind_function (operand_in ending target) = operandDone ending target
+behind_function (operand_in ending target) = operand_done ending target
 
 abbrev with_function : Role → Syntax → Syntax → List Pending → List Pending → Syntax → Frame
 with_function declared inside done starts waiting word = complete_statement done starts (node declaration_syntax (mark_of word) inside nil)
@@ -186,16 +186,16 @@ with_function (operand_in ending target) inside done starts waiting word = frame
 
 leaf_taken : {class : ℕ} (stop spot : Spot) (after : List Token) (ending : Ending) (target : Target) (done : Syntax) (starts waiting : List Pending)
     (operand : Syntax) (around : List Open) → Leaf class
-    → ran stop (live (operandDue ending target) (frame done starts waiting operand) around) (token class spot ∷ after)
-    ≡ ran stop (live (operandDone ending target) (frame done starts waiting (node class spot.mark nil nil)) around) after
+    → ran stop (live (operand_due ending target) (frame done starts waiting operand) around) (token class spot ∷ after)
+    ≡ ran stop (live (operand_done ending target) (frame done starts waiting (node class spot.mark nil nil)) around) after
 leaf_taken {class} stop spot after ending target done starts waiting operand around leaf =
     ap (λ (z : Action). ran stop (act z class spot (frame done starts waiting operand) around) after) (look_leaf ending target leaf)
 
 -- an operator before an operand waits
 prefix_taken : (stop : Spot) (class : ℕ) (sign : Spot) (middle : List Token) (ending : Ending) (target : Target) (done : Syntax) (starts waiting : List Pending)
     (operand : Syntax) (around : List Open) → T (is_among prefix_operators class)
-    → ran stop (live (operandDue ending target) (frame done starts waiting operand) around) (token class sign ∷ middle)
-    ≡ ran stop (live (operandDue ending noTarget) (frame done starts (pending (prefix_kind class) sign.mark nil ∷ waiting) nil) around) middle
+    → ran stop (live (operand_due ending target) (frame done starts waiting operand) around) (token class sign ∷ middle)
+    ≡ ran stop (live (operand_due ending no_target) (frame done starts (pending (prefix_kind class) sign.mark nil ∷ waiting) nil) around) middle
 prefix_taken stop class sign middle ending target done starts waiting operand around op =
     ap (λ (z : Action). ran stop (act z class sign (frame done starts waiting operand) around) middle) (look_prefix ending target class op)
 
@@ -224,35 +224,35 @@ ran_sees stop = record { by_take = λ state other t ts asked same. ap (λ (s : S
 
 -- a nest that is complete is left, whatever comes, but that of an `if` by an `else`
 abbrev left_before : Nest → List Token → Bool
-left_before ifNest after = no_else after
-left_before elseNest after = true
-left_before doNest after = true
+left_before if_nest after = no_else after
+left_before else_nest after = true
+left_before do_nest after = true
 
 nest_left : (nest : Nest) (stop : Spot) (setting : Setting) (value : Syntax) (mark : ℕ) (done : Syntax) (starts : List Pending) (around : List Open)
     (after : List Token) → T (left_before nest after)
     → ran stop (live (statement_done nest) (frame (snoc nil value) [] [] nil)
-    (nested (behind_statement setting) toStatement mark (frame done starts [] nil) ∷ around)) after
+    (nested (behind_statement setting) to_statement mark (frame done starts [] nil) ∷ around)) after
     ≡ ran stop (live (behind_statement setting) (complete_statement done starts value) around) after
-nest_left ifNest stop setting value mark done starts around [] none = refl
-nest_left ifNest stop setting value mark done starts around (token class spot ∷ after) none =
-    let outside = nested (behind_statement setting) toStatement mark (frame done starts [] nil) ∷ around in
+nest_left if_nest stop setting value mark done starts around [] none = refl
+nest_left if_nest stop setting value mark done starts around (token class spot ∷ after) none =
+    let outside = nested (behind_statement setting) to_statement mark (frame done starts [] nil) ∷ around in
     ap (λ (z : Action). ran stop (act z class spot (frame (snoc nil value) [] [] nil) outside) after)
-    (look_past class else_word (goto (statement_due true (in_nest elseNest)) takeElse) (otherwise (leave statementValue) ∷ []) none)
-nest_left elseNest stop setting value mark done starts around [] none = refl
-nest_left elseNest stop setting value mark done starts around (token class spot ∷ after) none = refl
-nest_left doNest stop setting value mark done starts around [] none = refl
-nest_left doNest stop setting value mark done starts around (token class spot ∷ after) none = refl
+    (look_past class else_word (goto (statement_due true (in_nest else_nest)) take_else) (otherwise (leave statement_value) ∷ []) none)
+nest_left else_nest stop setting value mark done starts around [] none = refl
+nest_left else_nest stop setting value mark done starts around (token class spot ∷ after) none = refl
+nest_left do_nest stop setting value mark done starts around [] none = refl
+nest_left do_nest stop setting value mark done starts around (token class spot ∷ after) none = refl
 
 -- `{` opens the block of a statement, or of a `try`: where it is due, and where the machine stands behind it
 data BlockAt : Control → Control → Type 0 where
   in-statement : {must : Bool} {setting : Setting} → BlockAt (statement_due must setting) (behind_statement setting)
-  in_try : BlockAt tryFirst tryDone
-  in_catch : BlockAt catchPast catchDone
-  in_finally : BlockAt finallyFirst tryEnded
+  in_try : BlockAt try_first try_done
+  in_catch : BlockAt catch_past catch_done
+  in_finally : BlockAt finally_first try_ended
 
 block_opened : {control behind : Control} (stop opener : Spot) (f : Frame) (around : List Open) (inside : List Token) → BlockAt control behind
     → ran stop (live control f around) (token open_brace opener ∷ inside)
-    ≡ ran stop (live (statement_due false (among block)) empty (grouped behind toBlock opener.mark f ∷ around)) inside
+    ≡ ran stop (live (statement_due false (among block)) empty (grouped behind to_block opener.mark f ∷ around)) inside
 block_opened stop opener f around inside in-statement = refl
 block_opened stop opener f around inside in_try = refl
 block_opened stop opener f around inside in_catch = refl
@@ -260,29 +260,29 @@ block_opened stop opener f around inside in_finally = refl
 
 -- where `finally` may come
 data FinallyAt : Control → Type 0 where
-  behind_try : FinallyAt tryDone
-  behind_catch : FinallyAt catchDone
+  behind_try : FinallyAt try_done
+  behind_catch : FinallyAt catch_done
 
 finally_opened : {control : Control} (stop word : Spot) (done : Syntax) (around : List Open) (inside : List Token) → FinallyAt control
     → ran stop (live control (frame done [] [] nil) around) (token finally_word word ∷ inside)
-    ≡ ran stop (live finallyFirst (frame done (pending finally_word word.mark nil ∷ []) [] nil) around) inside
+    ≡ ran stop (live finally_first (frame done (pending finally_word word.mark nil ∷ []) [] nil) around) inside
 finally_opened stop word done around inside behind_try = refl
 finally_opened stop word done around inside behind_catch = refl
 
 -- a `try` that is complete is left, but behind its `catch` not by a `finally`
 data TryLeft : Control → List Token → Type 0 where
-  past_catch : {after : List Token} → T (no_finally after) → TryLeft catchDone after
-  past_finally : {after : List Token} → TryLeft tryEnded after
+  past_catch : {after : List Token} → T (no_finally after) → TryLeft catch_done after
+  past_finally : {after : List Token} → TryLeft try_ended after
 
 try_left : {control : Control} (stop : Spot) (setting : Setting) (value : Syntax) (mark : ℕ) (done : Syntax) (starts : List Pending) (around : List Open)
     (after : List Token) → TryLeft control after
-    → ran stop (live control (frame value [] [] nil) (nested (behind_statement setting) toTry mark (frame done starts [] nil) ∷ around)) after
+    → ran stop (live control (frame value [] [] nil) (nested (behind_statement setting) to_try mark (frame done starts [] nil) ∷ around)) after
     ≡ ran stop (live (behind_statement setting) (complete_statement done starts (node try_word mark value nil)) around) after
 try_left stop setting value mark done starts around [] (past_catch none) = refl
 try_left stop setting value mark done starts around (token class spot ∷ after) (past_catch none) =
-    let outside = nested (behind_statement setting) toTry mark (frame done starts [] nil) ∷ around in
+    let outside = nested (behind_statement setting) to_try mark (frame done starts [] nil) ∷ around in
     ap (λ (z : Action). ran stop (act z class spot (frame value [] [] nil) outside) after)
-    (look_past class finally_word (goto finallyFirst (startStatement finally_word)) (otherwise (leave doneValue) ∷ []) none)
+    (look_past class finally_word (goto finally_first (start_statement finally_word)) (otherwise (leave done_value) ∷ []) none)
 try_left stop setting value mark done starts around [] past_finally = refl
 try_left stop setting value mark done starts around (token class spot ∷ after) past_finally = refl
 
@@ -305,13 +305,13 @@ ends_clause (token class spot ∷ rest) = is_among (case_word ∷ default_word �
 
 clause_left : (stop : Spot) (seen : Bool) (kind mark opened : ℕ) (head value done : Syntax) (around : List Open) (after : List Token) → T (ends_clause after)
     → ran stop (live (statement_due false in_clause) (frame value [] [] nil)
-    (nested (clause_due seen) toStatement opened (frame done (pending kind mark head ∷ []) [] nil) ∷ around)) after
+    (nested (clause_due seen) to_statement opened (frame done (pending kind mark head ∷ []) [] nil) ∷ around)) after
     ≡ ran stop (live (clause_due seen) (frame (snoc done (node kind mark head value)) [] [] nil) around) after
 clause_left stop seen kind mark opened head value done around [] ends = absurd ends
 clause_left stop seen kind mark opened head value done around (token class spot ∷ after) ends =
-    let outside = nested (clause_due seen) toStatement opened (frame done (pending kind mark head ∷ []) [] nil) ∷ around in
+    let outside = nested (clause_due seen) to_statement opened (frame done (pending kind mark head ∷ []) [] nil) ∷ around in
     ap (λ (z : Action). ran stop (act z class spot (frame value [] [] nil) outside) after)
-    (holds_at (λ (x : ℕ). look x (row (statement_due false in_clause) spot.newline) ≡ leave doneValue) (case_word ∷ default_word ∷ close_brace ∷ [])
+    (holds_at (λ (x : ℕ). look x (row (statement_due false in_clause) spot.newline) ≡ leave done_value) (case_word ∷ default_word ∷ close_brace ∷ [])
     (refl, (refl, (refl, tt))) class ends)
 
 -- the first chain of each part of the head of a `for` may be assigned to, and each is an Expression
@@ -328,34 +328,34 @@ part_comma step_part = tt
 -- a function without a name goes on as one with a name
 unnamed_taken : {before after : List Token} {value : Syntax} (stop : Spot) (ending : Ending) (target : Target) (f : Frame) (around : List Open)
     → Function before after value
-    → ran stop (live (functionFirst (operand_in ending target)) f around) before ≡ ran stop (live (functionNamed (operand_in ending target)) f around) before
+    → ran stop (live (function_first (operand_in ending target)) f around) before ≡ ran stop (live (function_named (operand_in ending target)) f around) before
 unnamed_taken stop ending target f around (function_all parameters statements) = refl
 
 names_taken : {before after : List Token} (stop : Spot) (around : List Open) → Names before after
-    → ran stop (live (parameter_due false) empty around) before ≡ ran stop (live parameterNamed empty around) after
+    → ran stop (live (parameter_due false) empty around) before ≡ ran stop (live parameter_named empty around) after
 names_taken stop around one_name = refl
 names_taken stop around (more_names names) = names_taken stop around names
 
 -- parameters are taken up to the closer behind them
 parameters_taken : {before after : List Token} {closer : Spot} (stop : Spot) (behind : Control) (mark : ℕ) (f : Frame) (around : List Open)
     → Parameters before (token close_paren closer ∷ after)
-    → ran stop (live (parameter_due false) empty (grouped behind toParameter mark f ∷ around)) before ≡ ran stop (live behind f around) after
+    → ran stop (live (parameter_due false) empty (grouped behind to_parameter mark f ∷ around)) before ≡ ran stop (live behind f around) after
 parameters_taken stop behind mark f around no_parameters = refl
-parameters_taken stop behind mark f around (some_parameters names) = names_taken stop (grouped behind toParameter mark f ∷ around) names
+parameters_taken stop behind mark f around (some_parameters names) = names_taken stop (grouped behind to_parameter mark f ∷ around) names
 
 -- a list that may end behind a `,` ends where an item may come
 between_closes : (items : Items) (first : Bool) (behind : Control) (closing : Closing) (mark : ℕ) (f : Frame) (around : List Open) (value : Syntax) (closer : Spot)
     → T (may_end_in_comma items)
     → consume (live (between_items items first) (frame value [] [] nil) (grouped behind closing mark f ∷ around)) (token (list_closer items) closer)
     ≡ live behind (close closing mark value f) around
-between_closes callArguments first behind closing mark f around value closer allowed = absurd allowed
-between_closes arrayElements true behind closing mark f around value closer allowed = refl
-between_closes arrayElements false behind closing mark f around value closer allowed = refl
-between_closes objectProperties true behind closing mark f around value closer allowed = refl
-between_closes objectProperties false behind closing mark f around value closer allowed = refl
+between_closes call_arguments first behind closing mark f around value closer allowed = absurd allowed
+between_closes array_elements true behind closing mark f around value closer allowed = refl
+between_closes array_elements false behind closing mark f around value closer allowed = refl
+between_closes object_properties true behind closing mark f around value closer allowed = refl
+between_closes object_properties false behind closing mark f around value closer allowed = refl
 
 hole_taken : (first : Bool) (stop sign : Spot) (f : Frame) (around : List Open) (after : List Token)
-    → ran stop (live (between_items arrayElements first) f around) (token comma sign ∷ after) ≡ ran stop (live (item_due arrayElements) f around) after
+    → ran stop (live (between_items array_elements first) f around) (token comma sign ∷ after) ≡ ran stop (live (item_due array_elements) f around) after
 hole_taken true stop sign f around after = refl
 hole_taken false stop sign f around after = refl
 
@@ -368,71 +368,71 @@ as_loose n a b same h = omega arith
 
 -- what the machine does with the tokens of a form, wherever it stands
 abbrev Taken : Spot → Form → List Token → List Token → Syntax → Type 0
-Taken stop (chainForm calls) before after value =
+Taken stop (chain_form calls) before after value =
     (ending : Ending) (target : Target) (done : Syntax) (starts waiting : List Pending) (operand : Syntax) (around : List Open)
     → MayCall calls waiting
-    → ran stop (live (operandDue ending target) (frame done starts waiting operand) around) before
-    ≡ ran stop (live (operandDone ending target) (frame done starts waiting value) around) after
-Taken stop (targetForm calls) before after value =
+    → ran stop (live (operand_due ending target) (frame done starts waiting operand) around) before
+    ≡ ran stop (live (operand_done ending target) (frame done starts waiting value) around) after
+Taken stop (target_form calls) before after value =
     (ending : Ending) (target : Target) (done : Syntax) (starts waiting : List Pending) (operand : Syntax) (around : List Open)
     → MayCall calls waiting
-    → Reached stop (operandDone ending target) done starts around new_precedence waiting
-    (live (operandDue ending target) (frame done starts waiting operand) around) before after value
+    → Reached stop (operand_done ending target) done starts around new_precedence waiting
+    (live (operand_due ending target) (frame done starts waiting operand) around) before after value
 Taken stop unary_form before after value =
     (ending : Ending) (target : Target) (done : Syntax) (starts waiting : List Pending) (operand : Syntax) (around : List Open)
     → Looser new_precedence waiting
-    → Passed stop ending done starts around prefix_precedence waiting (live (operandDue ending target) (frame done starts waiting operand) around)
+    → Passed stop ending done starts around prefix_precedence waiting (live (operand_due ending target) (frame done starts waiting operand) around)
     before after value
 Taken stop (binary_form within least) before after value =
     (ending : Ending) (target : Target) (done : Syntax) (starts waiting : List Pending) (operand : Syntax) (around : List Open)
     → within ≡ allows_in ending → least ≤ prefix_precedence → Looser least waiting
-    → Passed stop ending done starts around least waiting (live (operandDue ending target) (frame done starts waiting operand) around) before after value
-Taken stop (assignForm within) before after value =
+    → Passed stop ending done starts around least waiting (live (operand_due ending target) (frame done starts waiting operand) around) before after value
+Taken stop (assign_form within) before after value =
     (ending : Ending) (target : Target) (done : Syntax) (starts waiting : List Pending) (operand : Syntax) (around : List Open)
     → within ≡ allows_in ending → T (is_target target) → Looser least_binary waiting
-    → Passed stop ending done starts around assignment_precedence waiting (live (operandDue ending target) (frame done starts waiting operand) around)
+    → Passed stop ending done starts around assignment_precedence waiting (live (operand_due ending target) (frame done starts waiting operand) around)
     before after value
-Taken stop (expressionForm within) before after value =
+Taken stop (expression_form within) before after value =
     (ending : Ending) (target : Target) (done : Syntax) (starts : List Pending) (operand : Syntax) (around : List Open)
     → within ≡ allows_in ending → T (is_target target) → T (takes_comma ending)
-    → Passed stop ending done starts around (precedence comma) [] (live (operandDue ending target) (frame done starts [] operand) around) before after value
-Taken stop functionForm before after value =
+    → Passed stop ending done starts around (precedence comma) [] (live (operand_due ending target) (frame done starts [] operand) around) before after value
+Taken stop function_form before after value =
     (role : Role) (done : Syntax) (starts waiting : List Pending) (word : Syntax) (around : List Open)
-    → ran stop (live (functionNamed role) (frame done starts waiting word) around) before
+    → ran stop (live (function_named role) (frame done starts waiting word) around) before
     ≡ ran stop (live (behind_function role) (with_function role value done starts waiting word) around) after
-Taken stop statementForm before after value =
+Taken stop statement_form before after value =
     (must : Bool) (setting : Setting) (done : Syntax) (starts : List Pending) (around : List Open)
     → ran stop (live (statement_due must setting) (frame done starts [] nil) around) before
     ≡ ran stop (live (behind_statement setting) (complete_statement done starts value) around) after
-Taken stop blockForm before after value =
+Taken stop block_form before after value =
     (control behind : Control) (done : Syntax) (starts : List Pending) (around : List Open) → BlockAt control behind
     → ran stop (live control (frame done starts [] nil) around) before ≡ ran stop (live behind (complete_statement done starts value) around) after
-Taken stop catchForm before after value =
-    (done : Syntax) (around : List Open) → ran stop (live tryDone (frame done [] [] nil) around) before
-    ≡ ran stop (live catchDone (frame (snoc done value) [] [] nil) around) after
-Taken stop finallyForm before after value =
+Taken stop catch_form before after value =
+    (done : Syntax) (around : List Open) → ran stop (live try_done (frame done [] [] nil) around) before
+    ≡ ran stop (live catch_done (frame (snoc done value) [] [] nil) around) after
+Taken stop finally_form before after value =
     (control : Control) (done : Syntax) (around : List Open) → FinallyAt control
-    → ran stop (live control (frame done [] [] nil) around) before ≡ ran stop (live tryEnded (frame (snoc done value) [] [] nil) around) after
-Taken stop (clausesForm seen) before after value =
+    → ran stop (live control (frame done [] [] nil) around) before ≡ ran stop (live try_ended (frame (snoc done value) [] [] nil) around) after
+Taken stop (clauses_form seen) before after value =
     (around : List Open) → T (ends_clause after)
     → ran stop (live (clause_due false) empty around) before ≡ ran stop (live (clause_due seen) (frame value [] [] nil) around) after
 Taken stop (statements_form scope) before after value =
     (setting : Setting) (around : List Open) → StatementsAt scope setting
     → ran stop (live (statement_due false setting) empty around) before ≡ ran stop (live (statement_due false setting) (frame value [] [] nil) around) after
-Taken stop (variablesForm within) before after value =
+Taken stop (variables_form within) before after value =
     (place : Variables) (done : Syntax) (mark : ℕ) (starts : List Pending) (around : List Open) → within ≡ allows_in (by_variable place)
-    → (first : Bool) × (ran stop (live (variableDue (between_variables place true)) (frame done (pending var_word mark nil ∷ starts) [] nil) around) before
-    ≡ ran stop (live (variableDue (between_variables place first)) (frame done (pending var_word mark value ∷ starts) [] nil) around) after)
-Taken stop (variableForm within) before after value =
+    → (first : Bool) × (ran stop (live (variable_due (between_variables place true)) (frame done (pending var_word mark nil ∷ starts) [] nil) around) before
+    ≡ ran stop (live (variable_due (between_variables place first)) (frame done (pending var_word mark value ∷ starts) [] nil) around) after)
+Taken stop (variable_form within) before after value =
     (place : Variables) (done : Syntax) (mark : ℕ) (variables : Syntax) (starts : List Pending) (around : List Open) → within ≡ allows_in (by_variable place)
     → VariablePassed stop place done var_word mark variables starts around before after value
-Taken stop (optionalForm within) before after value =
+Taken stop (optional_form within) before after value =
     (due : Control) (ending : Ending) (target : Target) (class : ℕ) (done : Syntax) (around : List Open) → HeadPart due ending target class
     → within ≡ allows_in ending → T (no_colon after) → PartPassed stop due ending class done around before after value
-Taken stop (itemsForm items) before after value =
+Taken stop (items_form items) before after value =
     (around : List Open) → (first : Bool) × (ran stop (live (item_due items) empty around) before
     ≡ ran stop (live (between_items items first) (frame value [] [] nil) around) after)
-Taken stop (listForm items) before after value =
+Taken stop (list_form items) before after value =
     (behind : Control) (closing : Closing) (mark : ℕ) (f : Frame) (around : List Open) → T (no_colon after)
     → ListPassed stop items behind closing mark f around before after value
 
@@ -441,7 +441,7 @@ taken stop (chain_leaf {spot = spot} {after = after} leaf) =
     λ ending target done starts waiting operand around may. leaf_taken stop spot after ending target done starts waiting operand around leaf
 taken stop (chain_array values) = λ ending target done starts waiting operand around may. list_passed (taken stop values _ _ _ _ _ tt)
 taken stop (chain_object values) = λ ending target done starts waiting operand around may. list_passed (taken stop values _ _ _ _ _ tt)
-taken stop (chain_parens value) = λ ending target done starts waiting operand around may. group_passed by_paren (taken stop value byParen someTarget nil [] nil _ refl tt tt)
+taken stop (chain_parens value) = λ ending target done starts waiting operand around may. group_passed by-paren (taken stop value by_paren some_target nil [] nil _ refl tt tt)
 taken stop (chain_function {word = word} function) =
     λ ending target done starts waiting operand around may. taken stop function (operand_in ending target) done starts waiting (held_word word.mark) around
 taken stop (chain_unnamed {word = word} function) =
@@ -450,14 +450,14 @@ taken stop (chain_unnamed {word = word} function) =
     ∙ taken stop function (operand_in ending target) done starts waiting (held_word word.mark) around
 taken stop (chain_index object value) =
     λ ending target done starts waiting operand around may.
-    taken stop object ending target done starts waiting operand around may ∙ group_passed by_bracket (taken stop value byBracket someTarget nil [] nil _ refl tt tt)
+    taken stop object ending target done starts waiting operand around may ∙ group_passed by-bracket (taken stop value by_bracket some_target nil [] nil _ refl tt tt)
 taken stop (chain_member identifier object) = taken stop object
 taken stop (chain_member reserved_word object) = taken stop object
 taken stop (chain_call {opener = opener} {after = after} {callee = first} {values = second} callee values) =
     λ ending target done starts waiting operand around may.
     taken stop callee ending target done starts waiting operand around may
     ∙ list_passed (taken stop values _ _ _ _ _ tt)
-    ∙ ap (λ (z : Frame). ran stop (live (operandDone ending target) z around) after) (call_made opener.mark second done starts waiting first may)
+    ∙ ap (λ (z : Frame). ran stop (live (operand_done ending target) z around) after) (call_made opener.mark second done starts waiting first may)
 taken stop (chain_new {word = word} callee values) =
     λ ending target done starts waiting operand around may.
     let new = pending new_word word.mark nil ∷ waiting in
@@ -475,13 +475,13 @@ taken stop (target_new {word = word} callee) =
 taken stop (unary_target target) =
     λ ending assignable done starts waiting operand around loose.
     passed_down (omega arith)
-    record { control = operandDone ending assignable; ends = past_operand; reached = taken stop target ending assignable done starts waiting operand around loose }
+    record { control = operand_done ending assignable; ends = past_operand; reached = taken stop target ending assignable done starts waiting operand around loose }
 taken stop (unary_prefix {class = class} {sign = sign} {middle = middle} op value) =
     λ ending target done starts waiting operand around loose.
     let kind = prefix_kind class in
     awaited_passed (as_tight prefix_precedence (tightness kind) prefix_precedence (prefix_tightness class op) (omega arith)) (omega arith)
     (prefix_taken stop class sign middle ending target done starts waiting operand around op)
-    (taken stop value ending noTarget done starts (pending kind sign.mark nil ∷ waiting) nil around
+    (taken stop value ending no_target done starts (pending kind sign.mark nil ∷ waiting) nil around
     (as_loose new_precedence (tightness kind) prefix_precedence (prefix_tightness class op) (omega arith)))
 taken stop (unary_postfix op same value) =
     λ ending target done starts waiting operand around loose.
@@ -496,7 +496,7 @@ taken stop (binary_operator {within = within} {least = least} {class = class} {s
     awaited_passed (as_tight least (tightness class) (precedence class) (binary_tightness class among) tight) (omega arith)
     (binary_taken (subst (λ (b : Bool). T (is_among (binary_operators_by b) class)) allowed op) wide
     (taken stop left ending target done starts waiting operand around allowed (omega (arith, binary_under_prefix class among)) wide))
-    (taken stop right ending noTarget done starts (pending class sign.mark first ∷ waiting) nil around allowed
+    (taken stop right ending no_target done starts (pending class sign.mark first ∷ waiting) nil around allowed
     (omega (arith, binary_under_prefix class among))
     (as_loose (precedence class + 1) (tightness class) (precedence class) (binary_tightness class among) (omega arith)))
 taken stop (assign_binary binary) =
@@ -507,25 +507,25 @@ taken stop (assign_to {class = class} {sign = sign} {target = first} op target v
     awaited_passed (as_tight assignment_precedence (tightness class) assignment_precedence (assignment_tightness class op) (omega arith)) (omega arith)
     (assignment_taken may op loose
     (taken stop target ending assignable done starts waiting operand around (looser_up least_binary new_precedence waiting loose (omega arith))))
-    (taken stop value ending someTarget done starts (pending class sign.mark first ∷ waiting) nil around allowed tt
+    (taken stop value ending some_target done starts (pending class sign.mark first ∷ waiting) nil around allowed tt
     (as_loose least_binary (tightness class) assignment_precedence (assignment_tightness class op) (omega arith)))
 taken stop (assign_conditional {sign = sign} {condition = asked} {first = chosen} condition first second) =
     λ ending target done starts waiting operand around allowed may loose.
     awaited_passed (omega arith) (omega arith)
     (question_taken loose (taken stop condition ending target done starts waiting operand around allowed (omega arith) loose)
-    ∙ answer_taken (taken stop first byColon someTarget nil [] [] nil (asking ending sign.mark (frame done starts waiting asked) ∷ around) refl tt tt))
-    (taken stop second ending someTarget done starts (pending question sign.mark (snoc asked chosen) ∷ waiting) nil around allowed tt (omega arith))
+    ∙ answer_taken (taken stop first by_colon some_target nil [] [] nil (asking ending sign.mark (frame done starts waiting asked) ∷ around) refl tt tt))
+    (taken stop second ending some_target done starts (pending question sign.mark (snoc asked chosen) ∷ waiting) nil around allowed tt (omega arith))
 taken stop (expression_assign value) =
     λ ending target done starts operand around allowed may takes.
     passed_down (omega arith) (taken stop value ending target done starts [] operand around allowed may tt)
 taken stop (expression_comma {sign = sign} {left = first} left right) =
     λ ending target done starts operand around allowed may takes.
     awaited_passed (omega arith) (omega arith) (comma_taken takes (taken stop left ending target done starts operand around allowed may takes))
-    (taken stop right ending someTarget done starts (pending comma sign.mark first ∷ []) nil around allowed tt (omega arith))
+    (taken stop right ending some_target done starts (pending comma sign.mark first ∷ []) nil around allowed tt (omega arith))
 taken stop (function_all {opener = opener} {openBody = openBody} {inside = inside} {after = after} {statements = body_statements} parameters statements) =
     λ role done starts waiting word around.
-    parameters_taken stop (parameterPast role) opener.mark (frame done starts waiting word) around parameters
-    ∙ elim role as (λ (z : Role). ran stop (live (parameterPast z) (frame done starts waiting word) around) (token open_brace openBody ∷ inside)
+    parameters_taken stop (parameter_past role) opener.mark (frame done starts waiting word) around parameters
+    ∙ elim role as (λ (z : Role). ran stop (live (parameter_past z) (frame done starts waiting word) around) (token open_brace openBody ∷ inside)
     ≡ ran stop (live (behind_function z) (with_function z body_statements done starts waiting word) around) after)
     [ declared ↦ taken stop statements _ _ on_level | operand_in ending target ↦ taken stop statements _ _ on_level ]
 taken stop (block_all {opener = opener} {inside = inside} statements) =
@@ -534,7 +534,7 @@ taken stop (statement_block inner) = λ must setting done starts around. taken s
 taken stop (statement_expression allowed value) =
     λ must setting done starts around.
     expression_is_taken (ran_sees stop) must setting (frame done starts [] nil) around (expression_begins value tt) allowed
-    ∙ expression_passed (taken stop value (byStatement setting) someTarget done starts nil around refl tt tt)
+    ∙ expression_passed (taken stop value (by_statement setting) some_target done starts nil around refl tt tt)
 taken stop (statement_var {word = word} {variables = first} variables last) =
     λ must setting done starts around.
     (taken stop variables (in_statement setting) done word.mark starts around refl).1
@@ -546,41 +546,41 @@ taken stop (add_variable {after = after} {variables = first} {last = second} var
       false,
       v.1
           ∙ variable_passed (taken stop last (between_variables place v.0) done mark first starts around (allowed ∙ sym (between_allows place v.0)))
-          ∙ ap (λ (z : Variables). ran stop (live (variableDue z) (frame done (pending var_word mark (snoc first second) ∷ starts) [] nil) around) after)
+          ∙ ap (λ (z : Variables). ran stop (live (variable_due z) (frame done (pending var_word mark (snoc first second) ∷ starts) [] nil) around) after)
           (later_between place v.0),
     )
 taken stop variable_bare = λ place done mark variables starts around allowed. bare_passed
 taken stop (variable_initialised {called = called} value) =
     λ place done mark variables starts around allowed.
     initialised_passed
-    (taken stop value (by_variable place) someTarget done (pending variable_syntax called.mark nil ∷ pending var_word mark variables ∷ starts) [] nil around
+    (taken stop value (by_variable place) some_target done (pending variable_syntax called.mark nil ∷ pending var_word mark variables ∷ starts) [] nil around
     allowed tt tt)
 taken stop statement_empty = λ must setting done starts around. refl
 taken stop (statement_if {word = word} {after = after} {condition = first} {inner = value} none condition inner) =
     λ must setting done starts around.
-    group_passed by_paren (taken stop condition byParen someTarget nil [] nil _ refl tt tt)
-    ∙ taken stop inner true (in_nest ifNest) nil (pending if_syntax word.mark first ∷ [])
-    (nested (behind_statement setting) toStatement word.mark (frame done starts [] nil) ∷ around)
-    ∙ nest_left ifNest stop setting (node if_syntax word.mark first value) word.mark done starts around after none
+    group_passed by-paren (taken stop condition by_paren some_target nil [] nil _ refl tt tt)
+    ∙ taken stop inner true (in_nest if_nest) nil (pending if_syntax word.mark first ∷ [])
+    (nested (behind_statement setting) to_statement word.mark (frame done starts [] nil) ∷ around)
+    ∙ nest_left if_nest stop setting (node if_syntax word.mark first value) word.mark done starts around after none
 taken stop (statement_else {word = word} {other = other} {after = after} {condition = first} {first = chosen} {second = value} condition inner second) =
     λ must setting done starts around.
-    let outside = nested (behind_statement setting) toStatement word.mark (frame done starts [] nil) ∷ around in
+    let outside = nested (behind_statement setting) to_statement word.mark (frame done starts [] nil) ∷ around in
     let before = node if_syntax word.mark first chosen in
-    group_passed by_paren (taken stop condition byParen someTarget nil [] nil _ refl tt tt)
-    ∙ taken stop inner true (in_nest ifNest) nil (pending if_syntax word.mark first ∷ []) outside
-    ∙ taken stop second true (in_nest elseNest) nil (pending else_word other.mark before ∷ []) outside
-    ∙ nest_left elseNest stop setting (node else_word other.mark before value) word.mark done starts around after tt
+    group_passed by-paren (taken stop condition by_paren some_target nil [] nil _ refl tt tt)
+    ∙ taken stop inner true (in_nest if_nest) nil (pending if_syntax word.mark first ∷ []) outside
+    ∙ taken stop second true (in_nest else_nest) nil (pending else_word other.mark before ∷ []) outside
+    ∙ nest_left else_nest stop setting (node else_word other.mark before value) word.mark done starts around after tt
 taken stop (statement_do {word = word} inner condition) =
     λ must setting done starts around.
-    taken stop inner true (in_nest doNest) nil [] (nested (bodyDone setting) toBody word.mark (frame done starts [] nil) ∷ around)
-    ∙ group_passed by_paren (taken stop condition byParen someTarget nil [] nil _ refl tt tt)
+    taken stop inner true (in_nest do_nest) nil [] (nested (body_done setting) to_body word.mark (frame done starts [] nil) ∷ around)
+    ∙ group_passed by-paren (taken stop condition by_paren some_target nil [] nil _ refl tt tt)
 taken stop (statement_head {word = word} {head = first} while-word head inner) =
     λ must setting done starts around.
-    group_passed by_paren (taken stop head byParen someTarget nil [] nil _ refl tt tt)
+    group_passed by-paren (taken stop head by_paren some_target nil [] nil _ refl tt tt)
     ∙ taken stop inner true setting done (pending while_word word.mark first ∷ starts) around
 taken stop (statement_head {word = word} {head = first} with-word head inner) =
     λ must setting done starts around.
-    group_passed by_paren (taken stop head byParen someTarget nil [] nil _ refl tt tt)
+    group_passed by-paren (taken stop head by_paren some_target nil [] nil _ refl tt tt)
     ∙ taken stop inner true setting done (pending with_word word.mark first ∷ starts) around
 taken stop (statement_for {word = word} {start = first} {condition = second} {step = third} start condition step inner) =
     λ must setting done starts around.
@@ -606,14 +606,14 @@ taken stop (not_left_out {before = before} value) =
 taken stop (statement_for_in {word = word} {inside = inside} {target = first} {object = second} target object inner) =
     λ must setting done starts around.
     part_is_taken (ran_sees stop) start_part empty _ inside (widened (target_begins target))
-    ∙ target_passed (taken stop target byStart loneTarget nil [] [] nil _ tt)
-    ∙ object_passed (taken stop object byObject someTarget (snoc nil first) [] nil _ refl tt tt)
+    ∙ target_passed (taken stop target by_start lone_target nil [] [] nil _ tt)
+    ∙ object_passed (taken stop object by_object some_target (snoc nil first) [] nil _ refl tt tt)
     ∙ taken stop inner true setting done (pending for_in_syntax word.mark (snoc (snoc nil first) second) ∷ starts) around
 taken stop (statement_for_var_in {word = word} {declared = var} {variable = first} {object = second} variable object inner) =
     λ must setting done starts around.
     let declaration = node var_word var.mark nil first in
     only_passed tt (taken stop variable (in_head true) nil var.mark nil [] _ refl)
-    ∙ object_passed (taken stop object byObject someTarget (snoc nil declaration) [] nil _ refl tt tt)
+    ∙ object_passed (taken stop object by_object some_target (snoc nil declaration) [] nil _ refl tt tt)
     ∙ taken stop inner true setting done (pending for_in_syntax word.mark (snoc (snoc nil declaration) second) ∷ starts) around
 taken stop (statement_bare_jump continue-word) = λ must setting done starts around. refl
 taken stop (statement_bare_jump break-word) = λ must setting done starts around. refl
@@ -627,15 +627,15 @@ taken stop statement_bare_return = λ must setting done starts around. refl
 taken stop (statement_full_return {word = word} {before = before} same value) =
     λ must setting done starts around.
     value_is_returned (ran_sees stop) setting (frame done (pending full_return_syntax word.mark nil ∷ starts) [] nil) around before (expression_begins value tt) same
-    ∙ return_passed (taken stop value (byReturn setting) someTarget done (pending full_return_syntax word.mark nil ∷ starts) nil around refl tt tt)
+    ∙ return_passed (taken stop value (by_return setting) some_target done (pending full_return_syntax word.mark nil ∷ starts) nil around refl tt tt)
 taken stop (statement_switch {word = word} {subject = first} subject clauses) =
     λ must setting done starts around.
-    group_passed by_paren (taken stop subject byParen someTarget nil [] nil _ refl tt tt) ∙ taken stop clauses _ tt
+    group_passed by-paren (taken stop subject by_paren some_target nil [] nil _ refl tt tt) ∙ taken stop clauses _ tt
 taken stop no_clauses = λ around ends. refl
 taken stop (add_case {seen = seen} {word = word} {sign = sign} {after = after} {cases = first} {test = head} {statements = value} cases test statements) =
     λ around ends.
     taken stop cases around tt
-    ∙ case_passed (taken stop test (by_case seen) someTarget first (pending case_word word.mark nil ∷ []) nil around refl tt tt)
+    ∙ case_passed (taken stop test (by_case seen) some_target first (pending case_word word.mark nil ∷ []) nil around refl tt tt)
     ∙ taken stop statements _ _ in-clause
     ∙ clause_left stop seen case_word word.mark sign.mark head value first around after ends
 taken stop (add_default {word = word} {sign = sign} {after = after} {cases = first} {statements = value} cases statements) =
@@ -646,7 +646,7 @@ taken stop (add_default {word = word} {sign = sign} {after = after} {cases = fir
 taken stop (statement_throw {word = word} {before = before} same value) =
     λ must setting done starts around.
     value_is_thrown (ran_sees stop) setting (frame done (pending throw_word word.mark nil ∷ starts) [] nil) around before (expression_begins value tt) same
-    ∙ return_passed (taken stop value (byReturn setting) someTarget done (pending throw_word word.mark nil ∷ starts) nil around refl tt tt)
+    ∙ return_passed (taken stop value (by_return setting) some_target done (pending throw_word word.mark nil ∷ starts) nil around refl tt tt)
 taken stop (statement_try {word = word} {after = after} {inner = first} {handler = second} none inner handler) =
     λ must setting done starts around.
     taken stop inner _ _ nil [] _ in_try
@@ -687,11 +687,11 @@ taken stop (add_item {items = items} {values = first} values starts last) =
       false,
       v.1
           ∙ item_is_taken (ran_sees stop) items v.0 (frame first [] [] nil) around starts (assign_begins last tt)
-          ∙ item_passed (taken stop last (by_item items) someTarget first [] [] nil around refl tt tt),
+          ∙ item_passed (taken stop last (by_item items) some_target first [] [] nil around refl tt tt),
     )
 taken stop (add_hole {sign = sign} {after = after} {values = first} values) =
     λ around. let v = taken stop values around in (true, v.1 ∙ hole_taken v.0 stop sign (frame first [] [] nil) around after)
-taken stop list_empty = λ behind closing mark f around past. record { control = item_due callArguments; last = empty; runs = refl; closes = λ closer. refl }
+taken stop list_empty = λ behind closing mark f around past. record { control = item_due call_arguments; last = empty; runs = refl; closes = λ closer. refl }
 taken stop (list_items {items = items} {values = first} allowed values) =
     λ behind closing mark f around past.
     let v = taken stop values (grouped behind closing mark f ∷ around) in
@@ -706,7 +706,7 @@ taken stop (list_last {items = items} {values = first} values starts last) =
     let v = taken stop values (grouped behind closing mark f ∷ around) in
     last_passed
     (v.1 ∙ item_is_taken (ran_sees stop) items v.0 (frame first [] [] nil) (grouped behind closing mark f ∷ around) starts (assign_begins last past))
-    (taken stop last (by_item items) someTarget first [] [] nil (grouped behind closing mark f ∷ around) refl tt tt)
+    (taken stop last (by_item items) some_target first [] [] nil (grouped behind closing mark f ∷ around) refl tt tt)
 
 -- a program's tokens and the text's end behind them are taken, with the program's syntax
 pub complete : {all : List Token} {parts : Syntax} (stop : Spot) → Program all parts → ran stop start all ≡ live finished (frame parts [] [] nil) []

@@ -13,17 +13,17 @@ use Rattle.machine.specs.Machinery.Machine.{
   Closing,
   close,
   Value,
-  doneValue,
-  statementValue,
+  done_value,
+  statement_value,
   value_of,
   Nest,
-  ifNest,
-  elseNest,
-  doNest,
+  if_nest,
+  else_nest,
+  do_nest,
   Control,
   statement_done,
-  catchDone,
-  tryEnded,
+  catch_done,
+  try_ended,
   finished,
   Action,
   leave,
@@ -112,18 +112,18 @@ through {class} spelled c ends = record { classes = class ∷ c.classes; spelled
 
 -- where a nest may be complete, and the value that it is then left with
 pub data NestDone : Control → Value → Type 0 where
-  statement-done : (nest : Nest) → NestDone (statement_done nest) statementValue
-  catch_done : NestDone catchDone doneValue
-  try_done : NestDone tryEnded doneValue
+  statement-done : (nest : Nest) → NestDone (statement_done nest) statement_value
+  catch-done : NestDone catch_done done_value
+  try-done : NestDone try_ended done_value
 
 -- it is left at any token but an `else` or a `finally`
 leaves : {control : Control} {value : Value} → NestDone control value → (newline : Bool) (class : ℕ) → T (not (eqb class else_word))
     → T (not (eqb class finally_word)) → look class (row control newline) ≡ leave value
-leaves (statement-done ifNest) newline class no-else no-finally = look_past class else_word _ (otherwise (leave statementValue) ∷ []) no-else
-leaves (statement-done elseNest) newline class no-else no-finally = refl
-leaves (statement-done doNest) newline class no-else no-finally = refl
-leaves catch_done newline class no-else no-finally = look_past class finally_word _ (otherwise (leave doneValue) ∷ []) no-finally
-leaves try_done newline class no-else no-finally = refl
+leaves (statement-done if_nest) newline class no-else no-finally = look_past class else_word _ (otherwise (leave statement_value) ∷ []) no-else
+leaves (statement-done else_nest) newline class no-else no-finally = refl
+leaves (statement-done do_nest) newline class no-else no-finally = refl
+leaves catch-done newline class no-else no-finally = look_past class finally_word _ (otherwise (leave done_value) ∷ []) no-finally
+leaves try-done newline class no-else no-finally = refl
 
 -- and completed by what completes what stands around it
 leave_ends : {control : Control} {value : Value} {classes : List ℕ} → NestDone control value → (behind : Control) (closing : Closing) (mark : ℕ) (g : Frame)

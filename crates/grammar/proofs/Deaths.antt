@@ -33,7 +33,7 @@ use Rattle.machine.specs.Machinery.Machine.{
   State,
   dead,
   live,
-  popIn,
+  pop_in,
   head_in,
   pop_to,
   turn_to,
@@ -77,7 +77,7 @@ module _ (class : ℕ) (spot : Spot) where
   act_dies out left (pop value) f around = pop_dies spot.first _ around
   act_dies out left (leave value) f around = left _
   act_dies out left (ask ending) f around = tt
-  act_dies out left popIn f around = pop_dies spot.first _ (head_in around)
+  act_dies out left pop_in f around = pop_dies spot.first _ (head_in around)
   act_dies out left turn f around = turn_dies spot.first _ around
   act_dies out left finish f around = finish_dies spot.first f around
 

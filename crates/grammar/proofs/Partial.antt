@@ -40,22 +40,22 @@ use Rattle.grammar.specs.Grammar.{
   HeadWord,
   JumpWord,
   Items,
-  callArguments,
-  arrayElements,
-  objectProperties,
+  call_arguments,
+  array_elements,
+  object_properties,
   at_argument,
   Names,
   Parameters,
-  blockForm,
-  catchForm,
-  finallyForm,
-  variableForm,
-  optionalForm,
-  expressionForm,
-  assignForm,
-  targetForm,
-  itemsForm,
-  listForm,
+  block_form,
+  catch_form,
+  finally_form,
+  variable_form,
+  optional_form,
+  expression_form,
+  assign_form,
+  target_form,
+  items_form,
+  list_form,
   Derives,
   Chain,
   Unary,
@@ -119,31 +119,31 @@ use Rattle.machine.specs.Machinery.Machine.{
   done_of,
   joined,
   headed,
-  toParameter,
-  toStatement,
-  toBody,
-  toTry,
-  ifNest,
-  elseNest,
-  doNest,
+  to_parameter,
+  to_statement,
+  to_body,
+  to_try,
+  if_nest,
+  else_nest,
+  do_nest,
   Setting,
   among,
   in_clause,
   Variables,
   Target,
-  someTarget,
+  some_target,
   Ending,
-  byStatement,
-  byReturn,
+  by_statement,
+  by_return,
   by_variable,
-  byStart,
-  byTest,
+  by_start,
+  by_test,
   by_step,
-  byObject,
+  by_object,
   by_case,
-  byParen,
-  byBracket,
-  byColon,
+  by_paren,
+  by_bracket,
+  by_colon,
   by_item,
   allows_in,
   Role,
@@ -153,46 +153,46 @@ use Rattle.machine.specs.Machinery.Machine.{
   statement_due,
   statement_done,
   behind_statement,
-  nameFirst,
-  returnFirst,
-  throwFirst,
-  jumpFirst,
-  headFirst,
-  forFirst,
-  startDue,
-  testDue,
-  stepDue,
-  switchFirst,
-  switchPast,
+  name_first,
+  return_first,
+  throw_first,
+  jump_first,
+  head_first,
+  for_first,
+  start_due,
+  test_due,
+  step_due,
+  switch_first,
+  switch_past,
   clause_due,
-  defaultFirst,
-  tryFirst,
-  tryDone,
-  catchFirst,
-  catchDue,
-  catchNamed,
-  catchPast,
-  catchDone,
-  finallyFirst,
-  tryEnded,
-  variableDue,
-  variableNamed,
-  bodyDone,
-  testFirst,
-  semicolonDue,
-  ifFirst,
-  operandDue,
-  memberDue,
-  operandDone,
+  default_first,
+  try_first,
+  try_done,
+  catch_first,
+  catch_due,
+  catch_named,
+  catch_past,
+  catch_done,
+  finally_first,
+  try_ended,
+  variable_due,
+  variable_named,
+  body_done,
+  test_first,
+  semicolon_due,
+  if_first,
+  operand_due,
+  member_due,
+  operand_done,
   postfix_done,
-  dotLast,
-  functionFirst,
-  functionNamed,
-  parameterPast,
+  dot_last,
+  function_first,
+  function_named,
+  parameter_past,
   item_due,
-  propertyNamed,
+  property_named,
   parameter_due,
-  parameterNamed,
+  parameter_named,
   finished,
   list_closer,
   behind_comma,
@@ -289,7 +289,7 @@ pub data FunctionAt (all : List Token) : Role → Syntax → List Pending → Li
 pub data VariableAt (all : List Token) : Variables → Syntax → List Pending → List Open → List Token → Syntax → Type 0 where
   variable-at : {place : Variables} {mark : ℕ} {done value : Syntax} {starts : List Pending} {around : List Open} {first here : List Token}
       → Reached all (variable_at place) done starts around first
-      → Derives (variableForm (allows_in (by_variable place))) first here (node variable_syntax mark nil value)
+      → Derives (variable_form (allows_in (by_variable place))) first here (node variable_syntax mark nil value)
       → VariableAt all place done (pending variable_syntax mark nil ∷ starts) around here value
 
 -- a statement that lacks only its `;`: the tokens before it and those where the `;` is due, the kind of its part, its mark and its two pieces
@@ -317,151 +317,151 @@ pub data Partial (all : List Token) : Control → Frame → List Open → List T
       → Reached all (statement_at setting) done starts around here → Partial all (statement_due true setting) (frame done starts [] nil) around here
   behind_name : {setting : Setting} {done : Syntax} {starts : List Pending} {around : List Open} {spot : Spot} {here : List Token}
       → Reached all (statement_at setting) done starts around (token name spot ∷ here)
-      → Partial all (nameFirst setting) (frame done starts [] (node name spot.mark nil nil)) around here
+      → Partial all (name_first setting) (frame done starts [] (node name spot.mark nil nil)) around here
   behind_return : {setting : Setting} {done : Syntax} {starts : List Pending} {around : List Open} {word : Spot} {here : List Token}
       → Reached all (statement_at setting) done starts around (token return_word word ∷ here)
-      → Partial all (returnFirst setting) (frame done (pending full_return_syntax word.mark nil ∷ starts) [] nil) around here
+      → Partial all (return_first setting) (frame done (pending full_return_syntax word.mark nil ∷ starts) [] nil) around here
   behind_throw : {setting : Setting} {done : Syntax} {starts : List Pending} {around : List Open} {word : Spot} {here : List Token}
       → Reached all (statement_at setting) done starts around (token throw_word word ∷ here)
-      → Partial all (throwFirst setting) (frame done (pending throw_word word.mark nil ∷ starts) [] nil) around here
+      → Partial all (throw_first setting) (frame done (pending throw_word word.mark nil ∷ starts) [] nil) around here
   behind_jump : {setting : Setting} {class : ℕ} {done : Syntax} {starts : List Pending} {around : List Open} {word : Spot} {here : List Token}
       → JumpWord class (class - 1) → Reached all (statement_at setting) done starts around (token class word ∷ here)
-      → Partial all (jumpFirst setting) (frame done (pending class word.mark nil ∷ starts) [] nil) around here
+      → Partial all (jump_first setting) (frame done (pending class word.mark nil ∷ starts) [] nil) around here
   behind_head : {setting : Setting} {class : ℕ} {done : Syntax} {starts : List Pending} {around : List Open} {word : Spot} {here : List Token}
       → HeadWord class → Reached all (statement_at setting) done starts around (token class word ∷ here)
-      → Partial all (headFirst setting) (frame done (pending class word.mark nil ∷ starts) [] nil) around here
+      → Partial all (head_first setting) (frame done (pending class word.mark nil ∷ starts) [] nil) around here
   behind_for : {setting : Setting} {done : Syntax} {starts : List Pending} {around : List Open} {word : Spot} {here : List Token}
       → Reached all (statement_at setting) done starts around (token for_word word ∷ here)
-      → Partial all (forFirst setting) (frame done (pending for_word word.mark nil ∷ starts) [] nil) around here
-  at_start : {around : List Open} {here : List Token} → Reached all head_at nil [] around here → Partial all startDue empty around here
+      → Partial all (for_first setting) (frame done (pending for_word word.mark nil ∷ starts) [] nil) around here
+  at_start : {around : List Open} {here : List Token} → Reached all head_at nil [] around here → Partial all start_due empty around here
   at_for_test : {start : Syntax} {around : List Open} {sign : Spot} {first here : List Token} → Reached all head_at nil [] around first
-      → ForStart first (token semicolon sign ∷ here) start → Partial all testDue (frame (snoc nil start) [] [] nil) around here
+      → ForStart first (token semicolon sign ∷ here) start → Partial all test_due (frame (snoc nil start) [] [] nil) around here
   at_for_step : {start condition : Syntax} {around : List Open} {sign second : Spot} {first test here : List Token} → Reached all head_at nil [] around first
-      → ForStart first (token semicolon sign ∷ test) start → Derives (optionalForm true) test (token semicolon second ∷ here) condition
-      → Partial all stepDue (frame (snoc (snoc nil start) condition) [] [] nil) around here
+      → ForStart first (token semicolon sign ∷ test) start → Derives (optional_form true) test (token semicolon second ∷ here) condition
+      → Partial all step_due (frame (snoc (snoc nil start) condition) [] [] nil) around here
   behind_switch : {setting : Setting} {done : Syntax} {starts : List Pending} {around : List Open} {word : Spot} {here : List Token}
       → Reached all (statement_at setting) done starts around (token switch_word word ∷ here)
-      → Partial all (switchFirst setting) (frame done (pending switch_word word.mark nil ∷ starts) [] nil) around here
+      → Partial all (switch_first setting) (frame done (pending switch_word word.mark nil ∷ starts) [] nil) around here
   behind_subject : {setting : Setting} {done subject : Syntax} {starts : List Pending} {around : List Open} {word opener closer : Spot}
       {inside here : List Token} → Reached all (statement_at setting) done starts around (token switch_word word ∷ token open_paren opener ∷ inside)
       → Expression inside (token close_paren closer ∷ here) subject
-      → Partial all (switchPast setting) (frame done (pending switch_word word.mark subject ∷ starts) [] nil) around here
+      → Partial all (switch_past setting) (frame done (pending switch_word word.mark subject ∷ starts) [] nil) around here
   at_clause : {seen : Bool} {cases : Syntax} {around : List Open} {here : List Token} → Reached all (clause_at seen) cases [] around here
       → Partial all (clause_due seen) (frame cases [] [] nil) around here
   behind_default : {cases : Syntax} {around : List Open} {word : Spot} {here : List Token}
       → Reached all (clause_at false) cases [] around (token default_word word ∷ here)
-      → Partial all defaultFirst (frame cases (pending default_word word.mark nil ∷ []) [] nil) around here
-  behind_try : {done : Syntax} {starts : List Pending} {around : List Open} {here : List Token} → Reached all (block_at tryDone) done starts around here
-      → Partial all tryFirst (frame done starts [] nil) around here
+      → Partial all default_first (frame cases (pending default_word word.mark nil ∷ []) [] nil) around here
+  behind_try : {done : Syntax} {starts : List Pending} {around : List Open} {here : List Token} → Reached all (block_at try_done) done starts around here
+      → Partial all try_first (frame done starts [] nil) around here
   behind_tried : {setting : Setting} {done inner : Syntax} {starts : List Pending} {around : List Open} {word : Spot} {before here : List Token}
-      → Reached all (statement_at setting) done starts around (token try_word word ∷ before) → Derives blockForm before here inner
-      → Partial all tryDone (frame (snoc nil inner) [] [] nil) (nested (behind_statement setting) toTry word.mark (frame done starts [] nil) ∷ around) here
+      → Reached all (statement_at setting) done starts around (token try_word word ∷ before) → Derives block_form before here inner
+      → Partial all try_done (frame (snoc nil inner) [] [] nil) (nested (behind_statement setting) to_try word.mark (frame done starts [] nil) ∷ around) here
   behind_catch : {setting : Setting} {done inner : Syntax} {starts : List Pending} {around : List Open} {word other : Spot} {before here : List Token}
-      → Reached all (statement_at setting) done starts around (token try_word word ∷ before) → Derives blockForm before (token catch_word other ∷ here) inner
-      → Partial all catchFirst (frame (snoc nil inner) (pending catch_word other.mark nil ∷ []) [] nil)
-      (nested (behind_statement setting) toTry word.mark (frame done starts [] nil) ∷ around) here
+      → Reached all (statement_at setting) done starts around (token try_word word ∷ before) → Derives block_form before (token catch_word other ∷ here) inner
+      → Partial all catch_first (frame (snoc nil inner) (pending catch_word other.mark nil ∷ []) [] nil)
+      (nested (behind_statement setting) to_try word.mark (frame done starts [] nil) ∷ around) here
   at_catch_name : {setting : Setting} {done inner : Syntax} {starts : List Pending} {around : List Open} {word other opener : Spot} {before here : List Token}
       → Reached all (statement_at setting) done starts around (token try_word word ∷ before)
-      → Derives blockForm before (token catch_word other ∷ token open_paren opener ∷ here) inner
-      → Partial all catchDue empty
-      (grouped catchPast toParameter opener.mark (frame (snoc nil inner) (pending catch_word other.mark nil ∷ []) [] nil)
-      ∷ nested (behind_statement setting) toTry word.mark (frame done starts [] nil) ∷ around)
+      → Derives block_form before (token catch_word other ∷ token open_paren opener ∷ here) inner
+      → Partial all catch_due empty
+      (grouped catch_past to_parameter opener.mark (frame (snoc nil inner) (pending catch_word other.mark nil ∷ []) [] nil)
+      ∷ nested (behind_statement setting) to_try word.mark (frame done starts [] nil) ∷ around)
       here
   behind_catch_name : {setting : Setting} {done inner : Syntax} {starts : List Pending} {around : List Open} {word other opener called : Spot}
       {before here : List Token} → Reached all (statement_at setting) done starts around (token try_word word ∷ before)
-      → Derives blockForm before (token catch_word other ∷ token open_paren opener ∷ token name called ∷ here) inner
-      → Partial all catchNamed empty
-      (grouped catchPast toParameter opener.mark (frame (snoc nil inner) (pending catch_word other.mark nil ∷ []) [] nil)
-      ∷ nested (behind_statement setting) toTry word.mark (frame done starts [] nil) ∷ around)
+      → Derives block_form before (token catch_word other ∷ token open_paren opener ∷ token name called ∷ here) inner
+      → Partial all catch_named empty
+      (grouped catch_past to_parameter opener.mark (frame (snoc nil inner) (pending catch_word other.mark nil ∷ []) [] nil)
+      ∷ nested (behind_statement setting) to_try word.mark (frame done starts [] nil) ∷ around)
       here
-  behind_catch_head : {done : Syntax} {starts : List Pending} {around : List Open} {here : List Token} → Reached all (block_at catchDone) done starts around here
-      → Partial all catchPast (frame done starts [] nil) around here
+  behind_catch_head : {done : Syntax} {starts : List Pending} {around : List Open} {here : List Token} → Reached all (block_at catch_done) done starts around here
+      → Partial all catch_past (frame done starts [] nil) around here
   behind_caught : {setting : Setting} {done inner handler : Syntax} {starts : List Pending} {around : List Open} {word : Spot}
       {before middle here : List Token} → Reached all (statement_at setting) done starts around (token try_word word ∷ before)
-      → Derives blockForm before middle inner → Derives catchForm middle here handler
-      → Partial all catchDone (frame (snoc (snoc nil inner) handler) [] [] nil)
-      (nested (behind_statement setting) toTry word.mark (frame done starts [] nil) ∷ around) here
-  behind_finally : {done : Syntax} {starts : List Pending} {around : List Open} {here : List Token} → Reached all (block_at tryEnded) done starts around here
-      → Partial all finallyFirst (frame done starts [] nil) around here
+      → Derives block_form before middle inner → Derives catch_form middle here handler
+      → Partial all catch_done (frame (snoc (snoc nil inner) handler) [] [] nil)
+      (nested (behind_statement setting) to_try word.mark (frame done starts [] nil) ∷ around) here
+  behind_finally : {done : Syntax} {starts : List Pending} {around : List Open} {here : List Token} → Reached all (block_at try_ended) done starts around here
+      → Partial all finally_first (frame done starts [] nil) around here
   behind_try_all : {setting : Setting} {mark : ℕ} {done parts : Syntax} {starts : List Pending} {around : List Open} {before here : List Token}
       → Reached all (statement_at setting) done starts around before → Statement before here (node try_word mark parts nil)
-      → Partial all tryEnded (frame parts [] [] nil) (nested (behind_statement setting) toTry mark (frame done starts [] nil) ∷ around) here
+      → Partial all try_ended (frame parts [] [] nil) (nested (behind_statement setting) to_try mark (frame done starts [] nil) ∷ around) here
   at_variable : {place : Variables} {done : Syntax} {starts : List Pending} {around : List Open} {here : List Token}
-      → Reached all (variable_at place) done starts around here → Partial all (variableDue place) (frame done starts [] nil) around here
+      → Reached all (variable_at place) done starts around here → Partial all (variable_due place) (frame done starts [] nil) around here
   behind_variable : {place : Variables} {done : Syntax} {starts : List Pending} {around : List Open} {called : Spot} {here : List Token}
       → Reached all (variable_at place) done starts around (token name called ∷ here)
-      → Partial all (variableNamed place) (frame done (pending variable_syntax called.mark nil ∷ starts) [] nil) around here
+      → Partial all (variable_named place) (frame done (pending variable_syntax called.mark nil ∷ starts) [] nil) around here
   behind_body : {setting : Setting} {done inner : Syntax} {starts : List Pending} {around : List Open} {word : Spot} {first here : List Token}
       → Reached all (statement_at setting) done starts around (token do_word word ∷ first) → Statement first here inner
-      → Partial all (bodyDone setting) (frame done (pending do_word word.mark inner ∷ starts) [] nil) around here
+      → Partial all (body_done setting) (frame done (pending do_word word.mark inner ∷ starts) [] nil) around here
   at_test : {setting : Setting} {done inner : Syntax} {starts : List Pending} {around : List Open} {word other : Spot} {first here : List Token}
       → Reached all (statement_at setting) done starts around (token do_word word ∷ first) → Statement first (token while_word other ∷ here) inner
-      → Partial all (testFirst setting) (frame done (pending do_word word.mark inner ∷ starts) [] nil) around here
+      → Partial all (test_first setting) (frame done (pending do_word word.mark inner ∷ starts) [] nil) around here
   at_semicolon : {setting : Setting} {kind mark : ℕ} {done left right : Syntax} {starts : List Pending} {around : List Open} {before here : List Token}
       → Reached all (statement_at setting) done starts around before → Unended before here kind mark left right
-      → Partial all (semicolonDue setting) (frame done (pending kind mark left ∷ starts) [] right) around here
+      → Partial all (semicolon_due setting) (frame done (pending kind mark left ∷ starts) [] right) around here
   behind_if : {setting : Setting} {done : Syntax} {starts : List Pending} {around : List Open} {word : Spot} {here : List Token}
       → Reached all (statement_at setting) done starts around (token if_word word ∷ here)
-      → Partial all ifFirst (frame nil [] [] (held_word word.mark))
-      (nested (behind_statement setting) toStatement word.mark (frame done starts [] nil) ∷ around) here
+      → Partial all if_first (frame nil [] [] (held_word word.mark))
+      (nested (behind_statement setting) to_statement word.mark (frame done starts [] nil) ∷ around) here
   behind_then : {setting : Setting} {done condition inner : Syntax} {starts : List Pending} {around : List Open} {word opener closer : Spot}
       {inside middle here : List Token} → Reached all (statement_at setting) done starts around (token if_word word ∷ token open_paren opener ∷ inside)
       → Expression inside (token close_paren closer ∷ middle) condition → Statement middle here inner
-      → Partial all (statement_done ifNest) (frame (snoc nil (node if_syntax word.mark condition inner)) [] [] nil)
-      (nested (behind_statement setting) toStatement word.mark (frame done starts [] nil) ∷ around) here
+      → Partial all (statement_done if_nest) (frame (snoc nil (node if_syntax word.mark condition inner)) [] [] nil)
+      (nested (behind_statement setting) to_statement word.mark (frame done starts [] nil) ∷ around) here
   behind_else : {setting : Setting} {mark : ℕ} {done whole : Syntax} {starts : List Pending} {around : List Open} {before here : List Token}
       → Reached all (statement_at setting) done starts around before → Statement before here whole
-      → Partial all (statement_done elseNest) (frame (snoc nil whole) [] [] nil)
-      (nested (behind_statement setting) toStatement mark (frame done starts [] nil) ∷ around) here
+      → Partial all (statement_done else_nest) (frame (snoc nil whole) [] [] nil)
+      (nested (behind_statement setting) to_statement mark (frame done starts [] nil) ∷ around) here
   behind_do : {setting : Setting} {done inner : Syntax} {starts : List Pending} {around : List Open} {word : Spot} {first here : List Token}
       → Reached all (statement_at setting) done starts around (token do_word word ∷ first) → Statement first here inner
-      → Partial all (statement_done doNest) (frame (snoc nil inner) [] [] nil)
-      (nested (bodyDone setting) toBody word.mark (frame done starts [] nil) ∷ around) here
+      → Partial all (statement_done do_nest) (frame (snoc nil inner) [] [] nil)
+      (nested (body_done setting) to_body word.mark (frame done starts [] nil) ∷ around) here
   at_operand : {ending : Ending} {target : Target} {level : ℕ} {done operand : Syntax} {starts waiting : List Pending} {around : List Open}
       {first here : List Token} → Reached all (expression_at ending) done starts around first → Waiting ending target level waiting first here
-      → level ≤ prefix_precedence → Partial all (operandDue ending target) (frame done starts waiting operand) around here
+      → level ≤ prefix_precedence → Partial all (operand_due ending target) (frame done starts waiting operand) around here
   at_member : {ending : Ending} {target : Target} {level : ℕ} {done operand : Syntax} {starts waiting : List Pending} {around : List Open}
       {first here : List Token} → Reached all (expression_at ending) done starts around first → Waiting ending target level waiting first here
-      → Partial all (memberDue ending target) (frame done starts waiting operand) around here
+      → Partial all (member_due ending target) (frame done starts waiting operand) around here
   behind_operand : {ending : Ending} {target : Target} {level : ℕ} {done operand : Syntax} {starts waiting : List Pending} {around : List Open}
       {first before here : List Token} → Reached all (expression_at ending) done starts around first → Waiting ending target level waiting first before
-      → Chain (may_call waiting) before here operand → Partial all (operandDone ending target) (frame done starts waiting operand) around here
+      → Chain (may_call waiting) before here operand → Partial all (operand_done ending target) (frame done starts waiting operand) around here
   behind_postfix : {ending : Ending} {target : Target} {level : ℕ} {done operand : Syntax} {starts waiting : List Pending} {around : List Open}
       {first before here : List Token} → Reached all (expression_at ending) done starts around first → Waiting ending target level waiting first before
       → level ≤ prefix_precedence → Unary before here operand → Partial all (postfix_done ending) (frame done starts waiting operand) around here
   behind_dot : {ending : Ending} {target : Target} {level : ℕ} {done operand : Syntax} {starts waiting : List Pending} {around : List Open} {sign : Spot}
       {first before here : List Token} → Reached all (expression_at ending) done starts around first → Waiting ending target level waiting first before
-      → Chain (may_call waiting) before (token dot sign ∷ here) operand → Partial all (dotLast ending target) (frame done starts waiting operand) around here
+      → Chain (may_call waiting) before (token dot sign ∷ here) operand → Partial all (dot_last ending target) (frame done starts waiting operand) around here
   behind-function : {role : Role} {done : Syntax} {starts waiting : List Pending} {around : List Open} {word : Spot} {here : List Token}
       → FunctionAt all role done starts waiting around (token function_word word ∷ here)
-      → Partial all (functionFirst role) (frame done starts waiting (held_word word.mark)) around here
+      → Partial all (function_first role) (frame done starts waiting (held_word word.mark)) around here
   behind_function_name : {role : Role} {done : Syntax} {starts waiting : List Pending} {around : List Open} {word : Spot} {before here : List Token}
       → FunctionAt all role done starts waiting around before → Head role word before here
-      → Partial all (functionNamed role) (frame done starts waiting (held_word word.mark)) around here
+      → Partial all (function_named role) (frame done starts waiting (held_word word.mark)) around here
   at_parameters : {role : Role} {done : Syntax} {starts waiting : List Pending} {around : List Open} {word opener : Spot} {before here : List Token}
       → FunctionAt all role done starts waiting around before → Head role word before (token open_paren opener ∷ here)
       → Partial all (parameter_due false) empty
-      (grouped (parameterPast role) toParameter opener.mark (frame done starts waiting (held_word word.mark)) ∷ around) here
+      (grouped (parameter_past role) to_parameter opener.mark (frame done starts waiting (held_word word.mark)) ∷ around) here
   behind_parameter : {role : Role} {done : Syntax} {starts waiting : List Pending} {around : List Open} {word opener : Spot}
       {before named here : List Token} → FunctionAt all role done starts waiting around before → Head role word before (token open_paren opener ∷ named)
       → Names named here
-      → Partial all parameterNamed empty
-      (grouped (parameterPast role) toParameter opener.mark (frame done starts waiting (held_word word.mark)) ∷ around) here
+      → Partial all parameter_named empty
+      (grouped (parameter_past role) to_parameter opener.mark (frame done starts waiting (held_word word.mark)) ∷ around) here
   at_parameter : {role : Role} {done : Syntax} {starts waiting : List Pending} {around : List Open} {word opener sign : Spot}
       {before named here : List Token} → FunctionAt all role done starts waiting around before → Head role word before (token open_paren opener ∷ named)
       → Names named (token comma sign ∷ here)
       → Partial all (parameter_due true) empty
-      (grouped (parameterPast role) toParameter opener.mark (frame done starts waiting (held_word word.mark)) ∷ around) here
+      (grouped (parameter_past role) to_parameter opener.mark (frame done starts waiting (held_word word.mark)) ∷ around) here
   at_function_body : {role : Role} {done : Syntax} {starts waiting : List Pending} {around : List Open} {word opener closer : Spot}
       {before named here : List Token} → FunctionAt all role done starts waiting around before → Head role word before (token open_paren opener ∷ named)
       → Parameters named (token close_paren closer ∷ here)
-      → Partial all (parameterPast role) (frame done starts waiting (held_word word.mark)) around here
+      → Partial all (parameter_past role) (frame done starts waiting (held_word word.mark)) around here
   at_item : {items : Items} {done : Syntax} {around : List Open} {first here : List Token} → Reached all (list_at items) nil [] around first
-      → Derives (itemsForm items) first here done → Derives (listForm items) first here done
+      → Derives (items_form items) first here done → Derives (list_form items) first here done
       → Partial all (item_due items) (frame done [] [] nil) around here
   behind_property : {class : ℕ} {called : Spot} {done : Syntax} {around : List Open} {first here : List Token}
-      → Reached all (list_at objectProperties) nil [] around first → Derives (itemsForm objectProperties) first (token class called ∷ here) done
-      → IdentifierName class → Partial all propertyNamed (frame done [] [] nil) around here
+      → Reached all (list_at object_properties) nil [] around first → Derives (items_form object_properties) first (token class called ∷ here) done
+      → IdentifierName class → Partial all property_named (frame done [] [] nil) around here
   behind_end : {done : Syntax} {end : Spot} {here : List Token} → Statements body all (token end_of_text end ∷ here) done
       → Partial all finished (frame done [] [] nil) [] here
 
@@ -483,7 +483,7 @@ for_whole (three_parts (start_variables variables last) condition step) inner = 
 for_whole (both_sides (for_target target) object) inner = statement_for_in target object inner
 for_whole (both_sides (for_variable variable) object) inner = statement_for_var_in variable object inner
 
-try_whole : {word : Spot} {before middle after : List Token} {parts last : Syntax} → Tried before middle parts → Derives finallyForm middle after last
+try_whole : {word : Spot} {before middle after : List Token} {parts last : Syntax} → Tried before middle parts → Derives finally_form middle after last
     → Statement (token try_word word ∷ before) after (node try_word word.mark (snoc parts last) nil)
 try_whole (tried_block inner) last = statement_try_finally inner last
 try_whole (tried_catch inner handler) last = statement_try_all inner handler last
@@ -495,7 +495,7 @@ of_head kind around = cond (eqb kind for_in_syntax) (head_in around) around
 module _ {all : List Token} where
   -- an expression starts
   pub at_expression : {ending : Ending} {done operand : Syntax} {starts : List Pending} {around : List Open} {here : List Token}
-      → Reached all (expression_at ending) done starts around here → Partial all (operandDue ending someTarget) (frame done starts [] operand) around here
+      → Reached all (expression_at ending) done starts around here → Partial all (operand_due ending some_target) (frame done starts [] operand) around here
   at_expression {ending} outer = at_operand outer (none_waits tt) (under (whole_level ending) (whole-level ending))
     where
       under : (level : ℕ) → level ≤ assignment_precedence → level ≤ prefix_precedence
@@ -521,7 +521,7 @@ module _ {all : List Token} where
 
   -- a block is complete
   with_block : {behind : Control} {done inner : Syntax} {starts : List Pending} {around : List Open} {before here : List Token}
-      → Reached all (block_at behind) done starts around before → Derives blockForm before here inner
+      → Reached all (block_at behind) done starts around before → Derives block_form before here inner
       → Partial all behind (complete_statement done starts inner) around here
   with_block (block_statement outer) inner = with_statement outer (statement_block inner)
   with_block (block_of_try outer) inner = behind_tried outer inner
@@ -538,7 +538,7 @@ module _ {all : List Token} where
       behind_operand outer waits (function_chain head (function_all parameters statements))
 
   pub parens_close : {done value : Syntax} {starts : List Pending} {around : List Open} {closer : Spot} {first here : List Token}
-      → Reached all (expression_at byParen) done starts around first → Expression first (token close_paren closer ∷ here) value
+      → Reached all (expression_at by_paren) done starts around first → Expression first (token close_paren closer ∷ here) value
       → (place : ℕ) → PartialOf all (pop_to place value around) here
   parens_close (in_parens outer waits) value place = behind_operand outer waits (chain_parens value)
   parens_close (in_condition outer) value place = at_inner_statement (after_if outer value)
@@ -547,7 +547,7 @@ module _ {all : List Token} where
   parens_close (in_test outer inner) value place = at_semicolon outer (do_unended inner value)
 
   pub index_closes : {done value : Syntax} {starts : List Pending} {around : List Open} {closer : Spot} {first here : List Token}
-      → Reached all (expression_at byBracket) done starts around first → Expression first (token close_bracket closer ∷ here) value
+      → Reached all (expression_at by_bracket) done starts around first → Expression first (token close_bracket closer ∷ here) value
       → (place : ℕ) → PartialOf all (pop_to place value around) here
   index_closes (in_index outer waits object) value place = behind_operand outer waits (chain_index object value)
 
@@ -555,8 +555,8 @@ module _ {all : List Token} where
   arguments_close : {ending : Ending} {target : Target} {level : ℕ} {done callee values : Syntax} {starts waiting : List Pending} {around : List Open}
       {opener closer : Spot} {first before inside here : List Token} → Reached all (expression_at ending) done starts around first
       → Waiting ending target level waiting first before → Chain (may_call waiting) before (token open_paren opener ∷ inside) callee
-      → Derives (listForm callArguments) inside (token close_paren closer ∷ here) values
-      → Partial all (operandDone ending target) (called opener.mark values done starts waiting callee) around here
+      → Derives (list_form call_arguments) inside (token close_paren closer ∷ here) values
+      → Partial all (operand_done ending target) (called opener.mark values done starts waiting callee) around here
   arguments_close outer (none_waits may) callee values = behind_operand outer (none_waits may) (chain_call callee values)
   arguments_close {callee = part} {values = list} {opener = opener} {here = here} outer (operator_waits w fits begun) callee values =
       let other = begun_calls begun in
@@ -566,7 +566,7 @@ module _ {all : List Token} where
   arguments_close outer (new_waits w) callee values = behind_operand outer w (chain_new callee values)
 
   pub list_closes : {items : Items} {value : Syntax} {around : List Open} {closer : Spot} {first here : List Token}
-      → Reached all (list_at items) nil [] around first → Derives (listForm items) first (token (list_closer items) closer ∷ here) value
+      → Reached all (list_at items) nil [] around first → Derives (list_form items) first (token (list_closer items) closer ∷ here) value
       → (place : ℕ) → PartialOf all (pop_to place value around) here
   list_closes (in_call outer waits callee) values place = arguments_close outer waits callee values
   list_closes (in_array outer waits) values place = behind_operand outer waits (chain_array values)
@@ -576,10 +576,10 @@ module _ {all : List Token} where
   pub item_ends : {items : Items} {done value : Syntax} {starts : List Pending} {around : List Open} {sign : Spot} {first here : List Token}
       → Reached all (expression_at (by_item items)) done starts around first → Assign first (token comma sign ∷ here) value
       → Partial all (behind_comma items) (complete_statement done starts value) around here
-  item_ends (in_item {items = callArguments} outer values begins) value = at_expression (in_item outer (add_item values begins value) at_argument)
-  item_ends (in_item {items = arrayElements} outer values begins) value =
+  item_ends (in_item {items = call_arguments} outer values begins) value = at_expression (in_item outer (add_item values begins value) at_argument)
+  item_ends (in_item {items = array_elements} outer values begins) value =
       at_item outer (add_item values begins value) (list_items tt (add_item values begins value))
-  item_ends (in_item {items = objectProperties} outer values begins) value =
+  item_ends (in_item {items = object_properties} outer values begins) value =
       at_item outer (add_item values begins value) (list_items tt (add_item values begins value))
 
   pub last_item_ends : {items : Items} {done value : Syntax} {starts : List Pending} {around : List Open} {closer : Spot} {first here : List Token}
@@ -589,32 +589,32 @@ module _ {all : List Token} where
 
   -- the first value of a conditional ends
   pub first_ends : {done value : Syntax} {starts : List Pending} {around : List Open} {answer : Spot} {first here : List Token}
-      → Reached all (expression_at byColon) done starts around first → Assign first (token colon answer ∷ here) value
+      → Reached all (expression_at by_colon) done starts around first → Assign first (token colon answer ∷ here) value
       → (place : ℕ) → PartialOf all (turn_to place value around) here
   first_ends (in_conditional outer waits fits condition) value place = at_operand outer (operator_waits waits fits (conditional_begun condition value)) (omega arith)
 
   -- an expression ends with its statement
   pub expression-ends : {setting : Setting} {done value : Syntax} {starts : List Pending} {around : List Open} {end : Spot} {first here : List Token}
-      → Reached all (expression_at (byStatement setting)) done starts around first → Expression first (token semicolon end ∷ here) value
+      → Reached all (expression_at (by_statement setting)) done starts around first → Expression first (token semicolon end ∷ here) value
       → Partial all (behind_statement setting) (complete_statement done starts (node expression_syntax end.mark value nil)) around here
   expression-ends (in_expression allowed outer) value = with_statement outer (statement_expression allowed value)
 
   pub return_ends : {setting : Setting} {done value : Syntax} {starts : List Pending} {around : List Open} {end : Spot} {first here : List Token}
-      → Reached all (expression_at (byReturn setting)) done starts around first → Expression first (token semicolon end ∷ here) value
+      → Reached all (expression_at (by_return setting)) done starts around first → Expression first (token semicolon end ∷ here) value
       → Partial all (behind_statement setting) (complete_statement done starts value) around here
   return_ends (in_return same outer) value = with_statement outer (statement_full_return same value)
   return_ends (in_throw same outer) value = with_statement outer (statement_throw same value)
 
   -- a variable has its initialiser
   pub initialised : {place : Variables} {done value : Syntax} {starts : List Pending} {around : List Open} {first here : List Token}
-      → Reached all (expression_at (by_variable place)) done starts around first → Derives (assignForm (allows_in (by_variable place))) first here value
+      → Reached all (expression_at (by_variable place)) done starts around first → Derives (assign_form (allows_in (by_variable place))) first here value
       → VariableAt all place done starts around here value
   initialised (in_variable outer) value = variable-at outer (variable_initialised value)
 
   -- a variable ends: a `,` stands behind it, the `;` of its statement or its head, or the `in` of a `for`
   pub variable_ends : {place : Variables} {done value : Syntax} {starts : List Pending} {around : List Open} {sign : Spot} {here : List Token}
       → VariableAt all place done starts around (token comma sign ∷ here) value
-      → Partial all (variableDue (later_variables place)) (frame done (joined starts value) [] nil) around here
+      → Partial all (variable_due (later_variables place)) (frame done (joined starts value) [] nil) around here
   variable_ends (variable-at (in_var outer variables) last) = at_variable (in_var outer (add_variable variables last))
   variable_ends (variable-at (in_for_var outer) last) = at_variable (in_for_vars outer (add_variable no_variables last))
   variable_ends (variable-at (in_for_vars outer variables) last) = at_variable (in_for_vars outer (add_variable variables last))
@@ -628,7 +628,7 @@ module _ {all : List Token} where
 
   pub only_variable_ends : {place : Variables} {done value : Syntax} {starts : List Pending} {around : List Open} {sign : Spot} {here : List Token}
       → T (is_first place) → VariableAt all place done starts around (token in_word sign ∷ here) value
-      → Partial all (operandDue byObject someTarget) (complete_statement done starts value) around here
+      → Partial all (operand_due by_object some_target) (complete_statement done starts value) around here
   only_variable_ends first (variable-at (in_var outer variables) last) = absurd first
   only_variable_ends first (variable-at (in_for_var outer) last) = at_expression (in_for_object outer (for_variable last))
   only_variable_ends first (variable-at (in_for_vars outer variables) last) = absurd first
@@ -640,18 +640,18 @@ module _ {all : List Token} where
   head_closes (in-for outer) (both_sides target object) place = at_inner_statement (after_for outer (both_sides target object))
 
   pub start_ends : {done value : Syntax} {starts : List Pending} {around : List Open} {end : Spot} {first here : List Token}
-      → Reached all (expression_at byStart) done starts around first → Derives (expressionForm false) first (token semicolon end ∷ here) value
-      → Partial all testDue (complete_statement done starts value) around here
+      → Reached all (expression_at by_start) done starts around first → Derives (expression_form false) first (token semicolon end ∷ here) value
+      → Partial all test_due (complete_statement done starts value) around here
   start_ends (in_start outer) value = at_for_test outer (start_expression (not_left_out value))
 
   pub target_ends : {done value : Syntax} {starts : List Pending} {around : List Open} {sign : Spot} {first here : List Token}
-      → Reached all (expression_at byStart) done starts around first → Derives (targetForm true) first (token in_word sign ∷ here) value
-      → Partial all (operandDue byObject someTarget) (complete_statement done starts value) around here
+      → Reached all (expression_at by_start) done starts around first → Derives (target_form true) first (token in_word sign ∷ here) value
+      → Partial all (operand_due by_object some_target) (complete_statement done starts value) around here
   target_ends (in_start outer) value = at_expression (in_for_object outer (for_target value))
 
   pub test_ends : {done value : Syntax} {starts : List Pending} {around : List Open} {end : Spot} {first here : List Token}
-      → Reached all (expression_at byTest) done starts around first → Expression first (token semicolon end ∷ here) value
-      → Partial all stepDue (complete_statement done starts value) around here
+      → Reached all (expression_at by_test) done starts around first → Expression first (token semicolon end ∷ here) value
+      → Partial all step_due (complete_statement done starts value) around here
   test_ends (in_for_test outer start) value = at_for_step outer start (not_left_out value)
 
   pub step_ends : {done value : Syntax} {starts : List Pending} {around : List Open} {closer : Spot} {first here : List Token}
@@ -660,7 +660,7 @@ module _ {all : List Token} where
   step_ends (in_for_step outer start condition) value place = head_closes outer (three_parts start condition (not_left_out value)) place
 
   pub object_ends : {done value : Syntax} {starts : List Pending} {around : List Open} {closer : Spot} {first here : List Token}
-      → Reached all (expression_at byObject) done starts around first → Expression first (token close_paren closer ∷ here) value
+      → Reached all (expression_at by_object) done starts around first → Expression first (token close_paren closer ∷ here) value
       → (place : ℕ) → PartialOf all (pop_to place (done_of (complete_statement done starts value)) (head_in around)) here
   object_ends (in_for_object outer target) value place = head_closes outer (both_sides target value) place
 
@@ -668,7 +668,7 @@ module _ {all : List Token} where
   pub case_ends : {seen : Bool} {done value : Syntax} {starts : List Pending} {around : List Open} {sign : Spot} {first here : List Token}
       → Reached all (expression_at (by_case seen)) done starts around first → Expression first (token colon sign ∷ here) value
       → Partial all (statement_due false in_clause) empty
-      (nested (clause_due seen) toStatement sign.mark (frame done (headed value starts) [] nil) ∷ around) here
+      (nested (clause_due seen) to_statement sign.mark (frame done (headed value starts) [] nil) ∷ around) here
   case_ends (in_case outer) value = at_clause_statement (after_case outer value no_statements)
 
   pub clauses_close : {seen : Bool} {cases : Syntax} {around : List Open} {closer : Spot} {here : List Token}

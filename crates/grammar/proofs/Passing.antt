@@ -16,9 +16,9 @@ use Rattle.grammar.specs.Grammar.{
   postfix_kind,
   is_among,
   Items,
-  callArguments,
-  arrayElements,
-  objectProperties,
+  call_arguments,
+  array_elements,
+  object_properties,
 }
 use Rattle.machine.specs.Machinery.Machine.{
   in_for,
@@ -42,11 +42,11 @@ use Rattle.machine.specs.Machinery.Machine.{
   await,
   answered,
   postfixed,
-  takeOperator,
-  endValue,
+  take_operator,
+  end_value,
   Closing,
   close,
-  toStatement,
+  to_statement,
   Setting,
   in_clause,
   Variables,
@@ -56,36 +56,36 @@ use Rattle.machine.specs.Machinery.Machine.{
   later_variables,
   behind_variables,
   Target,
-  noTarget,
-  someTarget,
-  loneTarget,
+  no_target,
+  some_target,
+  lone_target,
   is_target,
   allows_in,
   Ending,
-  byStatement,
-  byReturn,
+  by_statement,
+  by_return,
   by_variable,
-  byStart,
-  byTest,
+  by_start,
+  by_test,
   by_step,
-  byObject,
+  by_object,
   by_case,
-  byParen,
-  byBracket,
-  byColon,
+  by_paren,
+  by_bracket,
+  by_colon,
   by_item,
   Control,
   behind_statement,
   behind_comma,
-  operandDue,
-  operandDone,
+  operand_due,
+  operand_done,
   postfix_done,
-  variableDue,
-  variableNamed,
+  variable_due,
+  variable_named,
   statement_due,
-  startDue,
-  testDue,
-  stepDue,
+  start_due,
+  test_due,
+  step_due,
   clause_due,
   item_due,
   list_closer,
@@ -162,40 +162,40 @@ module _ {stop : Spot} {ending : Ending} {done : Syntax} {starts : List Pending}
 
 -- the endings that stand for a closer
 pub data ClosedBy : Ending → ℕ → Type 0 where
-  by_paren : ClosedBy byParen close_paren
-  by_bracket : ClosedBy byBracket close_bracket
+  by-paren : ClosedBy by_paren close_paren
+  by-bracket : ClosedBy by_bracket close_bracket
 
 closer_listed : {ending : Ending} {class : ℕ} → ClosedBy ending class → T (is_among expression_ends class)
-closer_listed by_paren = tt
-closer_listed by_bracket = tt
+closer_listed by-paren = tt
+closer_listed by-bracket = tt
 
 list_closer_listed : (items : Items) → T (is_among expression_ends (list_closer items))
-list_closer_listed callArguments = tt
-list_closer_listed arrayElements = tt
-list_closer_listed objectProperties = tt
+list_closer_listed call_arguments = tt
+list_closer_listed array_elements = tt
+list_closer_listed object_properties = tt
 
 -- what the closer of a group does behind an expression, and that of a list behind an item
 module _ (behind : Control) (closing : Closing) (mark : ℕ) (f : Frame) (around : List Open) (closer : Spot) where
   group_closed : {ending : Ending} {class : ℕ} → ClosedBy ending class → (unclosed : List Pending) (last : Syntax)
       → act (look class (ending_row ending)) class closer (frame nil [] unclosed last) (grouped behind closing mark f ∷ around)
       ≡ live behind (close closing mark (operand_of (reduce 0 nil [] unclosed last)) f) around
-  group_closed by_paren unclosed last = refl
-  group_closed by_bracket unclosed last = refl
+  group_closed by-paren unclosed last = refl
+  group_closed by-bracket unclosed last = refl
 
   last_closed : (items : Items) (done : Syntax) (unclosed : List Pending) (last : Syntax)
       → act (look (list_closer items) (ending_row (by_item items))) (list_closer items) closer (frame done [] unclosed last)
       (grouped behind closing mark f ∷ around) ≡ live behind (close closing mark (done_of (complete_value (reduce 0 done [] unclosed last))) f) around
-  last_closed callArguments done unclosed last = refl
-  last_closed arrayElements done unclosed last = refl
-  last_closed objectProperties done unclosed last = refl
+  last_closed call_arguments done unclosed last = refl
+  last_closed array_elements done unclosed last = refl
+  last_closed object_properties done unclosed last = refl
 
 -- the ends of an expression: a group's closer, `;`, and `,`
 module _ {stop : Spot} {least : ℕ} {behind : Control} {closing : Closing} {mark : ℕ} {f : Frame} {around : List Open} {closer : Spot}
     {inside after : List Token} {value : Syntax} where
   pub group_passed : {ending : Ending} {class : ℕ} → ClosedBy ending class
       → Passed stop ending nil [] (grouped behind closing mark f ∷ around) least []
-      (live (operandDue ending someTarget) empty (grouped behind closing mark f ∷ around)) inside (token class closer ∷ after) value
-      → ran stop (live (operandDue ending someTarget) empty (grouped behind closing mark f ∷ around)) inside
+      (live (operand_due ending some_target) empty (grouped behind closing mark f ∷ around)) inside (token class closer ∷ after) value
+      → ran stop (live (operand_due ending some_target) empty (grouped behind closing mark f ∷ around)) inside
       ≡ ran stop (live behind (close closing mark value f) around) after
   group_passed closed p =
       met p (closer_listed closed)
@@ -206,7 +206,7 @@ module _ {stop : Spot} {least : ℕ} {behind : Control} {closing : Closing} {mar
 module _ {stop : Spot} {least : ℕ} {done : Syntax} {starts : List Pending} {around : List Open} {from : State} {before after : List Token}
     {value : Syntax} where
   pub expression_passed : {setting : Setting} {end : Spot}
-      → Passed stop (byStatement setting) done starts around least [] from before (token semicolon end ∷ after) value
+      → Passed stop (by_statement setting) done starts around least [] from before (token semicolon end ∷ after) value
       → ran stop from before
       ≡ ran stop (live (behind_statement setting) (complete_statement done starts (node expression_syntax end.mark value nil)) around) after
   expression_passed {setting} {end} p =
@@ -215,7 +215,7 @@ module _ {stop : Spot} {least : ℕ} {done : Syntax} {starts : List Pending} {ar
       (p.reached.closes 0 (from_none least))
 
   pub return_passed : {setting : Setting} {end : Spot}
-      → Passed stop (byReturn setting) done starts around least [] from before (token semicolon end ∷ after) value
+      → Passed stop (by_return setting) done starts around least [] from before (token semicolon end ∷ after) value
       → ran stop from before ≡ ran stop (live (behind_statement setting) (complete_statement done starts value) around) after
   return_passed {setting} p =
       met p tt
@@ -265,20 +265,20 @@ pub record VariablePassed (stop : Spot) (place : Variables) (done : Syntax) (wor
     (before after : List Token) (value : Syntax) : Type 0 where
   pub control : Control
   pub last : Frame
-  pub runs : ran stop (live (variableDue place) (frame done (pending word mark variables ∷ starts) [] nil) around) before
+  pub runs : ran stop (live (variable_due place) (frame done (pending word mark variables ∷ starts) [] nil) around) before
       ≡ ran stop (live control last around) after
   pub ends : (end : Spot) → consume (live control last around) (token semicolon end)
       ≡ live (behind_variables place) (complete_statement done starts (node word mark variables value)) around
   pub joins : (sign : Spot) → consume (live control last around) (token comma sign)
-      ≡ live (variableDue (later_variables place)) (frame done (pending word mark (snoc variables value) ∷ starts) [] nil) around
+      ≡ live (variable_due (later_variables place)) (frame done (pending word mark (snoc variables value) ∷ starts) [] nil) around
   pub leads : T (is_first place) → (sign : Spot) → consume (live control last around) (token in_word sign)
-      ≡ live (operandDue byObject someTarget) (complete_statement done starts (node word mark variables value)) around
+      ≡ live (operand_due by_object some_target) (complete_statement done starts (node word mark variables value)) around
 
 module _ {stop : Spot} {place : Variables} {done : Syntax} {word mark : ℕ} {variables : Syntax} {starts : List Pending} {around : List Open} where
   pub bare_passed : {called : Spot} {after : List Token}
       → VariablePassed stop place done word mark variables starts around (token name called ∷ after) after (node variable_syntax called.mark nil nil)
   bare_passed {called} = record {
-    control = variableNamed place;
+    control = variable_named place;
     last = frame done (pending variable_syntax called.mark nil ∷ pending word mark variables ∷ starts) [] nil;
     runs = refl;
     ends = λ end. refl;
@@ -287,9 +287,9 @@ module _ {stop : Spot} {place : Variables} {done : Syntax} {word mark : ℕ} {va
   }
     where
       only : (place : Variables) → T (is_first place) → (sign : Spot)
-          → consume (live (variableNamed place) (frame done (pending variable_syntax called.mark nil ∷ pending word mark variables ∷ starts) [] nil) around)
+          → consume (live (variable_named place) (frame done (pending variable_syntax called.mark nil ∷ pending word mark variables ∷ starts) [] nil) around)
           (token in_word sign)
-          ≡ live (operandDue byObject someTarget) (complete_statement done starts (node word mark variables (node variable_syntax called.mark nil nil))) around
+          ≡ live (operand_due by_object some_target) (complete_statement done starts (node word mark variables (node variable_syntax called.mark nil nil))) around
       only (in_statement setting) first sign = absurd first
       only (in_head true) first sign = refl
       only (in_head false) first sign = absurd first
@@ -297,7 +297,7 @@ module _ {stop : Spot} {place : Variables} {done : Syntax} {word mark : ℕ} {va
   -- a variable with an initialiser, which is passed
   pub initialised_passed : {called sign : Spot} {least : ℕ} {before after : List Token} {value : Syntax}
       → (let here = pending variable_syntax called.mark nil ∷ pending word mark variables ∷ starts in
-      Passed stop (by_variable place) done here around least [] (live (operandDue (by_variable place) someTarget) (frame done here [] nil) around) before after value)
+      Passed stop (by_variable place) done here around least [] (live (operand_due (by_variable place) some_target) (frame done here [] nil) around) before after value)
       → VariablePassed stop place done word mark variables starts around (token name called ∷ token assign sign ∷ before) after
       (node variable_syntax called.mark nil value)
   initialised_passed {called} {least = least} {value = value} p =
@@ -310,35 +310,35 @@ module _ {stop : Spot} {place : Variables} {done : Syntax} {word mark : ℕ} {va
         ends = λ end. ap (λ (z : Action). act z semicolon end last around) (look_end p.ends end.newline semicolon tt)
             ∙ ap (λ (z : Frame). live (behind_variables place) (complete_value z) around) (p.reached.closes 0 (from_none least));
         joins = λ sign. ap (λ (z : Action). act z comma sign last around) (look_end p.ends sign.newline comma tt)
-            ∙ ap (λ (z : Frame). live (variableDue (later_variables place)) (complete_variable z) around) (p.reached.closes 0 (from_none least));
+            ∙ ap (λ (z : Frame). live (variable_due (later_variables place)) (complete_variable z) around) (p.reached.closes 0 (from_none least));
         leads = λ first sign. ap (λ (z : Action). act z in_word sign last around)
             (look_behind_unary p.ends sign.newline in_word tt ∙ only place first)
-            ∙ ap (λ (z : Frame). live (operandDue byObject someTarget) (complete_value z) around) (p.reached.closes 0 (from_none least));
+            ∙ ap (λ (z : Frame). live (operand_due by_object some_target) (complete_value z) around) (p.reached.closes 0 (from_none least));
       }
     where
-      only : (place : Variables) → T (is_first place) → look in_word (after_unary (by_variable place)) ≡ goto (operandDue byObject someTarget) endValue
+      only : (place : Variables) → T (is_first place) → look in_word (after_unary (by_variable place)) ≡ goto (operand_due by_object some_target) end_value
       only (in_statement setting) first = absurd first
       only (in_head true) first = refl
       only (in_head false) first = absurd first
 
   pub variables_passed : {end : Spot} {before after : List Token} {value : Syntax}
       → VariablePassed stop place done word mark variables starts around before (token semicolon end ∷ after) value
-      → ran stop (live (variableDue place) (frame done (pending word mark variables ∷ starts) [] nil) around) before
+      → ran stop (live (variable_due place) (frame done (pending word mark variables ∷ starts) [] nil) around) before
       ≡ ran stop (live (behind_variables place) (complete_statement done starts (node word mark variables value)) around) after
   variables_passed {end} {after = after} p = p.runs ∙ ap (λ (z : State). ran stop z after) (p.ends end)
 
   -- behind a variable stands a `,`
   pub variable_passed : {sign : Spot} {before after : List Token} {value : Syntax}
       → VariablePassed stop place done word mark variables starts around before (token comma sign ∷ after) value
-      → ran stop (live (variableDue place) (frame done (pending word mark variables ∷ starts) [] nil) around) before
-      ≡ ran stop (live (variableDue (later_variables place)) (frame done (pending word mark (snoc variables value) ∷ starts) [] nil) around) after
+      → ran stop (live (variable_due place) (frame done (pending word mark variables ∷ starts) [] nil) around) before
+      ≡ ran stop (live (variable_due (later_variables place)) (frame done (pending word mark (snoc variables value) ∷ starts) [] nil) around) after
   variable_passed {sign} {after = after} p = p.runs ∙ ap (λ (z : State). ran stop z after) (p.joins sign)
 
   -- behind the one variable of a `for` stands `in`
   pub only_passed : {sign : Spot} {before after : List Token} {value : Syntax} → T (is_first place)
       → VariablePassed stop place done word mark variables starts around before (token in_word sign ∷ after) value
-      → ran stop (live (variableDue place) (frame done (pending word mark variables ∷ starts) [] nil) around) before
-      ≡ ran stop (live (operandDue byObject someTarget) (complete_statement done starts (node word mark variables value)) around) after
+      → ran stop (live (variable_due place) (frame done (pending word mark variables ∷ starts) [] nil) around) before
+      ≡ ran stop (live (operand_due by_object some_target) (complete_statement done starts (node word mark variables value)) around) after
   only_passed {sign} {after = after} first p = p.runs ∙ ap (λ (z : State). ran stop z after) (p.leads first sign)
 
 -- one behind a `,` is a later one, and has `in` or not as the first has
@@ -371,8 +371,8 @@ module _ {stop : Spot} {due : Control} {ending : Ending} {class : ℕ} {done : S
       looked step_part newline = refl
 
   pub part_passed : {target : Target} {least : ℕ} {before after : List Token} {value : Syntax} → HeadPart due ending target class
-      → ran stop (live due (frame done [] [] nil) around) before ≡ ran stop (live (operandDue ending target) (frame done [] [] nil) around) before
-      → Passed stop ending done [] around least [] (live (operandDue ending target) (frame done [] [] nil) around) before after value
+      → ran stop (live due (frame done [] [] nil) around) before ≡ ran stop (live (operand_due ending target) (frame done [] [] nil) around) before
+      → Passed stop ending done [] around least [] (live (operand_due ending target) (frame done [] [] nil) around) before after value
       → PartPassed stop due ending class done around before after value
   part_passed {least = least} part taken p = record {
     control = p.control;
@@ -396,31 +396,31 @@ module _ {stop : Spot} {due : Control} {ending : Ending} {class : ℕ} {done : S
       p.runs ∙ ap (λ (z : Action). ran stop (act z class end (frame done [] p.unclosed p.last) around) after) (p.looks end.newline)
 
 module _ {stop : Spot} {done : Syntax} {before after : List Token} {value : Syntax} where
-  pub start_passed : {end : Spot} {around : List Open} → PartPassed stop startDue byStart semicolon done around before (token semicolon end ∷ after) value
-      → ran stop (live startDue (frame done [] [] nil) around) before ≡ ran stop (live testDue (frame (snoc done value) [] [] nil) around) after
-  start_passed {around = around} p = part_met p ∙ ap (λ (z : Frame). ran stop (live testDue (complete_value z) around) after) p.closes
+  pub start_passed : {end : Spot} {around : List Open} → PartPassed stop start_due by_start semicolon done around before (token semicolon end ∷ after) value
+      → ran stop (live start_due (frame done [] [] nil) around) before ≡ ran stop (live test_due (frame (snoc done value) [] [] nil) around) after
+  start_passed {around = around} p = part_met p ∙ ap (λ (z : Frame). ran stop (live test_due (complete_value z) around) after) p.closes
 
-  pub test_passed : {end : Spot} {around : List Open} → PartPassed stop testDue byTest semicolon done around before (token semicolon end ∷ after) value
-      → ran stop (live testDue (frame done [] [] nil) around) before ≡ ran stop (live stepDue (frame (snoc done value) [] [] nil) around) after
-  test_passed {around = around} p = part_met p ∙ ap (λ (z : Frame). ran stop (live stepDue (complete_value z) around) after) p.closes
+  pub test_passed : {end : Spot} {around : List Open} → PartPassed stop test_due by_test semicolon done around before (token semicolon end ∷ after) value
+      → ran stop (live test_due (frame done [] [] nil) around) before ≡ ran stop (live step_due (frame (snoc done value) [] [] nil) around) after
+  test_passed {around = around} p = part_met p ∙ ap (λ (z : Frame). ran stop (live step_due (complete_value z) around) after) p.closes
 
   -- behind the start of the head `in` may stand, if that is a Target
   pub target_passed : {sign : Spot} {least : ℕ} {around : List Open} {from : State}
-      → Reached stop (operandDone byStart loneTarget) done [] around least [] from before (token in_word sign ∷ after) value
-      → ran stop from before ≡ ran stop (live (operandDue byObject someTarget) (frame (snoc done value) [] [] nil) around) after
+      → Reached stop (operand_done by_start lone_target) done [] around least [] from before (token in_word sign ∷ after) value
+      → ran stop from before ≡ ran stop (live (operand_due by_object some_target) (frame (snoc done value) [] [] nil) around) after
   target_passed {least = least} {around = around} p =
-      p.runs ∙ ap (λ (z : Frame). ran stop (live (operandDue byObject someTarget) (complete_value z) around) after) (p.closes 0 (from_none least))
+      p.runs ∙ ap (λ (z : Frame). ran stop (live (operand_due by_object some_target) (complete_value z) around) after) (p.closes 0 (from_none least))
 
   -- the `)` of the head
   pub step_passed : {behind : Control} {closing : Closing} {mark : ℕ} {f : Frame} {around : List Open} {closer : Spot}
-      → PartPassed stop stepDue by_step close_paren done (grouped behind closing mark f ∷ around) before (token close_paren closer ∷ after) value
-      → ran stop (live stepDue (frame done [] [] nil) (grouped behind closing mark f ∷ around)) before
+      → PartPassed stop step_due by_step close_paren done (grouped behind closing mark f ∷ around) before (token close_paren closer ∷ after) value
+      → ran stop (live step_due (frame done [] [] nil) (grouped behind closing mark f ∷ around)) before
       ≡ ran stop (live behind (close closing mark (snoc done value) f) around) after
   step_passed {behind} {closing} {mark} {f} {around} p =
       part_met p ∙ ap (λ (z : Frame). ran stop (live behind (close closing mark (done_of (complete_value z)) f) around) after) p.closes
 
   pub object_passed : {least : ℕ} {from : State} {behind : Control} {closing : Closing} {mark : ℕ} {f : Frame} {around : List Open} {closer : Spot}
-      → Passed stop byObject done [] (grouped behind closing mark f ∷ around) least [] from before (token close_paren closer ∷ after) value
+      → Passed stop by_object done [] (grouped behind closing mark f ∷ around) least [] from before (token close_paren closer ∷ after) value
       → ran stop from before ≡ ran stop (live behind (close (in_for closing) mark (snoc done value) f) around) after
   object_passed {least} {behind = behind} {closing = closing} {mark = mark} {f = f} {around = around} p =
       met p tt
@@ -431,10 +431,10 @@ module _ {stop : Spot} {done : Syntax} {before after : List Token} {value : Synt
       → Passed stop (by_case seen) done starts around least [] from before (token colon sign ∷ after) value
       → ran stop from before
       ≡ ran stop (live (statement_due false in_clause) empty
-      (nested (clause_due seen) toStatement sign.mark (frame done (headed value starts) [] nil) ∷ around)) after
+      (nested (clause_due seen) to_statement sign.mark (frame done (headed value starts) [] nil) ∷ around)) after
   case_passed {least} {seen} {around = around} {sign = sign} p =
       met p tt
-      ∙ ap (λ (z : Frame). ran stop (live (statement_due false in_clause) empty (nested (clause_due seen) toStatement sign.mark (complete_head z) ∷ around)) after)
+      ∙ ap (λ (z : Frame). ran stop (live (statement_due false in_clause) empty (nested (clause_due seen) to_statement sign.mark (complete_head z) ∷ around)) after)
       (p.reached.closes 0 (from_none least))
 
 module _ {stop : Spot} {done : Syntax} {starts : List Pending} {around : List Open} {waiting : List Pending} {from : State}
@@ -448,7 +448,7 @@ module _ {stop : Spot} {done : Syntax} {starts : List Pending} {around : List Op
   -- `++` or `--` closes the `new`s that wait
   pub postfix_passed : {ending : Ending} {target : Target} {least class : ℕ} {sign : Spot} {value : Syntax} → T (is_among postfix_operators class)
       → T (not sign.newline) → Looser new_precedence waiting
-      → Reached stop (operandDone ending target) done starts around new_precedence waiting from before (token class sign ∷ after) value
+      → Reached stop (operand_done ending target) done starts around new_precedence waiting from before (token class sign ∷ after) value
       → Passed stop ending done starts around least waiting from before after (node (postfix_kind class) sign.mark value nil)
   postfix_passed {ending} {target} {class = class} {sign = sign} {value = value} op same loose p = record {
     control = postfix_done ending;
@@ -484,7 +484,7 @@ module _ {stop : Spot} {done : Syntax} {starts : List Pending} {around : List Op
 module _ {stop : Spot} {done : Syntax} {starts : List Pending} {around : List Open} {waiting : List Pending} {from : State} {before middle : List Token}
     {left : Syntax} where
   operator_taken : {control next : Control} {least class : ℕ} {sign : Spot} (n : ℕ) → threshold class ≡ n → n ≤ least → Looser n waiting
-      → look class (row control sign.newline) ≡ goto next (takeOperator class)
+      → look class (row control sign.newline) ≡ goto next (take_operator class)
       → Reached stop control done starts around least waiting from before (token class sign ∷ middle) left
       → ran stop from before ≡ ran stop (live next (frame done starts (pending class sign.mark left ∷ waiting) nil) around) middle
   operator_taken {next = next} {class = class} {sign = sign} n closed under loose looked p =
@@ -496,14 +496,14 @@ module _ {stop : Spot} {done : Syntax} {starts : List Pending} {around : List Op
 
   pub binary_taken : {ending : Ending} {class : ℕ} {sign : Spot} → T (is_among (binary_operators_by (allows_in ending)) class) → Looser (precedence class) waiting
       → Passed stop ending done starts around (precedence class) waiting from before (token class sign ∷ middle) left
-      → ran stop from before ≡ ran stop (live (operandDue ending noTarget) (frame done starts (pending class sign.mark left ∷ waiting) nil) around) middle
+      → ran stop from before ≡ ran stop (live (operand_due ending no_target) (frame done starts (pending class sign.mark left ∷ waiting) nil) around) middle
   binary_taken {ending} {class} {sign} op loose p =
       operator_taken (precedence class) (binary_threshold class (binary_by (allows_in ending) class op)) (itself (precedence class)) loose (look_binary p.ends sign.newline class op)
       p.reached
 
   pub assignment_taken : {ending : Ending} {target : Target} {class : ℕ} {sign : Spot} → T (is_target target) → T (is_among assignment_operators class)
-      → Looser least_binary waiting → Reached stop (operandDone ending target) done starts around new_precedence waiting from before (token class sign ∷ middle) left
-      → ran stop from before ≡ ran stop (live (operandDue ending someTarget) (frame done starts (pending class sign.mark left ∷ waiting) nil) around) middle
+      → Looser least_binary waiting → Reached stop (operand_done ending target) done starts around new_precedence waiting from before (token class sign ∷ middle) left
+      → ran stop from before ≡ ran stop (live (operand_due ending some_target) (frame done starts (pending class sign.mark left ∷ waiting) nil) around) middle
   assignment_taken {ending} {target} {class} {sign} may op loose p =
       operator_taken least_binary (assignment_threshold class op) (leb→le least_binary new_precedence tt) loose
       (look_assignment ending target sign.newline class may op) p
@@ -512,27 +512,27 @@ module _ {stop : Spot} {done : Syntax} {starts : List Pending} {around : List Op
   pub question_taken : {ending : Ending} {sign : Spot} → Looser least_binary waiting
       → Passed stop ending done starts around least_binary waiting from before (token question sign ∷ middle) left
       → ran stop from before
-      ≡ ran stop (live (operandDue byColon someTarget) empty (asking ending sign.mark (frame done starts waiting left) ∷ around)) middle
+      ≡ ran stop (live (operand_due by_colon some_target) empty (asking ending sign.mark (frame done starts waiting left) ∷ around)) middle
   question_taken {ending} {sign} loose p =
       p.reached.runs
       ∙ ap (λ (z : Action). ran stop (act z question sign (frame done starts p.reached.unclosed p.reached.last) around) middle)
       (look_question p.ends sign.newline)
-      ∙ ap (λ (z : Frame). ran stop (live (operandDue byColon someTarget) empty (asking ending sign.mark z ∷ around)) middle)
+      ∙ ap (λ (z : Frame). ran stop (live (operand_due by_colon some_target) empty (asking ending sign.mark z ∷ around)) middle)
       (p.reached.closes least_binary (itself least_binary) ∙ reduce_stops least_binary done starts waiting left loose)
 
   -- its `:` answers it
   pub answer_taken : {ending : Ending} {least mark : ℕ} {answer : Spot} {condition : Syntax}
-      → Passed stop byColon nil [] (asking ending mark (frame done starts waiting condition) ∷ around) least [] from before (token colon answer ∷ middle) left
+      → Passed stop by_colon nil [] (asking ending mark (frame done starts waiting condition) ∷ around) least [] from before (token colon answer ∷ middle) left
       → ran stop from before
-      ≡ ran stop (live (operandDue ending someTarget) (frame done starts (pending question mark (snoc condition left) ∷ waiting) nil) around) middle
+      ≡ ran stop (live (operand_due ending some_target) (frame done starts (pending question mark (snoc condition left) ∷ waiting) nil) around) middle
   answer_taken {ending} {least} {mark} {condition = condition} p =
       met p tt
-      ∙ ap (λ (z : Frame). ran stop (live (operandDue ending someTarget) (answered mark (operand_of z) (frame done starts waiting condition)) around) middle)
+      ∙ ap (λ (z : Frame). ran stop (live (operand_due ending some_target) (answered mark (operand_of z) (frame done starts waiting condition)) around) middle)
       (p.reached.closes 0 (from_none least))
 
 pub comma_taken : {stop : Spot} {ending : Ending} {done : Syntax} {starts : List Pending} {around : List Open} {from : State} {sign : Spot}
     {before middle : List Token} {left : Syntax} → T (takes_comma ending)
     → Passed stop ending done starts around (precedence comma) [] from before (token comma sign ∷ middle) left
-    → ran stop from before ≡ ran stop (live (operandDue ending someTarget) (frame done starts (pending comma sign.mark left ∷ []) nil) around) middle
+    → ran stop from before ≡ ran stop (live (operand_due ending some_target) (frame done starts (pending comma sign.mark left ∷ []) nil) around) middle
 comma_taken {sign = sign} takes p =
     operator_taken (precedence comma) refl (itself (precedence comma)) tt (look_comma p.ends sign.newline takes) p.reached

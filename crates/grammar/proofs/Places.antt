@@ -43,20 +43,20 @@ use Rattle.grammar.specs.Grammar.{
   body,
   block,
   Items,
-  callArguments,
-  arrayElements,
-  objectProperties,
+  call_arguments,
+  array_elements,
+  object_properties,
   ItemStart,
   Parameters,
-  blockForm,
-  catchForm,
-  clausesForm,
-  variablesForm,
-  variableForm,
-  optionalForm,
+  block_form,
+  catch_form,
+  clauses_form,
+  variables_form,
+  variable_form,
+  optional_form,
   binary_form,
-  targetForm,
-  itemsForm,
+  target_form,
+  items_form,
   Derives,
   Chain,
   Expression,
@@ -70,24 +70,24 @@ use Rattle.machine.specs.Machinery.Machine.{
   pending,
   frame,
   held_word,
-  toParens,
-  toCall,
-  toObject,
-  toArray,
-  toIndex,
-  toBlock,
-  toCondition,
-  toHead,
-  toFor,
-  toTest,
-  toDeclaration,
-  toFunction,
-  toStatement,
-  toBody,
-  toTry,
-  ifNest,
-  elseNest,
-  doNest,
+  to_parens,
+  to_call,
+  to_object,
+  to_array,
+  to_index,
+  to_block,
+  to_condition,
+  to_head,
+  to_for,
+  to_test,
+  to_declaration,
+  to_function,
+  to_statement,
+  to_body,
+  to_try,
+  if_nest,
+  else_nest,
+  do_nest,
   Setting,
   among,
   in_clause,
@@ -97,17 +97,17 @@ use Rattle.machine.specs.Machinery.Machine.{
   in_head,
   Target,
   Ending,
-  byStatement,
-  byReturn,
+  by_statement,
+  by_return,
   by_variable,
-  byStart,
-  byTest,
+  by_start,
+  by_test,
   by_step,
-  byObject,
+  by_object,
   by_case,
-  byParen,
-  byBracket,
-  byColon,
+  by_paren,
+  by_bracket,
+  by_colon,
   by_item,
   allows_in,
   Role,
@@ -115,14 +115,14 @@ use Rattle.machine.specs.Machinery.Machine.{
   Control,
   statement_due,
   behind_statement,
-  bodyDone,
-  semicolonDue,
-  switchPast,
+  body_done,
+  semicolon_due,
+  switch_past,
   clause_due,
-  tryDone,
-  catchDone,
-  tryEnded,
-  operandDone,
+  try_done,
+  catch_done,
+  try_ended,
+  operand_done,
   Open,
   grouped,
   nested,
@@ -143,29 +143,29 @@ pub data Place : Type 0 where
 
 -- in the head of a `for`: what stands before its first `;`, or before its `in`
 pub data ForStart : List Token → List Token → Syntax → Type 0 where
-  start_expression : {before after : List Token} {start : Syntax} → Derives (optionalForm false) before after start → ForStart before after start
-  start_variables : {word : Spot} {before middle after : List Token} {variables last : Syntax} → Derives (variablesForm false) before middle variables
-      → Derives (variableForm false) middle after last
+  start_expression : {before after : List Token} {start : Syntax} → Derives (optional_form false) before after start → ForStart before after start
+  start_variables : {word : Spot} {before middle after : List Token} {variables last : Syntax} → Derives (variables_form false) before middle variables
+      → Derives (variable_form false) middle after last
       → ForStart (token var_word word ∷ before) after (node var_word word.mark variables last)
 
 pub data ForTarget : List Token → List Token → Syntax → Type 0 where
-  for_target : {before after : List Token} {target : Syntax} → Derives (targetForm true) before after target → ForTarget before after target
-  for_variable : {word : Spot} {before after : List Token} {variable : Syntax} → Derives (variableForm false) before after variable
+  for_target : {before after : List Token} {target : Syntax} → Derives (target_form true) before after target → ForTarget before after target
+  for_variable : {word : Spot} {before after : List Token} {variable : Syntax} → Derives (variable_form false) before after variable
       → ForTarget (token var_word word ∷ before) after (node var_word word.mark nil variable)
 
 -- a whole head, with its `)`: the kind of the `for`, and what the head holds
 pub data ForHead : List Token → List Token → ℕ → Syntax → Type 0 where
   three_parts : {first second closer : Spot} {inside test update here : List Token} {start condition step : Syntax}
-      → ForStart inside (token semicolon first ∷ test) start → Derives (optionalForm true) test (token semicolon second ∷ update) condition
-      → Derives (optionalForm true) update (token close_paren closer ∷ here) step
+      → ForStart inside (token semicolon first ∷ test) start → Derives (optional_form true) test (token semicolon second ∷ update) condition
+      → Derives (optional_form true) update (token close_paren closer ∷ here) step
       → ForHead inside here for_word (snoc (snoc (snoc nil start) condition) step)
   both_sides : {sign closer : Spot} {inside rest here : List Token} {target object : Syntax} → ForTarget inside (token in_word sign ∷ rest) target
       → Expression rest (token close_paren closer ∷ here) object → ForHead inside here for_in_syntax (snoc (snoc nil target) object)
 
 -- what a `try` has before its `finally`
 pub data Tried : List Token → List Token → Syntax → Type 0 where
-  tried_block : {before after : List Token} {inner : Syntax} → Derives blockForm before after inner → Tried before after (snoc nil inner)
-  tried_catch : {before middle after : List Token} {inner handler : Syntax} → Derives blockForm before middle inner → Derives catchForm middle after handler
+  tried_block : {before after : List Token} {inner : Syntax} → Derives block_form before after inner → Tried before after (snoc nil inner)
+  tried_catch : {before middle after : List Token} {inner handler : Syntax} → Derives block_form before middle inner → Derives catch_form middle after handler
       → Tried before after (snoc (snoc nil inner) handler)
 
 -- the word of a function, and its name if it has one: in an expression it needs none
@@ -179,31 +179,31 @@ pub data Reached (all : List Token) : Place → Syntax → List Pending → List
   in_program : {done : Syntax} {here : List Token} → Statements body all here done → Reached all (statement_at (among body)) done [] [] here
   in_block : {behind : Control} {outer done : Syntax} {starts : List Pending} {around : List Open} {opener : Spot} {inside here : List Token}
       → Reached all (block_at behind) outer starts around (token open_brace opener ∷ inside) → Statements block inside here done
-      → Reached all (statement_at (among block)) done [] (grouped behind toBlock opener.mark (frame outer starts [] nil) ∷ around) here
+      → Reached all (statement_at (among block)) done [] (grouped behind to_block opener.mark (frame outer starts [] nil) ∷ around) here
   in_declaration : {outer done : Syntax} {around : List Open} {word called opener closer openBody : Spot} {named inside here : List Token}
       → Reached all (statement_at (among body)) outer [] around (token function_word word ∷ token name called ∷ token open_paren opener ∷ named)
       → Parameters named (token close_paren closer ∷ token open_brace openBody ∷ inside) → Statements body inside here done
       → Reached all (statement_at (among body)) done []
-      (grouped (statement_due false (among body)) toDeclaration openBody.mark (frame outer [] [] (held_word word.mark)) ∷ around) here
+      (grouped (statement_due false (among body)) to_declaration openBody.mark (frame outer [] [] (held_word word.mark)) ∷ around) here
   in_function : {ending : Ending} {target : Target} {level : ℕ} {outer done : Syntax} {starts waiting : List Pending} {around : List Open}
       {word opener closer openBody : Spot} {first before named inside here : List Token} → Reached all (expression_at ending) outer starts around first
       → Waiting ending target level waiting first before → Head (operand_in ending target) word before (token open_paren opener ∷ named)
       → Parameters named (token close_paren closer ∷ token open_brace openBody ∷ inside) → Statements body inside here done
       → Reached all (statement_at (among body)) done []
-      (grouped (operandDone ending target) toFunction openBody.mark (frame outer starts waiting (held_word word.mark)) ∷ around) here
+      (grouped (operand_done ending target) to_function openBody.mark (frame outer starts waiting (held_word word.mark)) ∷ around) here
   after_if : {setting : Setting} {done condition : Syntax} {starts : List Pending} {around : List Open} {word opener closer : Spot}
       {inside here : List Token} → Reached all (statement_at setting) done starts around (token if_word word ∷ token open_paren opener ∷ inside)
       → Expression inside (token close_paren closer ∷ here) condition
-      → Reached all (statement_at (in_nest ifNest)) nil (pending if_syntax word.mark condition ∷ [])
-      (nested (behind_statement setting) toStatement word.mark (frame done starts [] nil) ∷ around) here
+      → Reached all (statement_at (in_nest if_nest)) nil (pending if_syntax word.mark condition ∷ [])
+      (nested (behind_statement setting) to_statement word.mark (frame done starts [] nil) ∷ around) here
   after_else : {setting : Setting} {done condition first : Syntax} {starts : List Pending} {around : List Open} {word opener closer other : Spot}
       {inside middle here : List Token} → Reached all (statement_at setting) done starts around (token if_word word ∷ token open_paren opener ∷ inside)
       → Expression inside (token close_paren closer ∷ middle) condition → Statement middle (token else_word other ∷ here) first
-      → Reached all (statement_at (in_nest elseNest)) nil (pending else_word other.mark (node if_syntax word.mark condition first) ∷ [])
-      (nested (behind_statement setting) toStatement word.mark (frame done starts [] nil) ∷ around) here
+      → Reached all (statement_at (in_nest else_nest)) nil (pending else_word other.mark (node if_syntax word.mark condition first) ∷ [])
+      (nested (behind_statement setting) to_statement word.mark (frame done starts [] nil) ∷ around) here
   after_do : {setting : Setting} {done : Syntax} {starts : List Pending} {around : List Open} {word : Spot} {here : List Token}
       → Reached all (statement_at setting) done starts around (token do_word word ∷ here)
-      → Reached all (statement_at (in_nest doNest)) nil [] (nested (bodyDone setting) toBody word.mark (frame done starts [] nil) ∷ around) here
+      → Reached all (statement_at (in_nest do_nest)) nil [] (nested (body_done setting) to_body word.mark (frame done starts [] nil) ∷ around) here
   after_head : {setting : Setting} {class : ℕ} {done head : Syntax} {starts : List Pending} {around : List Open} {word opener closer : Spot}
       {inside here : List Token} → HeadWord class
       → Reached all (statement_at setting) done starts around (token class word ∷ token open_paren opener ∷ inside)
@@ -219,117 +219,117 @@ pub data Reached (all : List Token) : Place → Syntax → List Pending → List
       → Reached all (clause_at seen) cases [] around (token case_word word ∷ value) → Expression value (token colon sign ∷ inside) test
       → Statements block inside here done
       → Reached all (statement_at in_clause) done []
-      (nested (clause_due seen) toStatement sign.mark (frame cases (pending case_word word.mark test ∷ []) [] nil) ∷ around) here
+      (nested (clause_due seen) to_statement sign.mark (frame cases (pending case_word word.mark test ∷ []) [] nil) ∷ around) here
   after_default : {cases done : Syntax} {around : List Open} {word sign : Spot} {inside here : List Token}
       → Reached all (clause_at false) cases [] around (token default_word word ∷ token colon sign ∷ inside) → Statements block inside here done
       → Reached all (statement_at in_clause) done []
-      (nested (clause_due true) toStatement sign.mark (frame cases (pending default_word word.mark nil ∷ []) [] nil) ∷ around) here
+      (nested (clause_due true) to_statement sign.mark (frame cases (pending default_word word.mark nil ∷ []) [] nil) ∷ around) here
   block_statement : {setting : Setting} {done : Syntax} {starts : List Pending} {around : List Open} {here : List Token}
       → Reached all (statement_at setting) done starts around here → Reached all (block_at (behind_statement setting)) done starts around here
   block_of_try : {setting : Setting} {done : Syntax} {starts : List Pending} {around : List Open} {word : Spot} {here : List Token}
       → Reached all (statement_at setting) done starts around (token try_word word ∷ here)
-      → Reached all (block_at tryDone) nil [] (nested (behind_statement setting) toTry word.mark (frame done starts [] nil) ∷ around) here
+      → Reached all (block_at try_done) nil [] (nested (behind_statement setting) to_try word.mark (frame done starts [] nil) ∷ around) here
   block_of_catch : {setting : Setting} {done inner : Syntax} {starts : List Pending} {around : List Open} {word other opener called closer : Spot}
       {before here : List Token} → Reached all (statement_at setting) done starts around (token try_word word ∷ before)
-      → Derives blockForm before (token catch_word other ∷ token open_paren opener ∷ token name called ∷ token close_paren closer ∷ here) inner
-      → Reached all (block_at catchDone) (snoc nil inner) (pending catch_word other.mark nil ∷ [])
-      (nested (behind_statement setting) toTry word.mark (frame done starts [] nil) ∷ around) here
+      → Derives block_form before (token catch_word other ∷ token open_paren opener ∷ token name called ∷ token close_paren closer ∷ here) inner
+      → Reached all (block_at catch_done) (snoc nil inner) (pending catch_word other.mark nil ∷ [])
+      (nested (behind_statement setting) to_try word.mark (frame done starts [] nil) ∷ around) here
   block_of_finally : {setting : Setting} {done parts : Syntax} {starts : List Pending} {around : List Open} {word other : Spot} {before here : List Token}
       → Reached all (statement_at setting) done starts around (token try_word word ∷ before) → Tried before (token finally_word other ∷ here) parts
-      → Reached all (block_at tryEnded) parts (pending finally_word other.mark nil ∷ [])
-      (nested (behind_statement setting) toTry word.mark (frame done starts [] nil) ∷ around) here
+      → Reached all (block_at try_ended) parts (pending finally_word other.mark nil ∷ [])
+      (nested (behind_statement setting) to_try word.mark (frame done starts [] nil) ∷ around) here
   in_switch : {setting : Setting} {seen : Bool} {outer subject cases : Syntax} {starts : List Pending} {around : List Open}
       {word openHead closeHead opener : Spot} {inside clauses here : List Token}
       → Reached all (statement_at setting) outer starts around (token switch_word word ∷ token open_paren openHead ∷ inside)
-      → Expression inside (token close_paren closeHead ∷ token open_brace opener ∷ clauses) subject → Derives (clausesForm seen) clauses here cases
+      → Expression inside (token close_paren closeHead ∷ token open_brace opener ∷ clauses) subject → Derives (clauses_form seen) clauses here cases
       → Reached all (clause_at seen) cases []
-      (grouped (behind_statement setting) toStatement opener.mark (frame outer (pending switch_word word.mark subject ∷ starts) [] nil) ∷ around) here
+      (grouped (behind_statement setting) to_statement opener.mark (frame outer (pending switch_word word.mark subject ∷ starts) [] nil) ∷ around) here
   in-for : {setting : Setting} {done : Syntax} {starts : List Pending} {around : List Open} {word opener : Spot} {here : List Token}
       → Reached all (statement_at setting) done starts around (token for_word word ∷ token open_paren opener ∷ here)
       → Reached all head_at nil []
-      (grouped (statement_due true setting) toFor opener.mark (frame done (pending for_word word.mark nil ∷ starts) [] nil) ∷ around) here
+      (grouped (statement_due true setting) to_for opener.mark (frame done (pending for_word word.mark nil ∷ starts) [] nil) ∷ around) here
   in_var : {setting : Setting} {done variables : Syntax} {starts : List Pending} {around : List Open} {word : Spot} {first here : List Token}
-      → Reached all (statement_at setting) done starts around (token var_word word ∷ first) → Derives (variablesForm true) first here variables
+      → Reached all (statement_at setting) done starts around (token var_word word ∷ first) → Derives (variables_form true) first here variables
       → Reached all (variable_at (in_statement setting)) done (pending var_word word.mark variables ∷ starts) around here
   in_for_var : {around : List Open} {word : Spot} {here : List Token} → Reached all head_at nil [] around (token var_word word ∷ here)
       → Reached all (variable_at (in_head true)) nil (pending var_word word.mark nil ∷ []) around here
   in_for_vars : {variables : Syntax} {around : List Open} {word : Spot} {first here : List Token}
-      → Reached all head_at nil [] around (token var_word word ∷ first) → Derives (variablesForm false) first here variables
+      → Reached all head_at nil [] around (token var_word word ∷ first) → Derives (variables_form false) first here variables
       → Reached all (variable_at (in_head false)) nil (pending var_word word.mark variables ∷ []) around here
   in_expression : {setting : Setting} {done : Syntax} {starts : List Pending} {around : List Open} {here : List Token}
       → T (starts_expression here) → Reached all (statement_at setting) done starts around here
-      → Reached all (expression_at (byStatement setting)) done starts around here
+      → Reached all (expression_at (by_statement setting)) done starts around here
   in_return : {setting : Setting} {done : Syntax} {starts : List Pending} {around : List Open} {word : Spot} {here : List Token}
       → T (on_same_line here) → Reached all (statement_at setting) done starts around (token return_word word ∷ here)
-      → Reached all (expression_at (byReturn setting)) done (pending full_return_syntax word.mark nil ∷ starts) around here
+      → Reached all (expression_at (by_return setting)) done (pending full_return_syntax word.mark nil ∷ starts) around here
   in_throw : {setting : Setting} {done : Syntax} {starts : List Pending} {around : List Open} {word : Spot} {here : List Token}
       → T (on_same_line here) → Reached all (statement_at setting) done starts around (token throw_word word ∷ here)
-      → Reached all (expression_at (byReturn setting)) done (pending throw_word word.mark nil ∷ starts) around here
+      → Reached all (expression_at (by_return setting)) done (pending throw_word word.mark nil ∷ starts) around here
   in_variable : {place : Variables} {done : Syntax} {starts : List Pending} {around : List Open} {called sign : Spot} {here : List Token}
       → Reached all (variable_at place) done starts around (token name called ∷ token assign sign ∷ here)
       → Reached all (expression_at (by_variable place)) done (pending variable_syntax called.mark nil ∷ starts) around here
-  in_start : {around : List Open} {here : List Token} → Reached all head_at nil [] around here → Reached all (expression_at byStart) nil [] around here
+  in_start : {around : List Open} {here : List Token} → Reached all head_at nil [] around here → Reached all (expression_at by_start) nil [] around here
   in_for_test : {start : Syntax} {around : List Open} {sign : Spot} {first here : List Token} → Reached all head_at nil [] around first
-      → ForStart first (token semicolon sign ∷ here) start → Reached all (expression_at byTest) (snoc nil start) [] around here
+      → ForStart first (token semicolon sign ∷ here) start → Reached all (expression_at by_test) (snoc nil start) [] around here
   in_for_step : {start condition : Syntax} {around : List Open} {sign second : Spot} {first test here : List Token} → Reached all head_at nil [] around first
-      → ForStart first (token semicolon sign ∷ test) start → Derives (optionalForm true) test (token semicolon second ∷ here) condition
+      → ForStart first (token semicolon sign ∷ test) start → Derives (optional_form true) test (token semicolon second ∷ here) condition
       → Reached all (expression_at by_step) (snoc (snoc nil start) condition) [] around here
   in_for_object : {target : Syntax} {around : List Open} {sign : Spot} {first here : List Token} → Reached all head_at nil [] around first
-      → ForTarget first (token in_word sign ∷ here) target → Reached all (expression_at byObject) (snoc nil target) [] around here
+      → ForTarget first (token in_word sign ∷ here) target → Reached all (expression_at by_object) (snoc nil target) [] around here
   in_case : {seen : Bool} {cases : Syntax} {around : List Open} {word : Spot} {here : List Token}
       → Reached all (clause_at seen) cases [] around (token case_word word ∷ here)
       → Reached all (expression_at (by_case seen)) cases (pending case_word word.mark nil ∷ []) around here
   in_parens : {ending : Ending} {target : Target} {level : ℕ} {done operand : Syntax} {starts waiting : List Pending} {around : List Open} {opener : Spot}
       {first here : List Token} → Reached all (expression_at ending) done starts around first
       → Waiting ending target level waiting first (token open_paren opener ∷ here)
-      → Reached all (expression_at byParen) nil []
-      (grouped (operandDone ending target) toParens opener.mark (frame done starts waiting operand) ∷ around) here
+      → Reached all (expression_at by_paren) nil []
+      (grouped (operand_done ending target) to_parens opener.mark (frame done starts waiting operand) ∷ around) here
   in_index : {ending : Ending} {target : Target} {level : ℕ} {done object : Syntax} {starts waiting : List Pending} {around : List Open} {opener : Spot}
       {first before here : List Token} → Reached all (expression_at ending) done starts around first → Waiting ending target level waiting first before
       → Chain (may_call waiting) before (token open_bracket opener ∷ here) object
-      → Reached all (expression_at byBracket) nil []
-      (grouped (operandDone ending target) toIndex opener.mark (frame done starts waiting object) ∷ around) here
+      → Reached all (expression_at by_bracket) nil []
+      (grouped (operand_done ending target) to_index opener.mark (frame done starts waiting object) ∷ around) here
   in_condition : {setting : Setting} {done : Syntax} {starts : List Pending} {around : List Open} {word opener : Spot} {here : List Token}
       → Reached all (statement_at setting) done starts around (token if_word word ∷ token open_paren opener ∷ here)
-      → Reached all (expression_at byParen) nil []
-      (grouped (statement_due true (in_nest ifNest)) toCondition opener.mark (frame nil [] [] (held_word word.mark))
-      ∷ nested (behind_statement setting) toStatement word.mark (frame done starts [] nil) ∷ around)
+      → Reached all (expression_at by_paren) nil []
+      (grouped (statement_due true (in_nest if_nest)) to_condition opener.mark (frame nil [] [] (held_word word.mark))
+      ∷ nested (behind_statement setting) to_statement word.mark (frame done starts [] nil) ∷ around)
       here
   in-head : {setting : Setting} {class : ℕ} {done : Syntax} {starts : List Pending} {around : List Open} {word opener : Spot} {here : List Token}
       → HeadWord class → Reached all (statement_at setting) done starts around (token class word ∷ token open_paren opener ∷ here)
-      → Reached all (expression_at byParen) nil []
-      (grouped (statement_due true setting) toHead opener.mark (frame done (pending class word.mark nil ∷ starts) [] nil) ∷ around) here
+      → Reached all (expression_at by_paren) nil []
+      (grouped (statement_due true setting) to_head opener.mark (frame done (pending class word.mark nil ∷ starts) [] nil) ∷ around) here
   in_subject : {setting : Setting} {done : Syntax} {starts : List Pending} {around : List Open} {word opener : Spot} {here : List Token}
       → Reached all (statement_at setting) done starts around (token switch_word word ∷ token open_paren opener ∷ here)
-      → Reached all (expression_at byParen) nil []
-      (grouped (switchPast setting) toHead opener.mark (frame done (pending switch_word word.mark nil ∷ starts) [] nil) ∷ around) here
+      → Reached all (expression_at by_paren) nil []
+      (grouped (switch_past setting) to_head opener.mark (frame done (pending switch_word word.mark nil ∷ starts) [] nil) ∷ around) here
   in_test : {setting : Setting} {done inner : Syntax} {starts : List Pending} {around : List Open} {word other opener : Spot} {first here : List Token}
       → Reached all (statement_at setting) done starts around (token do_word word ∷ first)
       → Statement first (token while_word other ∷ token open_paren opener ∷ here) inner
-      → Reached all (expression_at byParen) nil []
-      (grouped (semicolonDue setting) toTest opener.mark (frame done (pending do_word word.mark inner ∷ starts) [] nil) ∷ around) here
+      → Reached all (expression_at by_paren) nil []
+      (grouped (semicolon_due setting) to_test opener.mark (frame done (pending do_word word.mark inner ∷ starts) [] nil) ∷ around) here
   in_call : {ending : Ending} {target : Target} {level : ℕ} {done callee : Syntax} {starts waiting : List Pending} {around : List Open} {opener : Spot}
       {first before here : List Token} → Reached all (expression_at ending) done starts around first → Waiting ending target level waiting first before
       → Chain (may_call waiting) before (token open_paren opener ∷ here) callee
-      → Reached all (list_at callArguments) nil []
-      (grouped (operandDone ending target) toCall opener.mark (frame done starts waiting callee) ∷ around) here
+      → Reached all (list_at call_arguments) nil []
+      (grouped (operand_done ending target) to_call opener.mark (frame done starts waiting callee) ∷ around) here
   in_array : {ending : Ending} {target : Target} {level : ℕ} {done operand : Syntax} {starts waiting : List Pending} {around : List Open} {opener : Spot}
       {first here : List Token} → Reached all (expression_at ending) done starts around first
       → Waiting ending target level waiting first (token open_bracket opener ∷ here)
-      → Reached all (list_at arrayElements) nil []
-      (grouped (operandDone ending target) toArray opener.mark (frame done starts waiting operand) ∷ around) here
+      → Reached all (list_at array_elements) nil []
+      (grouped (operand_done ending target) to_array opener.mark (frame done starts waiting operand) ∷ around) here
   in_object : {ending : Ending} {target : Target} {level : ℕ} {done operand : Syntax} {starts waiting : List Pending} {around : List Open} {opener : Spot}
       {first here : List Token} → Reached all (expression_at ending) done starts around first
       → Waiting ending target level waiting first (token open_brace opener ∷ here)
-      → Reached all (list_at objectProperties) nil []
-      (grouped (operandDone ending target) toObject opener.mark (frame done starts waiting operand) ∷ around) here
+      → Reached all (list_at object_properties) nil []
+      (grouped (operand_done ending target) to_object opener.mark (frame done starts waiting operand) ∷ around) here
   in_conditional : {ending : Ending} {target : Target} {level : ℕ} {done condition : Syntax} {starts waiting : List Pending} {around : List Open}
       {sign : Spot} {first before here : List Token} → Reached all (expression_at ending) done starts around first
       → Waiting ending target level waiting first before → level ≤ assignment_precedence
       → Derives (binary_form (allows_in ending) least_binary) before (token question sign ∷ here) condition
-      → Reached all (expression_at byColon) nil [] (asking ending sign.mark (frame done starts waiting condition) ∷ around) here
+      → Reached all (expression_at by_colon) nil [] (asking ending sign.mark (frame done starts waiting condition) ∷ around) here
   in_item : {items : Items} {done : Syntax} {around : List Open} {first middle here : List Token} → Reached all (list_at items) nil [] around first
-      → Derives (itemsForm items) first middle done → ItemStart items middle here
+      → Derives (items_form items) first middle done → ItemStart items middle here
       → Reached all (expression_at (by_item items)) done [] around here
 
 module _ {all : List Token} where

@@ -40,14 +40,14 @@ use Rattle.grammar.specs.Grammar.{
   identifier,
   reserved_word,
   Items,
-  callArguments,
-  arrayElements,
-  objectProperties,
+  call_arguments,
+  array_elements,
+  object_properties,
   at_argument,
   at_element,
   unary_form,
-  itemsForm,
-  listForm,
+  items_form,
+  list_form,
   Derives,
   Chain,
   unary_postfix,
@@ -77,48 +77,48 @@ use Rattle.machine.specs.Machinery.Machine.{
   complete_variable,
   complete_head,
   postfixed,
-  endValue,
-  takeLeaf,
-  takeOperator,
-  takePrefix,
-  takePostfix,
-  startStatement,
-  toParens,
-  toArray,
-  toStatement,
-  doneValue,
+  end_value,
+  take_leaf,
+  take_operator,
+  take_prefix,
+  take_postfix,
+  start_statement,
+  to_parens,
+  to_array,
+  to_statement,
+  done_value,
   Setting,
   among,
   in_clause,
   Target,
-  noTarget,
-  someTarget,
-  loneTarget,
+  no_target,
+  some_target,
+  lone_target,
   is_target,
   Ending,
-  byStatement,
-  byReturn,
+  by_statement,
+  by_return,
   by_variable,
-  byStart,
-  byTest,
+  by_start,
+  by_test,
   by_step,
-  byObject,
+  by_object,
   by_case,
-  byParen,
-  byBracket,
-  byColon,
+  by_paren,
+  by_bracket,
+  by_colon,
   by_item,
   statement_due,
   behind_statement,
-  jumpFirst,
-  headFirst,
-  variableDue,
-  testDue,
-  stepDue,
+  jump_first,
+  head_first,
+  variable_due,
+  test_due,
+  step_due,
   clause_due,
-  operandDue,
-  memberDue,
-  operandDone,
+  operand_due,
+  member_due,
+  operand_done,
   postfix_done,
   item_due,
   Action,
@@ -260,7 +260,7 @@ jump_word : (class : ℕ) → T (is_among jump_words class) → JumpWord class (
 jump_word = holds_at (λ class. JumpWord class (class - 1)) jump_words (continue-word, (break-word, tt))
 
 -- what the entry for the `in` of a `for` has, where there is one, and all behind it have
-pub in_row : (Holds : ℕ → Action → Type 0) (for : Bool) (more : List Entry) → (T for → Holds in_word (goto (operandDue byObject someTarget) endValue))
+pub in_row : (Holds : ℕ → Action → Type 0) (for : Bool) (more : List Entry) → (T for → Holds in_word (goto (operand_due by_object some_target) end_value))
     → EachEntry Holds more → EachEntry Holds (in_entry for more)
 in_row Holds true more here others = (here tt, others)
 in_row Holds false more here others = others
@@ -294,10 +294,10 @@ module _ (all : List Token) (spot : Spot) (rest : List Token) (around : List Ope
         → Holds class action)
         → (more : List Entry) → EachEntry Holds more → EachEntry Holds (primaries ending target more)
     primaries_row Holds so more others =
-        let leaf : ℕ → Action = λ class. goto (operandDone ending target) (takeLeaf class) in
-        let parens : Action = push (operandDue byParen someTarget) (operandDone ending target) toParens in
-        let array : Action = push (item_due arrayElements) (operandDone ending target) toArray in
-        let construct : Action = goto (memberDue ending target) (takePrefix new_word) in
+        let leaf : ℕ → Action = λ class. goto (operand_done ending target) (take_leaf class) in
+        let parens : Action = push (operand_due by_paren some_target) (operand_done ending target) to_parens in
+        let array : Action = push (item_due array_elements) (operand_done ending target) to_array in
+        let construct : Action = goto (member_due ending target) (take_prefix new_word) in
         each_entry Holds leaf values (on open_paren parens ∷ on open_bracket array ∷ on new_word construct ∷ more)
         (λ class value.
         so class (leaf class) (at_class begins values class value tt) (λ first level outer waits. behind_operand outer waits (chain_leaf (value_leaf class value)))) (
@@ -316,7 +316,7 @@ module _ (all : List Token) (spot : Spot) (rest : List Token) (around : List Ope
         → Holds class action)
         → (more : List Entry) → EachEntry Holds more → EachEntry Holds (beginnings ending target more)
     beginnings_row Holds so more others =
-        let prefixed : ℕ → Action = λ class. goto (operandDue ending noTarget) (takePrefix (prefix_kind class)) in
+        let prefixed : ℕ → Action = λ class. goto (operand_due ending no_target) (take_prefix (prefix_kind class)) in
         each_entry Holds prefixed prefix_operators (primaries ending target more)
         (λ class op.
         so class (prefixed class) (at_class begins prefix_operators class op tt)
@@ -357,13 +357,13 @@ module _ (all : List Token) (spot : Spot) (rest : List Token) (around : List Ope
 
   module _ (done : Syntax) (starts waiting : List Pending) (last : Syntax) where
     binary_entry : (ending : Ending) (class : ℕ) → T (is_among (binary_operators_by (allows_in ending)) class)
-        → KeepsUnary ending done starts waiting last class (goto (operandDue ending noTarget) (takeOperator class))
+        → KeepsUnary ending done starts waiting last class (goto (operand_due ending no_target) (take_operator class))
     binary_entry ending class op first target outer unary =
         let operator = binary_by (allows_in ending) class op in
         let from = binary_precedence class operator in
         let to = binary_under_prefix class operator in
         let r = unary_closes_tight ending done starts (precedence class) (loosest (precedence class) from) (under (precedence class) to) unary in
-        subst (λ (f : Frame). Partial all (operandDue ending noTarget) (await class spot.mark f) around rest)
+        subst (λ (f : Frame). Partial all (operand_due ending no_target) (await class spot.mark f) around rest)
         (sym (ap (λ (least : ℕ). reduce least done starts waiting last) (binary_threshold class operator) ∙ r.same))
         (at_operand outer (operator_waits r.waits r.fits (binary_begun op (as_binary from r.whole))) (next (precedence class) to))
       where
@@ -379,7 +379,7 @@ module _ (all : List Token) (spot : Spot) (rest : List Token) (around : List Ope
     question_entry : (ending : Ending) → KeepsUnary ending done starts waiting last question (ask ending)
     question_entry ending first target outer unary =
         let r = unary_closes_tight ending done starts least_binary (loosest (whole-level ending)) (omega arith) unary in
-        subst (λ (f : Frame). Partial all (operandDue byColon someTarget) empty (asking ending spot.mark f ∷ around) rest) (sym r.same)
+        subst (λ (f : Frame). Partial all (operand_due by_colon some_target) empty (asking ending spot.mark f ∷ around) rest) (sym r.same)
         (at_expression (in_conditional outer r.waits (binary_level r.waits r.fits) (as_binary (omega arith) r.whole)))
       where
         loosest : whole_level ending ≤ assignment_precedence → whole_level ending ≤ least_binary
@@ -388,22 +388,22 @@ module _ (all : List Token) (spot : Spot) (rest : List Token) (around : List Ope
     comma_entry : (ending : Ending) → whole_level ending ≤ 1 → KeepsUnary ending done starts waiting last comma (comma_action ending)
     comma_entry ending may first target outer unary =
         let r = unary_closes_tight ending done starts 1 may (omega arith) unary in
-        subst (λ (f : Frame). Partial all (operandDue ending someTarget) (await comma spot.mark f) around rest) (sym r.same)
+        subst (λ (f : Frame). Partial all (operand_due ending some_target) (await comma spot.mark f) around rest) (sym r.same)
         (at_operand outer (operator_waits r.waits r.fits (comma_begun (as_expression r.whole))) (omega arith))
 
     ending-row : (ending : Ending) → EachEntry (KeepsUnary ending done starts waiting last) (ending_row ending)
-    ending-row (byStatement setting) = (
+    ending-row (by_statement setting) = (
       (λ first target outer unary.
-          let r = unary_closes (byStatement setting) done starts unary in
+          let r = unary_closes (by_statement setting) done starts unary in
           subst (λ (f : Frame). Partial all (behind_statement setting) (complete_expression spot.mark f) around rest) (sym r.same)
           (expression-ends outer r.whole)),
-      (comma_entry (byStatement setting) (omega arith), tt),
+      (comma_entry (by_statement setting) (omega arith), tt),
     )
-    ending-row (byReturn setting) = (
+    ending-row (by_return setting) = (
       (λ first target outer unary.
-          let r = unary_closes (byReturn setting) done starts unary in
+          let r = unary_closes (by_return setting) done starts unary in
           subst (λ (f : Frame). Partial all (behind_statement setting) (complete_value f) around rest) (sym r.same) (return_ends outer r.whole)),
-      (comma_entry (byReturn setting) (omega arith), tt),
+      (comma_entry (by_return setting) (omega arith), tt),
     )
     ending-row (by_variable place) = (
       (λ first target outer unary.
@@ -413,27 +413,27 @@ module _ (all : List Token) (spot : Spot) (rest : List Token) (around : List Ope
       (
         (λ first target outer unary.
             let r = unary_closes (by_variable place) done starts unary in
-            subst (λ (f : Frame). Partial all (variableDue (later_variables place)) (complete_variable f) around rest) (sym r.same)
+            subst (λ (f : Frame). Partial all (variable_due (later_variables place)) (complete_variable f) around rest) (sym r.same)
             (variable_ends (initialised outer r.whole))),
         in_row (KeepsUnary (by_variable place) done starts waiting last) (is_first place) []
             (λ only first target outer unary.
             let r = unary_closes (by_variable place) done starts unary in
-            subst (λ (f : Frame). Partial all (operandDue byObject someTarget) (complete_value f) around rest) (sym r.same)
+            subst (λ (f : Frame). Partial all (operand_due by_object some_target) (complete_value f) around rest) (sym r.same)
             (only_variable_ends only (initialised outer r.whole)))
             tt,
       ),
     )
-    ending-row byStart = (
+    ending-row by_start = (
       (λ first target outer unary.
-          let r = unary_closes byStart done starts unary in
-          subst (λ (f : Frame). Partial all testDue (complete_value f) around rest) (sym r.same) (start_ends outer r.whole)),
-      (comma_entry byStart (omega arith), tt),
+          let r = unary_closes by_start done starts unary in
+          subst (λ (f : Frame). Partial all test_due (complete_value f) around rest) (sym r.same) (start_ends outer r.whole)),
+      (comma_entry by_start (omega arith), tt),
     )
-    ending-row byTest = (
+    ending-row by_test = (
       (λ first target outer unary.
-          let r = unary_closes byTest done starts unary in
-          subst (λ (f : Frame). Partial all stepDue (complete_value f) around rest) (sym r.same) (test_ends outer r.whole)),
-      (comma_entry byTest (omega arith), tt),
+          let r = unary_closes by_test done starts unary in
+          subst (λ (f : Frame). Partial all step_due (complete_value f) around rest) (sym r.same) (test_ends outer r.whole)),
+      (comma_entry by_test (omega arith), tt),
     )
     ending-row by_step = (
       (λ first target outer unary.
@@ -441,34 +441,34 @@ module _ (all : List Token) (spot : Spot) (rest : List Token) (around : List Ope
           subst (λ (f : Frame). PartialOf all (pop_to spot.first (done_of (complete_value f)) around) rest) (sym r.same) (step_ends outer r.whole spot.first)),
       (comma_entry by_step (omega arith), tt),
     )
-    ending-row byObject = (
+    ending-row by_object = (
       (λ first target outer unary.
-          let r = unary_closes byObject done starts unary in
+          let r = unary_closes by_object done starts unary in
           subst (λ (f : Frame). PartialOf all (pop_to spot.first (done_of (complete_value f)) (head_in around)) rest) (sym r.same) (object_ends outer r.whole spot.first)),
-      (comma_entry byObject (omega arith), tt),
+      (comma_entry by_object (omega arith), tt),
     )
     ending-row (by_case seen) = (
       (λ first target outer unary.
           let r = unary_closes (by_case seen) done starts unary in
-          subst (λ (f : Frame). Partial all (statement_due false in_clause) empty (nested (clause_due seen) toStatement spot.mark (complete_head f) ∷ around) rest)
+          subst (λ (f : Frame). Partial all (statement_due false in_clause) empty (nested (clause_due seen) to_statement spot.mark (complete_head f) ∷ around) rest)
           (sym r.same) (case_ends outer r.whole)),
       (comma_entry (by_case seen) (omega arith), tt),
     )
-    ending-row byParen = (
+    ending-row by_paren = (
       (λ first target outer unary.
-          let r = unary_closes byParen done starts unary in
+          let r = unary_closes by_paren done starts unary in
           subst (λ (f : Frame). PartialOf all (pop_to spot.first (operand_of f) around) rest) (sym r.same) (parens_close outer r.whole spot.first)),
-      (comma_entry byParen (omega arith), tt),
+      (comma_entry by_paren (omega arith), tt),
     )
-    ending-row byBracket = (
+    ending-row by_bracket = (
       (λ first target outer unary.
-          let r = unary_closes byBracket done starts unary in
+          let r = unary_closes by_bracket done starts unary in
           subst (λ (f : Frame). PartialOf all (pop_to spot.first (operand_of f) around) rest) (sym r.same) (index_closes outer r.whole spot.first)),
-      (comma_entry byBracket (omega arith), tt),
+      (comma_entry by_bracket (omega arith), tt),
     )
-    ending-row byColon = (
+    ending-row by_colon = (
       λ first target outer unary.
-          let r = unary_closes byColon done starts unary in
+          let r = unary_closes by_colon done starts unary in
           subst (λ (f : Frame). PartialOf all (turn_to spot.first (operand_of f) around) rest) (sym r.same) (first_ends outer r.whole spot.first),
       tt,
     )
@@ -487,7 +487,7 @@ module _ (all : List Token) (spot : Spot) (rest : List Token) (around : List Ope
 
     pub unary_row : (ending : Ending) → EachEntry (KeepsUnary ending done starts waiting last) (after_unary ending)
     unary_row ending =
-        each_entry (KeepsUnary ending done starts waiting last) (λ class. goto (operandDue ending noTarget) (takeOperator class)) (binary_operators_by (allows_in ending))
+        each_entry (KeepsUnary ending done starts waiting last) (λ class. goto (operand_due ending no_target) (take_operator class)) (binary_operators_by (allows_in ending))
         (on question (ask ending) ∷ ending_row ending) (λ class op. binary_entry ending class op) (question_entry ending, ending-row ending)
 
   -- an operand has ended
@@ -499,31 +499,31 @@ module _ (all : List Token) (spot : Spot) (rest : List Token) (around : List Ope
 
   -- the `in` of a `for` comes behind its start
   in-entry : (done : Syntax) (starts waiting : List Pending) (last : Syntax) (ending : Ending) (target : Target) → T (takes_in ending target)
-      → KeepsChain ending target done starts waiting last in_word (goto (operandDue byObject someTarget) endValue)
-  in-entry done starts waiting last ending noTarget for = absurd for
-  in-entry done starts waiting last ending someTarget for = absurd for
-  in-entry done starts waiting last byStart loneTarget for = λ first before level outer waits chain.
-      let r = lone_closes byStart done starts (chain_closes byStart done starts waits chain) in
-      subst (λ (f : Frame). Partial all (operandDue byObject someTarget) (complete_value f) around rest) (sym r.same) (target_ends outer r.whole)
-  in-entry done starts waiting last (byStatement setting) loneTarget for = absurd for
-  in-entry done starts waiting last (byReturn setting) loneTarget for = absurd for
-  in-entry done starts waiting last (by_variable place) loneTarget for = absurd for
-  in-entry done starts waiting last byTest loneTarget for = absurd for
-  in-entry done starts waiting last by_step loneTarget for = absurd for
-  in-entry done starts waiting last byObject loneTarget for = absurd for
-  in-entry done starts waiting last (by_case seen) loneTarget for = absurd for
-  in-entry done starts waiting last byParen loneTarget for = absurd for
-  in-entry done starts waiting last byBracket loneTarget for = absurd for
-  in-entry done starts waiting last byColon loneTarget for = absurd for
-  in-entry done starts waiting last (by_item items) loneTarget for = absurd for
+      → KeepsChain ending target done starts waiting last in_word (goto (operand_due by_object some_target) end_value)
+  in-entry done starts waiting last ending no_target for = absurd for
+  in-entry done starts waiting last ending some_target for = absurd for
+  in-entry done starts waiting last by_start lone_target for = λ first before level outer waits chain.
+      let r = lone_closes by_start done starts (chain_closes by_start done starts waits chain) in
+      subst (λ (f : Frame). Partial all (operand_due by_object some_target) (complete_value f) around rest) (sym r.same) (target_ends outer r.whole)
+  in-entry done starts waiting last (by_statement setting) lone_target for = absurd for
+  in-entry done starts waiting last (by_return setting) lone_target for = absurd for
+  in-entry done starts waiting last (by_variable place) lone_target for = absurd for
+  in-entry done starts waiting last by_test lone_target for = absurd for
+  in-entry done starts waiting last by_step lone_target for = absurd for
+  in-entry done starts waiting last by_object lone_target for = absurd for
+  in-entry done starts waiting last (by_case seen) lone_target for = absurd for
+  in-entry done starts waiting last by_paren lone_target for = absurd for
+  in-entry done starts waiting last by_bracket lone_target for = absurd for
+  in-entry done starts waiting last by_colon lone_target for = absurd for
+  in-entry done starts waiting last (by_item items) lone_target for = absurd for
 
   module _ (ending : Ending) (done : Syntax) (starts waiting : List Pending) (last : Syntax) where
     assignment_entry : (target : Target) → T (is_target target) → (class : ℕ) → T (is_among assignment_operators class)
-        → KeepsChain ending target done starts waiting last class (goto (operandDue ending someTarget) (takeOperator class))
+        → KeepsChain ending target done starts waiting last class (goto (operand_due ending some_target) (take_operator class))
     assignment_entry target may class op first before level outer waits chain =
         let r = chain_closes ending done starts waits chain in
         let loose = target_level may r.waits r.fits in
-        subst (λ (f : Frame). Partial all (operandDue ending someTarget) (await class spot.mark f) around rest)
+        subst (λ (f : Frame). Partial all (operand_due ending some_target) (await class spot.mark f) around rest)
         (sym
         (ap (λ (least : ℕ). reduce least done starts waiting last) (assignment_threshold class op)
         ∙ news_close ending done starts least_binary r (omega arith) (omega arith)))
@@ -531,16 +531,16 @@ module _ (all : List Token) (spot : Spot) (rest : List Token) (around : List Ope
 
     assignment-row : (target : Target) (more : List Entry) → EachEntry (KeepsChain ending target done starts waiting last) more
         → EachEntry (KeepsChain ending target done starts waiting last) (assignment_row ending target more)
-    assignment-row noTarget more others = others
-    assignment-row someTarget more others =
-        each_entry (KeepsChain ending someTarget done starts waiting last) (λ class. goto (operandDue ending someTarget) (takeOperator class))
-        assignment_operators more (assignment_entry someTarget tt) others
-    assignment-row loneTarget more others =
-        each_entry (KeepsChain ending loneTarget done starts waiting last) (λ class. goto (operandDue ending someTarget) (takeOperator class))
-        assignment_operators more (assignment_entry loneTarget tt) others
+    assignment-row no_target more others = others
+    assignment-row some_target more others =
+        each_entry (KeepsChain ending some_target done starts waiting last) (λ class. goto (operand_due ending some_target) (take_operator class))
+        assignment_operators more (assignment_entry some_target tt) others
+    assignment-row lone_target more others =
+        each_entry (KeepsChain ending lone_target done starts waiting last) (λ class. goto (operand_due ending some_target) (take_operator class))
+        assignment_operators more (assignment_entry lone_target tt) others
 
     postfix_entry : (target : Target) (class : ℕ) → T (is_among postfix_operators class) → T (not spot.newline)
-        → KeepsChain ending target done starts waiting last class (goto (postfix_done ending) (takePostfix (postfix_kind class)))
+        → KeepsChain ending target done starts waiting last class (goto (postfix_done ending) (take_postfix (postfix_kind class)))
     postfix_entry target class op same first before level outer waits chain =
         let r = chain_closes ending done starts waits chain in
         let under = r.fits in
@@ -553,7 +553,7 @@ module _ (all : List Token) (spot : Spot) (rest : List Token) (around : List Ope
         → EachEntry (KeepsChain ending target done starts waiting last) (postfix_row ending newline more)
     postfix-row target true same more others = others
     postfix-row target false same more others =
-        each_entry (KeepsChain ending target done starts waiting last) (λ class. goto (postfix_done ending) (takePostfix (postfix_kind class)))
+        each_entry (KeepsChain ending target done starts waiting last) (λ class. goto (postfix_done ending) (take_postfix (postfix_kind class)))
         postfix_operators more (λ class op. postfix_entry target class op (same tt)) others
 
     pub chain_row : (target : Target) → EachEntry (KeepsChain ending target done starts waiting last) (after_operand ending target spot.newline)
@@ -577,24 +577,24 @@ module _ (all : List Token) (spot : Spot) (rest : List Token) (around : List Ope
   -- an item may come, or the list may end
   abbrev KeepsItem : Items → List Token → Syntax → ℕ → Action → Type 0
   KeepsItem items first done class action =
-      Keeps (frame done [] [] nil) (λ here. Derives (itemsForm items) first here done × Derives (listForm items) first here done) class action
+      Keeps (frame done [] [] nil) (λ here. Derives (items_form items) first here done × Derives (list_form items) first here done) class action
 
   pub item-row : (items : Items) (first : List Token) (done : Syntax) → Reached all (list_at items) nil [] around first
       → EachEntry (KeepsItem items first done) (item_row items)
-  item-row callArguments first done outer = (
+  item-row call_arguments first done outer = (
     (λ s. list_closes outer s.1 spot.first),
-    map_entries (KeepsOperand (by_item callArguments) someTarget done [] [] nil) (KeepsItem callArguments first done) (operand (by_item callArguments) someTarget)
-        (λ k action keeps s. keeps _ _ (in_item outer s.0 at_argument) (none_waits tt) (omega arith)) (operand_row (by_item callArguments) someTarget done [] [] nil),
+    map_entries (KeepsOperand (by_item call_arguments) some_target done [] [] nil) (KeepsItem call_arguments first done) (operand (by_item call_arguments) some_target)
+        (λ k action keeps s. keeps _ _ (in_item outer s.0 at_argument) (none_waits tt) (omega arith)) (operand_row (by_item call_arguments) some_target done [] [] nil),
   )
-  item-row arrayElements first done outer = (
+  item-row array_elements first done outer = (
     (λ s. at_item outer (add_hole s.0) (list_items tt (add_hole s.0))),
     (
       (λ s. list_closes outer s.1 spot.first),
-      map_entries (KeepsOperand (by_item arrayElements) someTarget done [] [] nil) (KeepsItem arrayElements first done) (operand (by_item arrayElements) someTarget)
-          (λ k action keeps s. keeps _ _ (in_item outer s.0 at_element) (none_waits tt) (omega arith)) (operand_row (by_item arrayElements) someTarget done [] [] nil),
+      map_entries (KeepsOperand (by_item array_elements) some_target done [] [] nil) (KeepsItem array_elements first done) (operand (by_item array_elements) some_target)
+          (λ k action keeps s. keeps _ _ (in_item outer s.0 at_element) (none_waits tt) (omega arith)) (operand_row (by_item array_elements) some_target done [] [] nil),
     ),
   )
-  item-row objectProperties first done outer = (
+  item-row object_properties first done outer = (
     (λ s. behind_property outer s.0 identifier),
     (
       (λ s. behind_property outer s.0 reserved_word),
@@ -623,7 +623,7 @@ module _ (all : List Token) (spot : Spot) (rest : List Token) (around : List Ope
   no_statement_row block done = ((λ place. statements_close place spot.first), tt)
 
   -- a clause of a `switch` ends before another, and before the `}`
-  pub no_clause_statement_row : (done : Syntax) → ((class : ℕ) → KeepsStatement in_clause done [] class (leave doneValue))
+  pub no_clause_statement_row : (done : Syntax) → ((class : ℕ) → KeepsStatement in_clause done [] class (leave done_value))
       → EachEntry (KeepsStatement in_clause done []) (no_statement false in_clause)
   no_clause_statement_row done leaves = (leaves _, (leaves _, (leaves _, tt)))
 
@@ -631,8 +631,8 @@ module _ (all : List Token) (spot : Spot) (rest : List Token) (around : List Ope
       → EachEntry (KeepsStatement setting done starts) (word_row setting more)
   word-row setting done starts more others =
       let Holds : ℕ → Action → Type 0 = KeepsStatement setting done starts in
-      let head : ℕ → Action = λ class. goto (headFirst setting) (startStatement class) in
-      let jump : ℕ → Action = λ class. goto (jumpFirst setting) (startStatement class) in (
+      let head : ℕ → Action = λ class. goto (head_first setting) (start_statement class) in
+      let jump : ℕ → Action = λ class. goto (jump_first setting) (start_statement class) in (
         (λ place. with_statement place statement_empty),
         (
           (λ place. at_variable (in_var place no_variables)),
@@ -670,8 +670,8 @@ module _ (all : List Token) (spot : Spot) (rest : List Token) (around : List Ope
         (λ place. behind_return place),
         (
           (λ place. behind_name place),
-          word-row setting done starts (beginnings (byStatement setting) someTarget (no_statement must setting))
-              (beginnings_row (byStatement setting) someTarget done starts [] nil (KeepsStatement setting done starts)
+          word-row setting done starts (beginnings (by_statement setting) some_target (no_statement must setting))
+              (beginnings_row (by_statement setting) some_target done starts [] nil (KeepsStatement setting done starts)
               (λ class action begins keeps place. keeps _ _ (in_expression begins place) (none_waits tt) (omega arith)) (no_statement must setting) more),
         ),
       ),

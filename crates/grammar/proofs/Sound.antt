@@ -6,8 +6,8 @@ use Prim.Native.Nat.{ℕ}
 use native.Mathlib.Omega.{arith}
 use Rattle.machine.specs.Tokens.{Token, token, Spot}
 use Rattle.machine.specs.Syntax.{Syntax, nil}
-use Rattle.grammar.specs.Grammar.{body, block, callArguments, arrayElements, objectProperties, statement_if, statement_try, no_statements, Program}
-use Rattle.machine.specs.Machinery.Machine.{end_of_text, Frame, frame, done_of, Target, noTarget, someTarget, loneTarget, Ending, byStatement, byReturn, by_variable, byStart, byTest, by_step, byObject, by_case, byParen, byBracket, byColon, by_item, among, in_statement, in_head, declared, operand_in, Control, returnFirst, throwFirst, jumpFirst, finished, Action, fail, Entry, look, in_entry, after_unary, assignment_row, takes_in, postfix_row, after_operand, row, Open, State, dead, live, finish_in, act, consume, run, start}
+use Rattle.grammar.specs.Grammar.{body, block, call_arguments, array_elements, object_properties, statement_if, statement_try, no_statements, Program}
+use Rattle.machine.specs.Machinery.Machine.{end_of_text, Frame, frame, done_of, Target, no_target, some_target, lone_target, Ending, by_statement, by_return, by_variable, by_start, by_test, by_step, by_object, by_case, by_paren, by_bracket, by_colon, by_item, among, in_statement, in_head, declared, operand_in, Control, return_first, throw_first, jump_first, finished, Action, fail, Entry, look, in_entry, after_unary, assignment_row, takes_in, postfix_row, after_operand, row, Open, State, dead, live, finish_in, act, consume, run, start}
 use Rattle.grammar.proofs.Complete.{run_append}
 use Rattle.grammar.proofs.Places.{statement_at, Reached, in_program, in_declaration, in_function}
 use Rattle.grammar.proofs.Partial.{
@@ -75,32 +75,32 @@ run_partial all control f around e =
 
 -- no expression ends with the text
 unary_at_end : (ending : Ending) → look end_of_text (after_unary ending) ≡ fail
-unary_at_end (byStatement setting) = refl
-unary_at_end (byReturn setting) = refl
+unary_at_end (by_statement setting) = refl
+unary_at_end (by_return setting) = refl
 unary_at_end (by_variable (in_statement setting)) = refl
 unary_at_end (by_variable (in_head true)) = refl
 unary_at_end (by_variable (in_head false)) = refl
-unary_at_end byStart = refl
-unary_at_end byTest = refl
+unary_at_end by_start = refl
+unary_at_end by_test = refl
 unary_at_end by_step = refl
-unary_at_end byObject = refl
+unary_at_end by_object = refl
 unary_at_end (by_case seen) = refl
-unary_at_end byParen = refl
-unary_at_end byBracket = refl
-unary_at_end byColon = refl
-unary_at_end (by_item callArguments) = refl
-unary_at_end (by_item arrayElements) = refl
-unary_at_end (by_item objectProperties) = refl
+unary_at_end by_paren = refl
+unary_at_end by_bracket = refl
+unary_at_end by_colon = refl
+unary_at_end (by_item call_arguments) = refl
+unary_at_end (by_item array_elements) = refl
+unary_at_end (by_item object_properties) = refl
 
 -- the entries before those of what follows a Unary do not take it
 operand_at_end : (ending : Ending) (target : Target) (newline : Bool) → look end_of_text (after_operand ending target newline) ≡ fail
-operand_at_end ending noTarget true = unary_at_end ending
-operand_at_end ending noTarget false = unary_at_end ending
-operand_at_end ending someTarget true = unary_at_end ending
-operand_at_end ending someTarget false = unary_at_end ending
-operand_at_end ending loneTarget newline = past (takes_in ending loneTarget) newline
+operand_at_end ending no_target true = unary_at_end ending
+operand_at_end ending no_target false = unary_at_end ending
+operand_at_end ending some_target true = unary_at_end ending
+operand_at_end ending some_target false = unary_at_end ending
+operand_at_end ending lone_target newline = past (takes_in ending lone_target) newline
   where
-    past : (for newline : Bool) → look end_of_text (in_entry for (assignment_row ending loneTarget (postfix_row ending newline (after_unary ending)))) ≡ fail
+    past : (for newline : Bool) → look end_of_text (in_entry for (assignment_row ending lone_target (postfix_row ending newline (after_unary ending)))) ≡ fail
     past true true = unary_at_end ending
     past true false = unary_at_end ending
     past false true = unary_at_end ending
@@ -148,13 +148,13 @@ module _ (all : List Token) (spot : Spot) (after : Control) (g : Frame) (outside
   end_taken later (at_clause_statement place) e = never e
   end_taken later (at_inner_statement place) e = never e
   end_taken {f = f} {around = around} later (behind_name {setting = setting} place) e =
-      untaken f around (operand_at_end (byStatement setting) someTarget spot.newline) e
+      untaken f around (operand_at_end (by_statement setting) some_target spot.newline) e
   end_taken {f = f} {around = around} later (behind_return {setting = setting} place) e =
-      untaken f around (row_at_end (row (returnFirst setting)) refl refl spot.newline) e
+      untaken f around (row_at_end (row (return_first setting)) refl refl spot.newline) e
   end_taken {f = f} {around = around} later (behind_throw {setting = setting} place) e =
-      untaken f around (row_at_end (row (throwFirst setting)) refl refl spot.newline) e
+      untaken f around (row_at_end (row (throw_first setting)) refl refl spot.newline) e
   end_taken {f = f} {around = around} later (behind_jump {setting = setting} jump place) e =
-      untaken f around (row_at_end (row (jumpFirst setting)) refl refl spot.newline) e
+      untaken f around (row_at_end (row (jump_first setting)) refl refl spot.newline) e
   end_taken later (behind_head head place) e = never e
   end_taken later (behind_for place) e = never e
   end_taken later (at_start place) e = never e
@@ -199,9 +199,9 @@ module _ (all : List Token) (spot : Spot) (after : Control) (g : Frame) (outside
   end_taken later (at_parameter place head names) e = never e
   end_taken later (at_function_body (declaration_at place) head parameters) e = never e
   end_taken later (at_function_body (operand_at outer waits) head parameters) e = never e
-  end_taken later (at_item {items = callArguments} outer values list) e = never e
-  end_taken later (at_item {items = arrayElements} outer values list) e = never e
-  end_taken later (at_item {items = objectProperties} outer values list) e = never e
+  end_taken later (at_item {items = call_arguments} outer values list) e = never e
+  end_taken later (at_item {items = array_elements} outer values list) e = never e
+  end_taken later (at_item {items = object_properties} outer values list) e = never e
   end_taken later (behind_property outer values identified) e = never e
   end_taken later (behind_end statements) e = never e
 

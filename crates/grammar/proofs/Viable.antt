@@ -7,49 +7,49 @@ use native.Mathlib.Omega.{arith}
 use lib.Dec.{T}
 use Rattle.machine.specs.Tokens.{Token, token, Spot, name, catch_word, colon, semicolon, open_paren, close_paren, open_brace, close_brace}
 use Rattle.machine.specs.Syntax.{Syntax, nil, node}
-use Rattle.grammar.specs.Grammar.{is_among, Items, callArguments, arrayElements, objectProperties, Program}
+use Rattle.grammar.specs.Grammar.{is_among, Items, call_arguments, array_elements, object_properties, Program}
 use Rattle.machine.specs.Machinery.Machine.{
   end_of_text,
   Pending,
   Frame,
   frame,
   Closing,
-  toStatement,
-  toTry,
+  to_statement,
+  to_try,
   done_of,
-  ifNest,
-  elseNest,
-  doNest,
+  if_nest,
+  else_nest,
+  do_nest,
   Setting,
   in_clause,
   in_nest,
   Variables,
   in_statement,
   in_head,
-  someTarget,
+  some_target,
   Ending,
-  byStatement,
-  byReturn,
+  by_statement,
+  by_return,
   by_variable,
-  byParen,
+  by_paren,
   by_item,
   Role,
   Control,
   statement_due,
   behind_statement,
-  bodyDone,
-  testFirst,
-  semicolonDue,
-  testDue,
-  stepDue,
-  switchPast,
+  body_done,
+  test_first,
+  semicolon_due,
+  test_due,
+  step_due,
+  switch_past,
   clause_due,
-  tryDone,
-  catchPast,
+  try_done,
+  catch_past,
   behind_variables,
-  operandDue,
+  operand_due,
   item_due,
-  parameterPast,
+  parameter_past,
   finished,
   Action,
   push,
@@ -201,8 +201,8 @@ use Rattle.grammar.proofs.Completion.{
   Completion,
   through,
   statement-done,
-  catch_done,
-  try_done,
+  catch-done,
+  try-done,
   out_of_nest,
 }
 
@@ -229,26 +229,26 @@ by_end {class = class} {around = around} done spelled h classes all ends = recor
 
 -- an expression in `( )` that must come: `( a )`
 in_parens_due : {control next : Control} {closing : Closing} {around : List Open}
-    → ((newline : Bool) → look open_paren (row control newline) ≡ push (operandDue byParen someTarget) next closing) → Completion next around
+    → ((newline : Bool) → look open_paren (row control newline) ≡ push (operand_due by_paren some_target) next closing) → Completion next around
     → Completion control around
 in_parens_due {control} {next} {closing} {around} opens c = record {
   classes = open_paren ∷ name ∷ close_paren ∷ c.classes;
   spelled = more_spelled spelled_open_paren (more_spelled spelled_name (more_spelled spelled_close_paren c.spelled));
   ends = λ f opener.
       subst (λ (z : Action). Ends (name ∷ close_paren ∷ c.classes) (act z open_paren (inline opener) f around)) (sym (opens false)) λ called closer.
-      ended close_paren c.classes (past_operand {ending = byParen} {target = someTarget}) tt (frame nil [] [] (node name called.mark nil nil)) (inline closer)
+      ended close_paren c.classes (past_operand {ending = by_paren} {target = some_target}) tt (frame nil [] [] (node name called.mark nil nil)) (inline closer)
       (grouped next closing opener.mark f ∷ around) (c.ends _);
 }
 
 -- the rest of a `do` behind its statement: `while ( a ) ;`
-semicolon_due : {setting : Setting} {around : List Open} → Completion (behind_statement setting) around → Completion (semicolonDue setting) around
-semicolon_due c = through spelled_semicolon c λ f end. c.ends _
+semicolon-due : {setting : Setting} {around : List Open} → Completion (behind_statement setting) around → Completion (semicolon_due setting) around
+semicolon-due c = through spelled_semicolon c λ f end. c.ends _
 
-test_due : {setting : Setting} {around : List Open} → Completion (behind_statement setting) around → Completion (testFirst setting) around
-test_due {setting} c = in_parens_due {next = semicolonDue setting} (λ newline. refl) (semicolon_due {setting = setting} c)
+test-due : {setting : Setting} {around : List Open} → Completion (behind_statement setting) around → Completion (test_first setting) around
+test-due {setting} c = in_parens_due {next = semicolon_due setting} (λ newline. refl) (semicolon-due {setting = setting} c)
 
-body_done : {setting : Setting} {around : List Open} → Completion (behind_statement setting) around → Completion (bodyDone setting) around
-body_done {setting} c = let test = test_due {setting = setting} c in through spelled_while test λ f word. test.ends f
+body-done : {setting : Setting} {around : List Open} → Completion (behind_statement setting) around → Completion (body_done setting) around
+body-done {setting} c = let test = test-due {setting = setting} c in through spelled_while test λ f word. test.ends f
 
 -- statements in `{ }`, possibly none, that must come
 in_braces : {control next : Control} {around beyond : List Open} → (c : Completion next beyond)
@@ -262,18 +262,18 @@ in_braces c ends = record {
 }
 
 -- the clauses of a `switch`
-switch_past : {setting : Setting} {around : List Open} → Completion (behind_statement setting) around → Completion (switchPast setting) around
-switch_past c = in_braces c λ f opener closer. c.ends _
+switch-past : {setting : Setting} {around : List Open} → Completion (behind_statement setting) around → Completion (switch_past setting) around
+switch-past c = in_braces c λ f opener closer. c.ends _
 
 -- the rest of a `try` behind the head of its `catch`: `{ }`, and behind its block: `catch ( a ) { }`
-catch_past : {behind : Control} {mark : ℕ} {g : Frame} {around : List Open} → Completion behind around
-    → Completion catchPast (nested behind toTry mark g ∷ around)
-catch_past c = let caught = out_of_nest catch_done c in in_braces caught λ f opener closer. caught.ends _
+catch-past : {behind : Control} {mark : ℕ} {g : Frame} {around : List Open} → Completion behind around
+    → Completion catch_past (nested behind to_try mark g ∷ around)
+catch-past c = let caught = out_of_nest catch-done c in in_braces caught λ f opener closer. caught.ends _
 
-catch_due : {behind : Control} {mark : ℕ} {g : Frame} {around : List Open} → Completion behind around
-    → Completion tryDone (nested behind toTry mark g ∷ around)
-catch_due c =
-    let past = catch_past c in
+catch-due : {behind : Control} {mark : ℕ} {g : Frame} {around : List Open} → Completion behind around
+    → Completion try_done (nested behind to_try mark g ∷ around)
+catch-due c =
+    let past = catch-past c in
     record {
       classes = catch_word ∷ open_paren ∷ name ∷ close_paren ∷ past.classes;
       spelled = more_spelled spelled_catch (more_spelled spelled_open_paren (more_spelled spelled_name (more_spelled spelled_close_paren past.spelled)));
@@ -296,21 +296,21 @@ by_closer {class} spelled c ends = record { classes = class ∷ c.classes; spell
 
 -- a list is closed behind an item, and where an item may come
 behind_item : (items : Items) {control : Control} {around : List Open} → UnaryDone (by_item items) control → Closed around → Completion control around
-behind_item callArguments done c = by_end done spelled_close_paren tt c.classes c.spelled λ f closer. c.ends closer.first _
-behind_item arrayElements done c = by_end done spelled_close_bracket tt c.classes c.spelled λ f closer. c.ends closer.first _
-behind_item objectProperties done c = by_end done spelled_close_brace tt c.classes c.spelled λ f closer. c.ends closer.first _
+behind_item call_arguments done c = by_end done spelled_close_paren tt c.classes c.spelled λ f closer. c.ends closer.first _
+behind_item array_elements done c = by_end done spelled_close_bracket tt c.classes c.spelled λ f closer. c.ends closer.first _
+behind_item object_properties done c = by_end done spelled_close_brace tt c.classes c.spelled λ f closer. c.ends closer.first _
 
 before_item : (items : Items) {around : List Open} → Closed around → Completion (item_due items) around
-before_item callArguments c = by_closer spelled_close_paren c λ f closer. c.ends closer.first _
-before_item arrayElements c = by_closer spelled_close_bracket c λ f closer. c.ends closer.first _
-before_item objectProperties c = by_closer spelled_close_brace c λ f closer. c.ends closer.first _
+before_item call_arguments c = by_closer spelled_close_paren c λ f closer. c.ends closer.first _
+before_item array_elements c = by_closer spelled_close_bracket c λ f closer. c.ends closer.first _
+before_item object_properties c = by_closer spelled_close_brace c λ f closer. c.ends closer.first _
 
 -- the rest of the head of a `for` behind its second `;`: `)`, and behind its first: `; )`
-step_due : {around : List Open} → Closed around → Completion stepDue around
-step_due c = by_closer spelled_close_paren c λ f closer. c.ends closer.first _
+step-due : {around : List Open} → Closed around → Completion step_due around
+step-due c = by_closer spelled_close_paren c λ f closer. c.ends closer.first _
 
-condition_due : {around : List Open} → Closed around → Completion testDue around
-condition_due c = let step = step_due c in through spelled_semicolon step λ f end. step.ends _
+condition_due : {around : List Open} → Closed around → Completion test_due around
+condition_due c = let step = step-due c in through spelled_semicolon step λ f end. step.ends _
 
 -- a variable is the last
 behind_initialiser : (place : Variables) {control : Control} {around : List Open} → UnaryDone (by_variable place) control
@@ -320,7 +320,7 @@ behind_initialiser (in_head first) done c = by_end done spelled_semicolon tt c.c
 
 -- the statements of a clause: the `}` of its `switch` ends them too
 clause_done : {seen : Bool} {mark : ℕ} {g : Frame} {around : List Open} → Closed around
-    → Completion (statement_due false in_clause) (nested (clause_due seen) toStatement mark g ∷ around)
+    → Completion (statement_due false in_clause) (nested (clause_due seen) to_statement mark g ∷ around)
 clause_done c = by_closer spelled_close_brace c λ f closer. c.ends closer.first _
 
 -- How a place is left: where a statement may start, by the closer of what is around; a block or variables, by what ends them; an expression, by its
@@ -340,18 +340,18 @@ left (in_program statements) = record { classes = []; spelled = none_spelled; en
 left (in_block outer statements) = let c = left outer in through spelled_close_brace c λ f closer. c.ends _
 left (in_declaration outer parameters statements) = let c = left outer in through spelled_close_brace c λ f closer. c.ends _
 left (in_function {target = behind} outer waits head parameters statements) = let c = left outer _ (past_operand {target = behind}) in through spelled_close_brace c λ f closer. c.ends _
-left (after_if outer condition) = out_of_nest (statement-done ifNest) (left outer)
-left (after_else outer condition first) = out_of_nest (statement-done elseNest) (left outer)
-left (after_do {setting = setting} outer) = out_of_nest (statement-done doNest) (body_done {setting = setting} (left outer))
+left (after_if outer condition) = out_of_nest (statement-done if_nest) (left outer)
+left (after_else outer condition first) = out_of_nest (statement-done else_nest) (left outer)
+left (after_do {setting = setting} outer) = out_of_nest (statement-done do_nest) (body-done {setting = setting} (left outer))
 left (after_head head outer value) = left outer
 left (after_for outer head) = left outer
 left (after_label outer) = left outer
 left (after_case outer test statements) = clause_done (left outer)
 left (after_default outer statements) = clause_done (left outer)
 left (block_statement outer) = left outer
-left (block_of_try outer) = catch_due (left outer)
-left (block_of_catch outer tried) = out_of_nest catch_done (left outer)
-left (block_of_finally outer tried) = out_of_nest try_done (left outer)
+left (block_of_try outer) = catch-due (left outer)
+left (block_of_catch outer tried) = out_of_nest catch-done (left outer)
+left (block_of_finally outer tried) = out_of_nest try-done (left outer)
 left (in_switch outer subject clauses) = closed (left outer)
 left (in-for {setting = setting} outer) = closed (inner_statement {setting = setting} (left outer))
 left (in_var outer variables) = left outer
@@ -365,7 +365,7 @@ left (in_start outer) = λ control done.
     let c = condition_due (left outer) in
     by_end done spelled_semicolon tt c.classes c.spelled λ f end. c.ends _
 left (in_for_test outer first) = λ control done.
-    let c = step_due (left outer) in
+    let c = step-due (left outer) in
     by_end done spelled_semicolon tt c.classes c.spelled λ f end. c.ends _
 left (in_for_step outer first condition) = λ control done.
     let c = left outer in
@@ -383,28 +383,28 @@ left (in_index {target = behind} outer waits object) = λ control done.
     let c = left outer _ (past_operand {target = behind}) in
     by_end done spelled_close_bracket tt c.classes c.spelled λ f closer. c.ends _
 left (in_condition outer) = λ control done.
-    let c = inner_statement {setting = in_nest ifNest} (out_of_nest (statement-done ifNest) (left outer)) in
+    let c = inner_statement {setting = in_nest if_nest} (out_of_nest (statement-done if_nest) (left outer)) in
     by_end done spelled_close_paren tt c.classes c.spelled λ f closer. c.ends _
 left (in-head {setting = setting} head outer) = λ control done.
     let c = inner_statement {setting = setting} (left outer) in
     by_end done spelled_close_paren tt c.classes c.spelled λ f closer. c.ends _
 left (in_subject {setting = setting} outer) = λ control done.
-    let c = switch_past {setting = setting} (left outer) in
+    let c = switch-past {setting = setting} (left outer) in
     by_end done spelled_close_paren tt c.classes c.spelled λ f closer. c.ends _
 left (in_test {setting = setting} outer inner) = λ control done.
-    let c = semicolon_due {setting = setting} (left outer) in
+    let c = semicolon-due {setting = setting} (left outer) in
     by_end done spelled_close_paren tt c.classes c.spelled λ f closer. c.ends _
 left (in_call {target = behind} outer waits callee) = closed (left outer _ (past_operand {target = behind}))
 left (in_array {target = behind} outer waits) = closed (left outer _ (past_operand {target = behind}))
 left (in_object {target = behind} outer waits) = closed (left outer _ (past_operand {target = behind}))
 left (in_conditional outer waits fits condition) = λ control done.
-    let c = left outer _ (past_operand {target = someTarget}) in
+    let c = left outer _ (past_operand {target = some_target}) in
     by_end done spelled_colon tt (name ∷ c.classes) (more_spelled spelled_name c.spelled) λ f answer called. c.ends _
 left (in_item {items = items} outer values starts) = λ control done. behind_item items done (left outer)
 
 -- the body of a function: `{ }`
 function_body : {all : List Token} {role : Role} {done : Syntax} {starts waiting : List Pending} {around : List Open} {here : List Token}
-    → FunctionAt all role done starts waiting around here → Completion (parameterPast role) around
+    → FunctionAt all role done starts waiting around here → Completion (parameter_past role) around
 function_body (declaration_at outer) = let c = left outer in in_braces c λ f opener closer. c.ends _
 function_body (operand_at {target = target} outer waits) =
     let c = left outer _ (past_operand {target = target}) in
@@ -418,11 +418,11 @@ completion (at_clause_statement place) more = left place
 completion (at_inner_statement {setting = setting} place) more = inner_statement {setting = setting} (left place)
 completion {around = around} (behind_name {setting = setting} place) more =
     let c = left place in
-    through spelled_semicolon c λ f end. ended semicolon c.classes (past_operand {ending = byStatement setting} {target = someTarget}) tt f (inline end) around (c.ends _)
+    through spelled_semicolon c λ f end. ended semicolon c.classes (past_operand {ending = by_statement setting} {target = some_target}) tt f (inline end) around (c.ends _)
 completion (behind_return place) more = let c = left place in through spelled_semicolon c λ f end. c.ends _
 completion (behind_throw {setting = setting} place) more =
     let c = left place in
-    let value = by_end (past_operand {ending = byReturn setting} {target = someTarget}) spelled_semicolon tt c.classes c.spelled λ f end. c.ends _ in
+    let value = by_end (past_operand {ending = by_return setting} {target = some_target}) spelled_semicolon tt c.classes c.spelled λ f end. c.ends _ in
     through spelled_name value λ f called. value.ends _
 completion (behind_jump jump place) more = let c = left place in through spelled_semicolon c λ f end. c.ends _
 completion (behind_head {setting = setting} head place) more =
@@ -436,10 +436,10 @@ completion (behind_for {setting = setting} place) more =
     }
 completion (at_start place) more = let c = condition_due (left place) in through spelled_semicolon c λ f end. c.ends _
 completion (at_for_test place first) more = condition_due (left place)
-completion (at_for_step place first condition) more = step_due (left place)
+completion (at_for_step place first condition) more = step-due (left place)
 completion (behind_switch {setting = setting} place) more =
-    in_parens_due {next = switchPast setting} (λ newline. refl) (switch_past {setting = setting} (left place))
-completion (behind_subject {setting = setting} place subject) more = switch_past {setting = setting} (left place)
+    in_parens_due {next = switch_past setting} (λ newline. refl) (switch-past {setting = setting} (left place))
+completion (behind_subject {setting = setting} place subject) more = switch-past {setting = setting} (left place)
 completion (at_clause place) more = let c = left place in by_closer spelled_close_brace c λ f closer. c.ends closer.first _
 completion (behind_default place) more =
     let c = left place in
@@ -449,26 +449,26 @@ completion (behind_default place) more =
       ends = λ f sign closer. c.ends closer.first _;
     }
 completion (behind_try place) more = let c = left place in in_braces c λ f opener closer. c.ends _
-completion (behind_tried place inner) more = catch_due (left place)
+completion (behind_tried place inner) more = catch-due (left place)
 completion (behind_catch place inner) more =
-    let past = catch_past (left place) in
+    let past = catch-past (left place) in
     record {
       classes = open_paren ∷ name ∷ close_paren ∷ past.classes;
       spelled = more_spelled spelled_open_paren (more_spelled spelled_name (more_spelled spelled_close_paren past.spelled));
       ends = λ f opener called closer. past.ends _;
     }
 completion (at_catch_name place inner) more =
-    let past = catch_past (left place) in
+    let past = catch-past (left place) in
     record {
       classes = name ∷ close_paren ∷ past.classes;
       spelled = more_spelled spelled_name (more_spelled spelled_close_paren past.spelled);
       ends = λ f called closer. past.ends _;
     }
-completion (behind_catch_name place inner) more = let past = catch_past (left place) in through spelled_close_paren past λ f closer. past.ends _
+completion (behind_catch_name place inner) more = let past = catch-past (left place) in through spelled_close_paren past λ f closer. past.ends _
 completion (behind_catch_head place) more = let c = left place in in_braces c λ f opener closer. c.ends _
-completion (behind_caught place inner handler) more = out_of_nest catch_done (left place)
+completion (behind_caught place inner handler) more = out_of_nest catch-done (left place)
 completion (behind_finally place) more = let c = left place in in_braces c λ f opener closer. c.ends _
-completion (behind_try_all place whole) more = out_of_nest try_done (left place)
+completion (behind_try_all place whole) more = out_of_nest try-done (left place)
 completion (at_variable place) more =
     let c = left place in
     record {
@@ -477,14 +477,14 @@ completion (at_variable place) more =
       ends = λ f called end. c.ends _;
     }
 completion (behind_variable place) more = let c = left place in through spelled_semicolon c λ f end. c.ends _
-completion (behind_body {setting = setting} place inner) more = body_done {setting = setting} (left place)
-completion (at_test {setting = setting} place inner) more = test_due {setting = setting} (left place)
-completion (at_semicolon {setting = setting} place unended) more = semicolon_due {setting = setting} (left place)
+completion (behind_body {setting = setting} place inner) more = body-done {setting = setting} (left place)
+completion (at_test {setting = setting} place inner) more = test-due {setting = setting} (left place)
+completion (at_semicolon {setting = setting} place unended) more = semicolon-due {setting = setting} (left place)
 completion (behind_if place) more =
-    in_parens_due {next = statement_due true (in_nest ifNest)} (λ newline. refl) (inner_statement {setting = in_nest ifNest} (out_of_nest (statement-done ifNest) (left place)))
-completion (behind_then outer condition inner) more = out_of_nest (statement-done ifNest) (left outer)
-completion (behind_else outer whole) more = out_of_nest (statement-done elseNest) (left outer)
-completion (behind_do {setting = setting} outer inner) more = out_of_nest (statement-done doNest) (body_done {setting = setting} (left outer))
+    in_parens_due {next = statement_due true (in_nest if_nest)} (λ newline. refl) (inner_statement {setting = in_nest if_nest} (out_of_nest (statement-done if_nest) (left place)))
+completion (behind_then outer condition inner) more = out_of_nest (statement-done if_nest) (left outer)
+completion (behind_else outer whole) more = out_of_nest (statement-done else_nest) (left outer)
+completion (behind_do {setting = setting} outer inner) more = out_of_nest (statement-done do_nest) (body-done {setting = setting} (left outer))
 completion (at_operand {target = target} outer waits fits) more = let c = left outer _ (past_operand {target = target}) in through spelled_name c λ f called. c.ends _
 completion (at_member {target = target} outer waits) more = let c = left outer _ (past_operand {target = target}) in through spelled_name c λ f called. c.ends _
 completion (behind_operand {target = target} outer waits chain) more = left outer _ (past_operand {target = target})
@@ -516,7 +516,7 @@ completion (at_parameter place head names) more =
 completion (at_function_body place head parameters) more = function_body place
 completion (at_item {items = items} outer values list) more = before_item items (left outer)
 completion (behind_property outer values identified) more =
-    let c = behind_item objectProperties (past_operand {target = someTarget}) (left outer) in
+    let c = behind_item object_properties (past_operand {target = some_target}) (left outer) in
     record {
       classes = colon ∷ name ∷ c.classes;
       spelled = more_spelled spelled_colon (more_spelled spelled_name c.spelled);

@@ -17,11 +17,11 @@ use Rattle.grammar.specs.Grammar.{
   prefix_kind,
   is_among,
   Form,
-  expressionForm,
-  assignForm,
+  expression_form,
+  assign_form,
   binary_form,
   unary_form,
-  targetForm,
+  target_form,
   Derives,
   Chain,
   Unary,
@@ -47,9 +47,9 @@ use Rattle.machine.specs.Machinery.Machine.{
   prefix_precedence,
   new_precedence,
   Target,
-  noTarget,
-  someTarget,
-  loneTarget,
+  no_target,
+  some_target,
+  lone_target,
   is_target,
   Ending,
   allows_in,
@@ -60,7 +60,7 @@ use Rattle.grammar.proofs.Following.{takes_comma}
 
 -- an expression is an Expression where it may have `,` operators, else an Assign
 abbrev pub whole_form : Ending → Form
-whole_form ending = cond (takes_comma ending) (expressionForm (allows_in ending)) (assignForm (allows_in ending))
+whole_form ending = cond (takes_comma ending) (expression_form (allows_in ending)) (assign_form (allows_in ending))
 
 -- Levels say how tight a part binds at least: an Expression has 1, an Assign 2, a Binary its least precedence, from 3 to 12, and a Unary 13; what
 -- stands behind `new` binds tighter than all of them
@@ -84,9 +84,9 @@ pub data Operand (within : Bool) : ℕ → List Token → List Token → Syntax 
   binary_operand : {level least : ℕ} {before after : List Token} {value : Syntax} → level ≤ least → least_binary ≤ least → least < prefix_precedence
       → Derives (binary_form within least) before after value → Operand within level before after value
   assign_operand : {level : ℕ} {before after : List Token} {value : Syntax} → level ≤ assignment_precedence
-      → Derives (assignForm within) before after value → Operand within level before after value
+      → Derives (assign_form within) before after value → Operand within level before after value
   expression_operand : {level : ℕ} {before after : List Token} {value : Syntax} → level ≤ 1
-      → Derives (expressionForm within) before after value → Operand within level before after value
+      → Derives (expression_form within) before after value → Operand within level before after value
 
 at_most : (a b c : ℕ) → a ≤ b → b ≤ c → a ≤ c
 at_most a b c h k = omega arith
@@ -118,13 +118,13 @@ module _ {within : Bool} {level : ℕ} {before after : List Token} {value : Synt
   as_binary high (assign_operand low whole) = absurd (omega arith)
   as_binary high (expression_operand low whole) = absurd (omega arith)
 
-  as_assign : assignment_precedence ≤ level → Operand within level before after value → Derives (assignForm within) before after value
+  as_assign : assignment_precedence ≤ level → Operand within level before after value → Derives (assign_form within) before after value
   as_assign high (unary_operand whole) = assign_binary (binary_unary whole)
   as_assign high (binary_operand tight from to whole) = assign_binary (binary_down from whole)
   as_assign high (assign_operand low whole) = whole
   as_assign high (expression_operand low whole) = absurd (omega arith)
 
-  pub as_expression : Operand within level before after value → Derives (expressionForm within) before after value
+  pub as_expression : Operand within level before after value → Derives (expression_form within) before after value
   as_expression (unary_operand whole) = expression_assign (assign_binary (binary_unary whole))
   as_expression (binary_operand tight from to whole) = expression_assign (assign_binary (binary_down from whole))
   as_expression (assign_operand low whole) = expression_assign whole
@@ -135,26 +135,26 @@ as_whole : (ending : Ending) {before after : List Token} {value : Syntax} → Op
 as_whole ending {before} {after} {value} = go (takes_comma ending)
   where
     go : (b : Bool) → Operand (allows_in ending) (cond b 1 assignment_precedence) before after value
-        → Derives (cond b (expressionForm (allows_in ending)) (assignForm (allows_in ending))) before after value
+        → Derives (cond b (expression_form (allows_in ending)) (assign_form (allows_in ending))) before after value
     go true operand = as_expression operand
     go false operand = as_assign (omega arith) operand
 
 -- An operator with what is before it: its kind, its mark and its left part; how tight it binds; the level of its right part, and what the
 -- next chain may be; the tokens before it and those behind it.
 pub data Begun (within : Bool) : ℕ → ℕ → Syntax → ℕ → ℕ → Target → List Token → List Token → Type 0 where
-  comma_begun : {sign : Spot} {before here : List Token} {left : Syntax} → Derives (expressionForm within) before (token comma sign ∷ here) left
-      → Begun within comma sign.mark left 1 assignment_precedence someTarget before here
+  comma_begun : {sign : Spot} {before here : List Token} {left : Syntax} → Derives (expression_form within) before (token comma sign ∷ here) left
+      → Begun within comma sign.mark left 1 assignment_precedence some_target before here
   assignment_begun : {class : ℕ} {sign : Spot} {before here : List Token} {left : Syntax} → T (is_among assignment_operators class)
-      → Derives (targetForm true) before (token class sign ∷ here) left
-      → Begun within class sign.mark left assignment_precedence assignment_precedence someTarget before here
+      → Derives (target_form true) before (token class sign ∷ here) left
+      → Begun within class sign.mark left assignment_precedence assignment_precedence some_target before here
   conditional_begun : {sign answer : Spot} {before inside here : List Token} {condition first : Syntax}
       → Derives (binary_form within least_binary) before (token question sign ∷ inside) condition → Assign inside (token colon answer ∷ here) first
-      → Begun within question sign.mark (snoc condition first) assignment_precedence assignment_precedence someTarget before here
+      → Begun within question sign.mark (snoc condition first) assignment_precedence assignment_precedence some_target before here
   binary_begun : {class : ℕ} {sign : Spot} {before here : List Token} {left : Syntax} → T (is_among (binary_operators_by within) class)
       → Derives (binary_form within (precedence class)) before (token class sign ∷ here) left
-      → Begun within class sign.mark left (precedence class) (precedence class + 1) noTarget before here
+      → Begun within class sign.mark left (precedence class) (precedence class + 1) no_target before here
   prefix_begun : {class : ℕ} {sign : Spot} {here : List Token} → T (is_among prefix_operators class)
-      → Begun within (prefix_kind class) sign.mark nil prefix_precedence prefix_precedence noTarget (token class sign ∷ here) here
+      → Begun within (prefix_kind class) sign.mark nil prefix_precedence prefix_precedence no_target (token class sign ∷ here) here
 
 -- its right part makes it whole
 begun_closes : {within : Bool} {kind mark tight level : ℕ} {next : Target} {before middle after : List Token} {left right : Syntax}
@@ -185,7 +185,7 @@ record Numbers (kind tight level : ℕ) (next : Target) : Type 0 where
   assignable : T (is_target next) → level ≤ assignment_precedence
   loose : level ≤ least_binary → level ≤ assignment_precedence
 
-loose_numbers : (kind tight : ℕ) → tightness kind ≡ tight → 1 ≤ tight → tight ≤ assignment_precedence → Numbers kind tight assignment_precedence someTarget
+loose_numbers : (kind tight : ℕ) → tightness kind ≡ tight → 1 ≤ tight → tight ≤ assignment_precedence → Numbers kind tight assignment_precedence some_target
 loose_numbers kind tight e from to = record {
   binds = e;
   as_tight = to;
@@ -196,7 +196,7 @@ loose_numbers kind tight e from to = record {
 }
 
 tight_numbers : (kind tight level : ℕ) → tightness kind ≡ tight → least_binary < level → tight ≤ level → level ≤ tight + 1 → level ≤ prefix_precedence
-    → Numbers kind tight level noTarget
+    → Numbers kind tight level no_target
 tight_numbers kind tight level e from up near to = record {
   binds = e;
   as_tight = up;
@@ -216,7 +216,7 @@ begun_numbers {within} (binary_begun {class = class} op left) =
     let among = binary_by within class op in
     go (precedence class) (binary_tightness class among) (binary_precedence class among) (binary_under_prefix class among)
   where
-    go : (tight : ℕ) → tightness class ≡ tight → least_binary ≤ tight → tight < prefix_precedence → Numbers class tight (tight + 1) noTarget
+    go : (tight : ℕ) → tightness class ≡ tight → least_binary ≤ tight → tight < prefix_precedence → Numbers class tight (tight + 1) no_target
     go tight e from to = tight_numbers class tight (tight + 1) e (omega arith) (omega arith) (omega arith) (omega arith)
 begun_numbers (prefix_begun {class = class} op) =
     tight_numbers (prefix_kind class) prefix_precedence prefix_precedence (prefix_tightness class op) (omega arith) (omega arith) (omega arith) (omega arith)
@@ -251,7 +251,7 @@ begun_calls {kind = kind} {tight = tight} {level = level} begun =
 
 -- no operator has a chain behind it that may be all there is
 never_lone : {A : Type 0} {within : Bool} {kind mark tight level : ℕ} {before here : List Token} {left : Syntax}
-    → Begun within kind mark left tight level loneTarget before here → A
+    → Begun within kind mark left tight level lone_target before here → A
 never_lone begun = elim begun [ ]
 
 -- what waits for a part of a level binds less tight than any above
@@ -399,8 +399,8 @@ module _ (ending : Ending) (done : Syntax) (starts : List Pending) where
   }
 
   target_closes : {target : Target} {level : ℕ} {waiting : List Pending} {first before after : List Token} {last : Syntax}
-      → Waiting ending target level waiting first before → Derives (targetForm (may_call waiting)) before after last
-      → NewsClosed target (targetForm true) waiting first after last
+      → Waiting ending target level waiting first before → Derives (target_form (may_call waiting)) before after last
+      → NewsClosed target (target_form true) waiting first after last
   target_closes (none_waits may) whole =
       no_news (none_waits may) (at_most (whole_level ending) assignment_precedence prefix_precedence (whole-level ending) (omega arith)) whole
   target_closes (operator_waits w fits begun) whole =
@@ -420,11 +420,11 @@ module _ (ending : Ending) (done : Syntax) (starts : List Pending) where
 
   pub chain_closes : {target : Target} {level : ℕ} {waiting : List Pending} {first before after : List Token} {last : Syntax}
       → Waiting ending target level waiting first before → Chain (may_call waiting) before after last
-      → NewsClosed target (targetForm true) waiting first after last
+      → NewsClosed target (target_form true) waiting first after last
   chain_closes w chain = target_closes w (target_chain chain)
 
   pub chain_unary : {target : Target} {waiting : List Pending} {first after : List Token} {last : Syntax}
-      → NewsClosed target (targetForm true) waiting first after last → NewsClosed target unary_form waiting first after last
+      → NewsClosed target (target_form true) waiting first after last → NewsClosed target unary_form waiting first after last
   chain_unary r = record {
     level = r.level;
     left = r.left;
@@ -437,13 +437,13 @@ module _ (ending : Ending) (done : Syntax) (starts : List Pending) where
   }
 
   -- where the chain may be all there is, nothing but them waits
-  pub lone_closes : {waiting : List Pending} {first after : List Token} {last : Syntax} → NewsClosed loneTarget (targetForm true) waiting first after last
-      → AllClosed (targetForm true) waiting first after last
+  pub lone_closes : {waiting : List Pending} {first after : List Token} {last : Syntax} → NewsClosed lone_target (target_form true) waiting first after last
+      → AllClosed (target_form true) waiting first after last
   lone_closes {waiting} {first} {after} {last} r = go r.waits r.fits (r.same 0 (omega arith)) r.whole
     where
-      go : {level : ℕ} {left : List Pending} {before : List Token} {value : Syntax} → Waiting ending loneTarget level left first before
-          → level ≤ prefix_precedence → reduce 0 done starts waiting last ≡ reduce 0 done starts left value → Derives (targetForm true) before after value
-          → AllClosed (targetForm true) waiting first after last
+      go : {level : ℕ} {left : List Pending} {before : List Token} {value : Syntax} → Waiting ending lone_target level left first before
+          → level ≤ prefix_precedence → reduce 0 done starts waiting last ≡ reduce 0 done starts left value → Derives (target_form true) before after value
+          → AllClosed (target_form true) waiting first after last
       go {value = value} (none_waits may) fits same whole = record { value = value; same = same; whole = whole }
       go (operator_waits w loose begun) fits same whole = never_lone begun
       go (new_waits w) fits same whole = absurd (omega arith)

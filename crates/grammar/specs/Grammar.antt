@@ -49,7 +49,7 @@ use Rattle.machine.specs.Tokens.{
   close_bracket,
 }
 pub use Rattle.machine.specs.Operators.{precedence, least_binary, assignment_operators, binary_operators, binary_operators_by, prefix_operators, prefix_kind, postfix_operators, postfix_kind, is_among}
-pub use Rattle.machine.specs.Scopes.{Scope, body, block, Items, callArguments, arrayElements, objectProperties}
+pub use Rattle.machine.specs.Scopes.{Scope, body, block, Items, call_arguments, array_elements, object_properties}
 use Rattle.machine.specs.Syntax.{Syntax, nil, node, snoc, object_syntax, parenthesised_syntax, function_syntax, member_syntax, call_syntax, construct_syntax, expression_syntax, bare_return_syntax, full_return_syntax, block_syntax, label_syntax, if_syntax, declaration_syntax, array_syntax, index_syntax, variable_syntax, empty_syntax, for_in_syntax, bare_continue_syntax, bare_break_syntax}
 
 -- "name, number, string, regular expression", and the four value words of document 02, U4: the class of the token is the kind of the part
@@ -100,16 +100,16 @@ pub data JumpWord : ℕ → ℕ → Type 0 where
 
 -- where the value of an item starts: with the item, or behind "name `:`" of a property
 pub data ItemStart : Items → List Token → List Token → Type 0 where
-  at_argument : {here : List Token} → ItemStart callArguments here here
-  at_element : {here : List Token} → ItemStart arrayElements here here
+  at_argument : {here : List Token} → ItemStart call_arguments here here
+  at_element : {here : List Token} → ItemStart array_elements here here
   at_property : {class : ℕ} {called sign : Spot} {here : List Token} → IdentifierName class
-      → ItemStart objectProperties (token class called ∷ token colon sign ∷ here) here
+      → ItemStart object_properties (token class called ∷ token colon sign ∷ here) here
 
 -- "a `,` may follow the last property"; it may follow the last element of an array too, which is no hole (ES5.1 11.1.4), and follows no last argument
 abbrev pub may_end_in_comma : Items → Bool
-may_end_in_comma callArguments = false
-may_end_in_comma arrayElements = true
-may_end_in_comma objectProperties = true
+may_end_in_comma call_arguments = false
+may_end_in_comma array_elements = true
+may_end_in_comma object_properties = true
 
 -- names with a `,` between any two
 pub data Names : List Token → List Token → Type 0 where
@@ -129,160 +129,160 @@ pub data Parameters : List Token → List Token → Type 0 where
 -- that it may have calls
 pub data Form : Type 0 where
   statements_form : Scope → Form
-  statementForm blockForm catchForm finallyForm functionForm : Form
-  clausesForm variablesForm variableForm optionalForm expressionForm assignForm : Bool → Form
+  statement_form block_form catch_form finally_form function_form : Form
+  clauses_form variables_form variable_form optional_form expression_form assign_form : Bool → Form
   binary_form : Bool → ℕ → Form
   unary_form : Form
-  targetForm chainForm : Bool → Form
-  itemsForm listForm : Items → Form
+  target_form chain_form : Bool → Form
+  items_form list_form : Items → Form
 
 pub data Derives : Form → List Token → List Token → Syntax → Type 0 where
   -- "Program and function body: statements and declarations, possibly none", and the statements of a block and of a clause
   no_statements : {scope : Scope} {here : List Token} → Derives (statements_form scope) here here nil
   add_statement : {scope : Scope} {before middle after : List Token} {statements last : Syntax}
-      → Derives (statements_form scope) before middle statements → Derives statementForm middle after last
+      → Derives (statements_form scope) before middle statements → Derives statement_form middle after last
       → Derives (statements_form scope) before after (snoc statements last)
   add_declaration : {word called : Spot} {before rest after : List Token} {statements inside : Syntax}
-      → Derives (statements_form body) before (token function_word word ∷ token name called ∷ rest) statements → Derives functionForm rest after inside
+      → Derives (statements_form body) before (token function_word word ∷ token name called ∷ rest) statements → Derives function_form rest after inside
       → Derives (statements_form body) before after (snoc statements (node declaration_syntax word.mark inside nil))
   -- "block of statements (no declarations), possibly none"
   block_all : {opener closer : Spot} {inside after : List Token} {statements : Syntax}
       → Derives (statements_form block) inside (token close_brace closer ∷ after) statements
-      → Derives blockForm (token open_brace opener ∷ inside) after (node block_syntax opener.mark statements nil)
-  statement_block : {before after : List Token} {inner : Syntax} → Derives blockForm before after inner → Derives statementForm before after inner
+      → Derives block_form (token open_brace opener ∷ inside) after (node block_syntax opener.mark statements nil)
+  statement_block : {before after : List Token} {inner : Syntax} → Derives block_form before after inner → Derives statement_form before after inner
   -- "expression .. `;` not starting with `{` or `function`". Where document 01 has an Assign here, in `if ( )`, `return` and `( )`, and U2 behind a Chain in `[ ]`,
   -- document 02, U4, has "the comma operator where ES5.1 has Expression"
   statement_expression : {end : Spot} {before after : List Token} {value : Syntax}
-      → T (starts_expression before) → Derives (expressionForm true) before (token semicolon end ∷ after) value
-      → Derives statementForm before after (node expression_syntax end.mark value nil)
+      → T (starts_expression before) → Derives (expression_form true) before (token semicolon end ∷ after) value
+      → Derives statement_form before after (node expression_syntax end.mark value nil)
   -- document 02, U6: "as in ES5.1 chapter 12": 12.2, `var` with its variables, of which the last has no `,` behind it
-  statement_var : {word end : Spot} {before middle after : List Token} {variables last : Syntax} → Derives (variablesForm true) before middle variables
-      → Derives (variableForm true) middle (token semicolon end ∷ after) last
-      → Derives statementForm (token var_word word ∷ before) after (node var_word word.mark variables last)
-  no_variables : {within : Bool} {here : List Token} → Derives (variablesForm within) here here nil
-  add_variable : {within : Bool} {sign : Spot} {before middle after : List Token} {variables last : Syntax} → Derives (variablesForm within) before middle variables
-      → Derives (variableForm within) middle (token comma sign ∷ after) last → Derives (variablesForm within) before after (snoc variables last)
+  statement_var : {word end : Spot} {before middle after : List Token} {variables last : Syntax} → Derives (variables_form true) before middle variables
+      → Derives (variable_form true) middle (token semicolon end ∷ after) last
+      → Derives statement_form (token var_word word ∷ before) after (node var_word word.mark variables last)
+  no_variables : {within : Bool} {here : List Token} → Derives (variables_form within) here here nil
+  add_variable : {within : Bool} {sign : Spot} {before middle after : List Token} {variables last : Syntax} → Derives (variables_form within) before middle variables
+      → Derives (variable_form within) middle (token comma sign ∷ after) last → Derives (variables_form within) before after (snoc variables last)
   -- a name, with or without an initialiser; its `=` makes no record
   variable_bare : {within : Bool} {called : Spot} {after : List Token}
-      → Derives (variableForm within) (token name called ∷ after) after (node variable_syntax called.mark nil nil)
-  variable_initialised : {within : Bool} {called sign : Spot} {before after : List Token} {value : Syntax} → Derives (assignForm within) before after value
-      → Derives (variableForm within) (token name called ∷ token assign sign ∷ before) after (node variable_syntax called.mark nil value)
+      → Derives (variable_form within) (token name called ∷ after) after (node variable_syntax called.mark nil nil)
+  variable_initialised : {within : Bool} {called sign : Spot} {before after : List Token} {value : Syntax} → Derives (assign_form within) before after value
+      → Derives (variable_form within) (token name called ∷ token assign sign ∷ before) after (node variable_syntax called.mark nil value)
   -- 12.3: the empty statement
-  statement_empty : {end : Spot} {after : List Token} → Derives statementForm (token semicolon end ∷ after) after (node empty_syntax end.mark nil nil)
+  statement_empty : {end : Spot} {after : List Token} → Derives statement_form (token semicolon end ∷ after) after (node empty_syntax end.mark nil nil)
   -- "`if ( Assign )` statement", with an Expression
   statement_if : {word opener closer : Spot} {inside middle after : List Token} {condition inner : Syntax} → T (no_else after)
-      → Derives (expressionForm true) inside (token close_paren closer ∷ middle) condition → Derives statementForm middle after inner
-      → Derives statementForm (token if_word word ∷ token open_paren opener ∷ inside) after (node if_syntax word.mark condition inner)
+      → Derives (expression_form true) inside (token close_paren closer ∷ middle) condition → Derives statement_form middle after inner
+      → Derives statement_form (token if_word word ∷ token open_paren opener ∷ inside) after (node if_syntax word.mark condition inner)
   -- 12.5: `if` with `else`, whose part holds the whole `if` before it
   statement_else : {word opener closer other : Spot} {inside middle rest after : List Token} {condition first second : Syntax}
-      → Derives (expressionForm true) inside (token close_paren closer ∷ middle) condition → Derives statementForm middle (token else_word other ∷ rest) first
-      → Derives statementForm rest after second
-      → Derives statementForm (token if_word word ∷ token open_paren opener ∷ inside) after
+      → Derives (expression_form true) inside (token close_paren closer ∷ middle) condition → Derives statement_form middle (token else_word other ∷ rest) first
+      → Derives statement_form rest after second
+      → Derives statement_form (token if_word word ∷ token open_paren opener ∷ inside) after
       (node else_word other.mark (node if_syntax word.mark condition first) second)
   -- 12.6.1: `do`, "semicolons written out"
   statement_do : {word other opener closer end : Spot} {before inside after : List Token} {inner condition : Syntax}
-      → Derives statementForm before (token while_word other ∷ token open_paren opener ∷ inside) inner
-      → Derives (expressionForm true) inside (token close_paren closer ∷ token semicolon end ∷ after) condition
-      → Derives statementForm (token do_word word ∷ before) after (node do_word word.mark inner condition)
+      → Derives statement_form before (token while_word other ∷ token open_paren opener ∷ inside) inner
+      → Derives (expression_form true) inside (token close_paren closer ∷ token semicolon end ∷ after) condition
+      → Derives statement_form (token do_word word ∷ before) after (node do_word word.mark inner condition)
   -- 12.6.2 and 12.10: `while` and `with`
   statement_head : {class : ℕ} {word opener closer : Spot} {inside middle after : List Token} {head inner : Syntax} → HeadWord class
-      → Derives (expressionForm true) inside (token close_paren closer ∷ middle) head → Derives statementForm middle after inner
-      → Derives statementForm (token class word ∷ token open_paren opener ∷ inside) after (node class word.mark head inner)
+      → Derives (expression_form true) inside (token close_paren closer ∷ middle) head → Derives statement_form middle after inner
+      → Derives statement_form (token class word ∷ token open_paren opener ∷ inside) after (node class word.mark head inner)
   -- 12.6.3: `for` with two `;`, behind each of which and before the first of which an Expression may be left out, or variables in the place of the first
   statement_for : {word opener first second closer : Spot} {inside test update middle after : List Token} {start condition step inner : Syntax}
-      → Derives (optionalForm false) inside (token semicolon first ∷ test) start → Derives (optionalForm true) test (token semicolon second ∷ update) condition
-      → Derives (optionalForm true) update (token close_paren closer ∷ middle) step → Derives statementForm middle after inner
-      → Derives statementForm (token for_word word ∷ token open_paren opener ∷ inside) after
+      → Derives (optional_form false) inside (token semicolon first ∷ test) start → Derives (optional_form true) test (token semicolon second ∷ update) condition
+      → Derives (optional_form true) update (token close_paren closer ∷ middle) step → Derives statement_form middle after inner
+      → Derives statement_form (token for_word word ∷ token open_paren opener ∷ inside) after
       (node for_word word.mark (snoc (snoc (snoc nil start) condition) step) inner)
   statement_for_var : {word opener declared first second closer : Spot} {inside named test update middle after : List Token}
-      {variables last condition step inner : Syntax} → Derives (variablesForm false) inside named variables
-      → Derives (variableForm false) named (token semicolon first ∷ test) last → Derives (optionalForm true) test (token semicolon second ∷ update) condition
-      → Derives (optionalForm true) update (token close_paren closer ∷ middle) step → Derives statementForm middle after inner
-      → Derives statementForm (token for_word word ∷ token open_paren opener ∷ token var_word declared ∷ inside) after
+      {variables last condition step inner : Syntax} → Derives (variables_form false) inside named variables
+      → Derives (variable_form false) named (token semicolon first ∷ test) last → Derives (optional_form true) test (token semicolon second ∷ update) condition
+      → Derives (optional_form true) update (token close_paren closer ∷ middle) step → Derives statement_form middle after inner
+      → Derives statement_form (token for_word word ∷ token open_paren opener ∷ token var_word declared ∷ inside) after
       (node for_word word.mark (snoc (snoc (snoc nil (node var_word declared.mark variables last)) condition) step) inner)
-  left_out : {within : Bool} {here : List Token} → Derives (optionalForm within) here here nil
-  not_left_out : {within : Bool} {before after : List Token} {value : Syntax} → Derives (expressionForm within) before after value
-      → Derives (optionalForm within) before after value
+  left_out : {within : Bool} {here : List Token} → Derives (optional_form within) here here nil
+  not_left_out : {within : Bool} {before after : List Token} {value : Syntax} → Derives (expression_form within) before after value
+      → Derives (optional_form within) before after value
   -- 12.6.4: `for` with `in`, behind a Target or one variable; the `in` makes no record
   statement_for_in : {word opener sign closer : Spot} {inside rest middle after : List Token} {target object inner : Syntax}
-      → Derives (targetForm true) inside (token in_word sign ∷ rest) target → Derives (expressionForm true) rest (token close_paren closer ∷ middle) object
-      → Derives statementForm middle after inner
-      → Derives statementForm (token for_word word ∷ token open_paren opener ∷ inside) after (node for_in_syntax word.mark (snoc (snoc nil target) object) inner)
+      → Derives (target_form true) inside (token in_word sign ∷ rest) target → Derives (expression_form true) rest (token close_paren closer ∷ middle) object
+      → Derives statement_form middle after inner
+      → Derives statement_form (token for_word word ∷ token open_paren opener ∷ inside) after (node for_in_syntax word.mark (snoc (snoc nil target) object) inner)
   statement_for_var_in : {word opener declared sign closer : Spot} {inside rest middle after : List Token} {variable object inner : Syntax}
-      → Derives (variableForm false) inside (token in_word sign ∷ rest) variable → Derives (expressionForm true) rest (token close_paren closer ∷ middle) object
-      → Derives statementForm middle after inner
-      → Derives statementForm (token for_word word ∷ token open_paren opener ∷ token var_word declared ∷ inside) after
+      → Derives (variable_form false) inside (token in_word sign ∷ rest) variable → Derives (expression_form true) rest (token close_paren closer ∷ middle) object
+      → Derives statement_form middle after inner
+      → Derives statement_form (token for_word word ∷ token open_paren opener ∷ token var_word declared ∷ inside) after
       (node for_in_syntax word.mark (snoc (snoc nil (node var_word declared.mark nil variable)) object) inner)
   -- 12.7 and 12.8: `continue` and `break`, which "may stand anywhere", bare and with a label on the same line; the label makes no record
   statement_bare_jump : {class bare : ℕ} {word end : Spot} {after : List Token} → JumpWord class bare
-      → Derives statementForm (token class word ∷ token semicolon end ∷ after) after (node bare word.mark nil nil)
+      → Derives statement_form (token class word ∷ token semicolon end ∷ after) after (node bare word.mark nil nil)
   statement_jump : {class bare : ℕ} {word label end : Spot} {after : List Token} → JumpWord class bare → T (not label.newline)
-      → Derives statementForm (token class word ∷ token name label ∷ token semicolon end ∷ after) after (node class word.mark nil nil)
+      → Derives statement_form (token class word ∷ token name label ∷ token semicolon end ∷ after) after (node class word.mark nil nil)
   -- "`return ;`". "Return may stand anywhere": no form asks what stands around it
   statement_bare_return : {word end : Spot} {after : List Token}
-      → Derives statementForm (token return_word word ∷ token semicolon end ∷ after) after (node bare_return_syntax word.mark nil nil)
+      → Derives statement_form (token return_word word ∷ token semicolon end ∷ after) after (node bare_return_syntax word.mark nil nil)
   -- "`return Assign ;` with no line end after `return`", with an Expression
   statement_full_return : {word end : Spot} {before after : List Token} {value : Syntax}
-      → T (on_same_line before) → Derives (expressionForm true) before (token semicolon end ∷ after) value
-      → Derives statementForm (token return_word word ∷ before) after (node full_return_syntax word.mark nil value)
+      → T (on_same_line before) → Derives (expression_form true) before (token semicolon end ∷ after) value
+      → Derives statement_form (token return_word word ∷ before) after (node full_return_syntax word.mark nil value)
   -- 12.11: `switch`, with clauses of which at most one is a `default`; the Boolean of clauses says whether one is
   statement_switch : {word openHead closeHead opener closer : Spot} {seen : Bool} {inside clauses after : List Token} {subject cases : Syntax}
-      → Derives (expressionForm true) inside (token close_paren closeHead ∷ token open_brace opener ∷ clauses) subject
-      → Derives (clausesForm seen) clauses (token close_brace closer ∷ after) cases
-      → Derives statementForm (token switch_word word ∷ token open_paren openHead ∷ inside) after (node switch_word word.mark subject cases)
-  no_clauses : {here : List Token} → Derives (clausesForm false) here here nil
+      → Derives (expression_form true) inside (token close_paren closeHead ∷ token open_brace opener ∷ clauses) subject
+      → Derives (clauses_form seen) clauses (token close_brace closer ∷ after) cases
+      → Derives statement_form (token switch_word word ∷ token open_paren openHead ∷ inside) after (node switch_word word.mark subject cases)
+  no_clauses : {here : List Token} → Derives (clauses_form false) here here nil
   add_case : {seen : Bool} {word sign : Spot} {before value inside after : List Token} {cases test statements : Syntax}
-      → Derives (clausesForm seen) before (token case_word word ∷ value) cases → Derives (expressionForm true) value (token colon sign ∷ inside) test
+      → Derives (clauses_form seen) before (token case_word word ∷ value) cases → Derives (expression_form true) value (token colon sign ∷ inside) test
       → Derives (statements_form block) inside after statements
-      → Derives (clausesForm seen) before after (snoc cases (node case_word word.mark test statements))
+      → Derives (clauses_form seen) before after (snoc cases (node case_word word.mark test statements))
   add_default : {word sign : Spot} {before inside after : List Token} {cases statements : Syntax}
-      → Derives (clausesForm false) before (token default_word word ∷ token colon sign ∷ inside) cases → Derives (statements_form block) inside after statements
-      → Derives (clausesForm true) before after (snoc cases (node default_word word.mark nil statements))
+      → Derives (clauses_form false) before (token default_word word ∷ token colon sign ∷ inside) cases → Derives (statements_form block) inside after statements
+      → Derives (clauses_form true) before after (snoc cases (node default_word word.mark nil statements))
   -- 12.13: `throw`, with no line end behind it
   statement_throw : {word end : Spot} {before after : List Token} {value : Syntax} → T (on_same_line before)
-      → Derives (expressionForm true) before (token semicolon end ∷ after) value
-      → Derives statementForm (token throw_word word ∷ before) after (node throw_word word.mark nil value)
+      → Derives (expression_form true) before (token semicolon end ∷ after) value
+      → Derives statement_form (token throw_word word ∷ before) after (node throw_word word.mark nil value)
   -- 12.14: `try` with `catch`, `finally` or both; the parameter makes no record
-  statement_try : {word : Spot} {before middle after : List Token} {inner handler : Syntax} → T (no_finally after) → Derives blockForm before middle inner
-      → Derives catchForm middle after handler → Derives statementForm (token try_word word ∷ before) after (node try_word word.mark (snoc (snoc nil inner) handler) nil)
-  statement_try_finally : {word : Spot} {before middle after : List Token} {inner last : Syntax} → Derives blockForm before middle inner
-      → Derives finallyForm middle after last → Derives statementForm (token try_word word ∷ before) after (node try_word word.mark (snoc (snoc nil inner) last) nil)
-  statement_try_all : {word : Spot} {before middle rest after : List Token} {inner handler last : Syntax} → Derives blockForm before middle inner
-      → Derives catchForm middle rest handler → Derives finallyForm rest after last
-      → Derives statementForm (token try_word word ∷ before) after (node try_word word.mark (snoc (snoc (snoc nil inner) handler) last) nil)
-  catch_all : {word opener called closer : Spot} {inside after : List Token} {inner : Syntax} → Derives blockForm inside after inner
-      → Derives catchForm (token catch_word word ∷ token open_paren opener ∷ token name called ∷ token close_paren closer ∷ inside) after
+  statement_try : {word : Spot} {before middle after : List Token} {inner handler : Syntax} → T (no_finally after) → Derives block_form before middle inner
+      → Derives catch_form middle after handler → Derives statement_form (token try_word word ∷ before) after (node try_word word.mark (snoc (snoc nil inner) handler) nil)
+  statement_try_finally : {word : Spot} {before middle after : List Token} {inner last : Syntax} → Derives block_form before middle inner
+      → Derives finally_form middle after last → Derives statement_form (token try_word word ∷ before) after (node try_word word.mark (snoc (snoc nil inner) last) nil)
+  statement_try_all : {word : Spot} {before middle rest after : List Token} {inner handler last : Syntax} → Derives block_form before middle inner
+      → Derives catch_form middle rest handler → Derives finally_form rest after last
+      → Derives statement_form (token try_word word ∷ before) after (node try_word word.mark (snoc (snoc (snoc nil inner) handler) last) nil)
+  catch_all : {word opener called closer : Spot} {inside after : List Token} {inner : Syntax} → Derives block_form inside after inner
+      → Derives catch_form (token catch_word word ∷ token open_paren opener ∷ token name called ∷ token close_paren closer ∷ inside) after
       (node catch_word word.mark nil inner)
-  finally_all : {word : Spot} {inside after : List Token} {inner : Syntax} → Derives blockForm inside after inner
-      → Derives finallyForm (token finally_word word ∷ inside) after (node finally_word word.mark nil inner)
+  finally_all : {word : Spot} {inside after : List Token} {inner : Syntax} → Derives block_form inside after inner
+      → Derives finally_form (token finally_word word ∷ inside) after (node finally_word word.mark nil inner)
   -- 12.15: `debugger`
   statement_debugger : {word end : Spot} {after : List Token}
-      → Derives statementForm (token debugger_word word ∷ token semicolon end ∷ after) after (node debugger_word word.mark nil nil)
+      → Derives statement_form (token debugger_word word ∷ token semicolon end ∷ after) after (node debugger_word word.mark nil nil)
   -- "name `:` statement"
-  statement_label : {label sign : Spot} {middle after : List Token} {inner : Syntax} → Derives statementForm middle after inner
-      → Derives statementForm (token name label ∷ token colon sign ∷ middle) after (node label_syntax label.mark nil inner)
+  statement_label : {label sign : Spot} {middle after : List Token} {inner : Syntax} → Derives statement_form middle after inner
+      → Derives statement_form (token name label ∷ token colon sign ∷ middle) after (node label_syntax label.mark nil inner)
   -- "Function: `function` name `( name )` block holding a body", with any number of parameters (document 02, U2), behind its word and its name
   function_all : {opener closer openBody closeBody : Spot} {named inside after : List Token} {statements : Syntax}
       → Parameters named (token close_paren closer ∷ token open_brace openBody ∷ inside)
       → Derives (statements_form body) inside (token close_brace closeBody ∷ after) statements
-      → Derives functionForm (token open_paren opener ∷ named) after statements
+      → Derives function_form (token open_paren opener ∷ named) after statements
   -- ES5.1 11.14: Expression: an Assign, or Expression `,` Assign
-  expression_assign : {within : Bool} {before after : List Token} {value : Syntax} → Derives (assignForm within) before after value
-      → Derives (expressionForm within) before after value
+  expression_assign : {within : Bool} {before after : List Token} {value : Syntax} → Derives (assign_form within) before after value
+      → Derives (expression_form within) before after value
   expression_comma : {within : Bool} {sign : Spot} {before middle after : List Token} {left right : Syntax}
-      → Derives (expressionForm within) before (token comma sign ∷ middle) left → Derives (assignForm within) middle after right
-      → Derives (expressionForm within) before after (node comma sign.mark left right)
+      → Derives (expression_form within) before (token comma sign ∷ middle) left → Derives (assign_form within) middle after right
+      → Derives (expression_form within) before after (node comma sign.mark left right)
   -- "Assign: Binary, or Chain `=` Assign.", with all twelve operators (11.13)
   assign_binary : {within : Bool} {before after : List Token} {value : Syntax} → Derives (binary_form within least_binary) before after value
-      → Derives (assignForm within) before after value
+      → Derives (assign_form within) before after value
   assign_to : {within : Bool} {class : ℕ} {sign : Spot} {before middle after : List Token} {target value : Syntax} → T (is_among assignment_operators class)
-      → Derives (targetForm true) before (token class sign ∷ middle) target → Derives (assignForm within) middle after value
-      → Derives (assignForm within) before after (node class sign.mark target value)
+      → Derives (target_form true) before (token class sign ∷ middle) target → Derives (assign_form within) middle after value
+      → Derives (assign_form within) before after (node class sign.mark target value)
   -- 11.12: the conditional; between its signs `in` is an operator wherever it stands
   assign_conditional : {within : Bool} {sign answer : Spot} {before inside middle after : List Token} {condition first second : Syntax}
-      → Derives (binary_form within least_binary) before (token question sign ∷ inside) condition → Derives (assignForm true) inside (token colon answer ∷ middle) first
-      → Derives (assignForm within) middle after second
-      → Derives (assignForm within) before after (node question sign.mark (snoc condition first) second)
+      → Derives (binary_form within least_binary) before (token question sign ∷ inside) condition → Derives (assign_form true) inside (token colon answer ∷ middle) first
+      → Derives (assign_form within) middle after second
+      → Derives (assign_form within) before after (node question sign.mark (snoc condition first) second)
   -- "Binary: Chains joined by `/` and `+`; `/` binds tighter, both group to the left.", with all binary operators (11.5 to 11.11)
   binary_unary : {within : Bool} {least : ℕ} {before after : List Token} {value : Syntax} → Derives unary_form before after value
       → Derives (binary_form within least) before after value
@@ -292,82 +292,82 @@ pub data Derives : Form → List Token → List Token → Syntax → Type 0 wher
       → Derives (binary_form within (precedence class + 1)) middle after right
       → Derives (binary_form within least) before after (node class sign.mark left right)
   -- 11.4 and 11.3: a Unary is a Target, has an operator before it, or is a Target with one after it and no line end between
-  unary_target : {before after : List Token} {value : Syntax} → Derives (targetForm true) before after value → Derives unary_form before after value
+  unary_target : {before after : List Token} {value : Syntax} → Derives (target_form true) before after value → Derives unary_form before after value
   unary_prefix : {class : ℕ} {sign : Spot} {middle after : List Token} {value : Syntax} → T (is_among prefix_operators class)
       → Derives unary_form middle after value → Derives unary_form (token class sign ∷ middle) after (node (prefix_kind class) sign.mark nil value)
   unary_postfix : {class : ℕ} {sign : Spot} {before after : List Token} {value : Syntax} → T (is_among postfix_operators class) → T (not sign.newline)
-      → Derives (targetForm true) before (token class sign ∷ after) value
+      → Derives (target_form true) before (token class sign ∷ after) value
       → Derives unary_form before after (node (postfix_kind class) sign.mark value nil)
   -- 11.2: a Target is a Chain, or `new` without arguments
-  target_chain : {calls : Bool} {before after : List Token} {value : Syntax} → Derives (chainForm calls) before after value
-      → Derives (targetForm calls) before after value
-  target_new : {calls : Bool} {word : Spot} {middle after : List Token} {value : Syntax} → Derives (targetForm false) middle after value
-      → Derives (targetForm calls) (token new_word word ∷ middle) after (node new_word word.mark nil value)
+  target_chain : {calls : Bool} {before after : List Token} {value : Syntax} → Derives (chain_form calls) before after value
+      → Derives (target_form calls) before after value
+  target_new : {calls : Bool} {word : Spot} {middle after : List Token} {value : Syntax} → Derives (target_form false) middle after value
+      → Derives (target_form calls) (token new_word word ∷ middle) after (node new_word word.mark nil value)
   -- "Chain: name, number, string, regular expression, `{ }`, `{ name : Assign }`, `( Assign )` or function, then any run of
   -- `( Assign )` and `. name`.", with lists of any length (U2), an Expression in `( )` (U4) and the value words
   chain_leaf : {calls : Bool} {class : ℕ} {spot : Spot} {after : List Token} → Leaf class
-      → Derives (chainForm calls) (token class spot ∷ after) after (node class spot.mark nil nil)
+      → Derives (chain_form calls) (token class spot ∷ after) after (node class spot.mark nil nil)
   -- document 02, U2: "arrays with holes"
   chain_array : {calls : Bool} {opener closer : Spot} {inside after : List Token} {values : Syntax}
-      → Derives (listForm arrayElements) inside (token close_bracket closer ∷ after) values
-      → Derives (chainForm calls) (token open_bracket opener ∷ inside) after (node array_syntax opener.mark values nil)
+      → Derives (list_form array_elements) inside (token close_bracket closer ∷ after) values
+      → Derives (chain_form calls) (token open_bracket opener ∷ inside) after (node array_syntax opener.mark values nil)
   -- "any number of .. properties": `{ }` has none
   chain_object : {calls : Bool} {opener closer : Spot} {inside after : List Token} {values : Syntax}
-      → Derives (listForm objectProperties) inside (token close_brace closer ∷ after) values
-      → Derives (chainForm calls) (token open_brace opener ∷ inside) after (node object_syntax opener.mark values nil)
+      → Derives (list_form object_properties) inside (token close_brace closer ∷ after) values
+      → Derives (chain_form calls) (token open_brace opener ∷ inside) after (node object_syntax opener.mark values nil)
   chain_parens : {calls : Bool} {opener closer : Spot} {inside after : List Token} {value : Syntax}
-      → Derives (expressionForm true) inside (token close_paren closer ∷ after) value
-      → Derives (chainForm calls) (token open_paren opener ∷ inside) after (node parenthesised_syntax opener.mark value nil)
-  chain_function : {calls : Bool} {word called : Spot} {rest after : List Token} {inside : Syntax} → Derives functionForm rest after inside
-      → Derives (chainForm calls) (token function_word word ∷ token name called ∷ rest) after (node function_syntax word.mark inside nil)
+      → Derives (expression_form true) inside (token close_paren closer ∷ after) value
+      → Derives (chain_form calls) (token open_paren opener ∷ inside) after (node parenthesised_syntax opener.mark value nil)
+  chain_function : {calls : Bool} {word called : Spot} {rest after : List Token} {inside : Syntax} → Derives function_form rest after inside
+      → Derives (chain_form calls) (token function_word word ∷ token name called ∷ rest) after (node function_syntax word.mark inside nil)
   -- "unnamed function expressions"
-  chain_unnamed : {calls : Bool} {word : Spot} {rest after : List Token} {inside : Syntax} → Derives functionForm rest after inside
-      → Derives (chainForm calls) (token function_word word ∷ rest) after (node function_syntax word.mark inside nil)
+  chain_unnamed : {calls : Bool} {word : Spot} {rest after : List Token} {inside : Syntax} → Derives function_form rest after inside
+      → Derives (chain_form calls) (token function_word word ∷ rest) after (node function_syntax word.mark inside nil)
   -- "indexing"
   chain_index : {calls : Bool} {opener closer : Spot} {before inside after : List Token} {object value : Syntax}
-      → Derives (chainForm calls) before (token open_bracket opener ∷ inside) object
-      → Derives (expressionForm true) inside (token close_bracket closer ∷ after) value
-      → Derives (chainForm calls) before after (node index_syntax opener.mark object value)
+      → Derives (chain_form calls) before (token open_bracket opener ∷ inside) object
+      → Derives (expression_form true) inside (token close_bracket closer ∷ after) value
+      → Derives (chain_form calls) before after (node index_syntax opener.mark object value)
   chain_member : {calls : Bool} {class : ℕ} {sign property : Spot} {before after : List Token} {object : Syntax} → IdentifierName class
-      → Derives (chainForm calls) before (token dot sign ∷ token class property ∷ after) object
-      → Derives (chainForm calls) before after (node member_syntax property.mark object nil)
+      → Derives (chain_form calls) before (token dot sign ∷ token class property ∷ after) object
+      → Derives (chain_form calls) before after (node member_syntax property.mark object nil)
   -- "any number of arguments": of a call, and of `new` with what it makes, which has no calls
   chain_call : {opener closer : Spot} {before inside after : List Token} {callee values : Syntax}
-      → Derives (chainForm true) before (token open_paren opener ∷ inside) callee
-      → Derives (listForm callArguments) inside (token close_paren closer ∷ after) values
-      → Derives (chainForm true) before after (node call_syntax opener.mark callee values)
+      → Derives (chain_form true) before (token open_paren opener ∷ inside) callee
+      → Derives (list_form call_arguments) inside (token close_paren closer ∷ after) values
+      → Derives (chain_form true) before after (node call_syntax opener.mark callee values)
   chain_new : {calls : Bool} {word opener closer : Spot} {before inside after : List Token} {callee values : Syntax}
-      → Derives (chainForm false) before (token open_paren opener ∷ inside) callee
-      → Derives (listForm callArguments) inside (token close_paren closer ∷ after) values
-      → Derives (chainForm calls) (token new_word word ∷ before) after (node construct_syntax word.mark callee values)
+      → Derives (chain_form false) before (token open_paren opener ∷ inside) callee
+      → Derives (list_form call_arguments) inside (token close_paren closer ∷ after) values
+      → Derives (chain_form calls) (token new_word word ∷ before) after (node construct_syntax word.mark callee values)
   -- items with a `,` behind each; a `,` makes no record. In an array a `,` that stands where an element would is a hole, and so makes none either
-  no_items : {items : Items} {here : List Token} → Derives (itemsForm items) here here nil
+  no_items : {items : Items} {here : List Token} → Derives (items_form items) here here nil
   add_item : {items : Items} {sign : Spot} {before middle first after : List Token} {values last : Syntax}
-      → Derives (itemsForm items) before middle values → ItemStart items middle first → Derives (assignForm true) first (token comma sign ∷ after) last
-      → Derives (itemsForm items) before after (snoc values last)
-  add_hole : {sign : Spot} {before after : List Token} {values : Syntax} → Derives (itemsForm arrayElements) before (token comma sign ∷ after) values
-      → Derives (itemsForm arrayElements) before after values
+      → Derives (items_form items) before middle values → ItemStart items middle first → Derives (assign_form true) first (token comma sign ∷ after) last
+      → Derives (items_form items) before after (snoc values last)
+  add_hole : {sign : Spot} {before after : List Token} {values : Syntax} → Derives (items_form array_elements) before (token comma sign ∷ after) values
+      → Derives (items_form array_elements) before after values
   -- a list: no argument; no item, or items with a `,` behind the last too; or items and a last one with none behind it
-  list_empty : {here : List Token} → Derives (listForm callArguments) here here nil
+  list_empty : {here : List Token} → Derives (list_form call_arguments) here here nil
   list_items : {items : Items} {before after : List Token} {values : Syntax} → T (may_end_in_comma items)
-      → Derives (itemsForm items) before after values → Derives (listForm items) before after values
-  list_last : {items : Items} {before middle first after : List Token} {values last : Syntax} → Derives (itemsForm items) before middle values
-      → ItemStart items middle first → Derives (assignForm true) first after last → Derives (listForm items) before after (snoc values last)
+      → Derives (items_form items) before after values → Derives (list_form items) before after values
+  list_last : {items : Items} {before middle first after : List Token} {values last : Syntax} → Derives (items_form items) before middle values
+      → ItemStart items middle first → Derives (assign_form true) first after last → Derives (list_form items) before after (snoc values last)
 
 abbrev pub Statements : Scope → List Token → List Token → Syntax → Type 0
 Statements scope before after value = Derives (statements_form scope) before after value
 
 abbrev pub Statement : List Token → List Token → Syntax → Type 0
-Statement before after value = Derives statementForm before after value
+Statement before after value = Derives statement_form before after value
 
 abbrev pub Function : List Token → List Token → Syntax → Type 0
-Function before after value = Derives functionForm before after value
+Function before after value = Derives function_form before after value
 
 abbrev pub Expression : List Token → List Token → Syntax → Type 0
-Expression before after value = Derives (expressionForm true) before after value
+Expression before after value = Derives (expression_form true) before after value
 
 abbrev pub Assign : List Token → List Token → Syntax → Type 0
-Assign before after value = Derives (assignForm true) before after value
+Assign before after value = Derives (assign_form true) before after value
 
 abbrev pub Binary : ℕ → List Token → List Token → Syntax → Type 0
 Binary least before after value = Derives (binary_form true least) before after value
@@ -376,10 +376,10 @@ abbrev pub Unary : List Token → List Token → Syntax → Type 0
 Unary before after value = Derives unary_form before after value
 
 abbrev pub Target : Bool → List Token → List Token → Syntax → Type 0
-Target calls before after value = Derives (targetForm calls) before after value
+Target calls before after value = Derives (target_form calls) before after value
 
 abbrev pub Chain : Bool → List Token → List Token → Syntax → Type 0
-Chain calls before after value = Derives (chainForm calls) before after value
+Chain calls before after value = Derives (chain_form calls) before after value
 
 -- the steps "lead from Program to exactly these elements"
 abbrev pub Program : List Token → Syntax → Type 0

@@ -11,53 +11,53 @@ use Rattle.tables.specs.Records.{most_trees}
 use Rattle.machine.specs.Tokens.{question}
 use Rattle.machine.specs.Operators.{least_binary}
 use Rattle.machine.specs.Machinery.Machine.{
-  someTarget,
+  some_target,
   Ending,
-  byColon,
+  by_colon,
   by_item,
   Control,
   statement_due,
   statement_done,
-  nameFirst,
-  returnFirst,
-  throwFirst,
-  jumpFirst,
-  headFirst,
-  forFirst,
-  switchFirst,
-  switchPast,
-  bodyDone,
-  testFirst,
-  semicolonDue,
-  variableDue,
-  variableNamed,
-  startDue,
-  testDue,
-  stepDue,
-  defaultFirst,
+  name_first,
+  return_first,
+  throw_first,
+  jump_first,
+  head_first,
+  for_first,
+  switch_first,
+  switch_past,
+  body_done,
+  test_first,
+  semicolon_due,
+  variable_due,
+  variable_named,
+  start_due,
+  test_due,
+  step_due,
+  default_first,
   clause_due,
-  tryFirst,
-  tryDone,
-  catchFirst,
-  catchDue,
-  catchNamed,
-  catchPast,
-  catchDone,
-  finallyFirst,
-  tryEnded,
-  ifFirst,
-  operandDue,
-  memberDue,
-  operandDone,
+  try_first,
+  try_done,
+  catch_first,
+  catch_due,
+  catch_named,
+  catch_past,
+  catch_done,
+  finally_first,
+  try_ended,
+  if_first,
+  operand_due,
+  member_due,
+  operand_done,
   postfix_done,
-  dotLast,
-  functionFirst,
-  functionNamed,
-  parameterPast,
+  dot_last,
+  function_first,
+  function_named,
+  parameter_past,
   item_due,
-  propertyNamed,
+  property_named,
   parameter_due,
-  parameterNamed,
+  parameter_named,
   finished,
 }
 use Rattle.controls.specs.Machinery.Numbers.{setting_by, items_by, ending_by, target_by, control_by, control_of}
@@ -76,46 +76,46 @@ use Rattle.frames.proofs.AskLaws.{asks, answering, turns}
 abbrev ending_of : Ending → Control → Ending
 ending_of other (statement_due must setting) = other
 ending_of other (statement_done nest) = other
-ending_of other (nameFirst setting) = other
-ending_of other (returnFirst setting) = other
-ending_of other (throwFirst setting) = other
-ending_of other (jumpFirst setting) = other
-ending_of other (headFirst setting) = other
-ending_of other (forFirst setting) = other
-ending_of other (switchFirst setting) = other
-ending_of other (switchPast setting) = other
-ending_of other (bodyDone setting) = other
-ending_of other (testFirst setting) = other
-ending_of other (semicolonDue setting) = other
-ending_of other (variableDue place) = other
-ending_of other (variableNamed place) = other
-ending_of other startDue = other
-ending_of other testDue = other
-ending_of other stepDue = other
-ending_of other defaultFirst = other
+ending_of other (name_first setting) = other
+ending_of other (return_first setting) = other
+ending_of other (throw_first setting) = other
+ending_of other (jump_first setting) = other
+ending_of other (head_first setting) = other
+ending_of other (for_first setting) = other
+ending_of other (switch_first setting) = other
+ending_of other (switch_past setting) = other
+ending_of other (body_done setting) = other
+ending_of other (test_first setting) = other
+ending_of other (semicolon_due setting) = other
+ending_of other (variable_due place) = other
+ending_of other (variable_named place) = other
+ending_of other start_due = other
+ending_of other test_due = other
+ending_of other step_due = other
+ending_of other default_first = other
 ending_of other (clause_due seen) = other
-ending_of other tryFirst = other
-ending_of other tryDone = other
-ending_of other catchFirst = other
-ending_of other catchDue = other
-ending_of other catchNamed = other
-ending_of other catchPast = other
-ending_of other catchDone = other
-ending_of other finallyFirst = other
-ending_of other tryEnded = other
-ending_of other ifFirst = other
-ending_of other (operandDue ending target) = other
-ending_of other (memberDue ending target) = other
-ending_of other (operandDone ending target) = ending
+ending_of other try_first = other
+ending_of other try_done = other
+ending_of other catch_first = other
+ending_of other catch_due = other
+ending_of other catch_named = other
+ending_of other catch_past = other
+ending_of other catch_done = other
+ending_of other finally_first = other
+ending_of other try_ended = other
+ending_of other if_first = other
+ending_of other (operand_due ending target) = other
+ending_of other (member_due ending target) = other
+ending_of other (operand_done ending target) = ending
 ending_of other (postfix_done ending) = ending
-ending_of other (dotLast ending target) = other
-ending_of other (functionFirst role) = other
-ending_of other (functionNamed role) = other
-ending_of other (parameterPast role) = other
+ending_of other (dot_last ending target) = other
+ending_of other (function_first role) = other
+ending_of other (function_named role) = other
+ending_of other (parameter_past role) = other
 ending_of other (item_due items) = other
-ending_of other propertyNamed = other
+ending_of other property_named = other
 ending_of other (parameter_due must) = other
-ending_of other parameterNamed = other
+ending_of other parameter_named = other
 ending_of other finished = other
 
 ended_there : {c : Control} {ending : Ending} (other : Ending) → Ended c ending → ending_of other c ≡ ending
@@ -241,7 +241,7 @@ asking_is ending setting {past = past} {by = by} {among = among} p e s =
     )
 
 -- a `?`
-colon_due : {c : Control} → c ≡ control_by 2 14 0 true → c ≡ operandDue byColon someTarget
+colon_due : {c : Control} → c ≡ control_by 2 14 0 true → c ≡ operand_due by_colon some_target
 unfolding control_by ending_by target_by
 colon_due e = e
 
@@ -271,7 +271,7 @@ pub record Turning (r : Level) (stack : List ℕ) : Type 0 where
   pub fits : r.top * width ≤ length stack
   pub many : AskNumber (get_or stack ((r.top - 1) * width) 0)
 
-answer_due : {c : Control} (kind : ℕ) → AskNumber kind → c ≡ control_by 2 ((kind - ask_kind) / settings) ((kind - ask_kind) % settings) true → c ≡ operandDue (asked_in kind) someTarget
+answer_due : {c : Control} (kind : ℕ) → AskNumber kind → c ≡ control_by 2 ((kind - ask_kind) / settings) ((kind - ask_kind) % settings) true → c ≡ operand_due (asked_in kind) some_target
 unfolding control_by asked_in target_by
 answer_due kind number e = e ∙ rw (ne_eqb ((kind - ask_kind) / settings) 5 number.1)
 

@@ -8,8 +8,8 @@ use borrow.Author.Tests.{ne_eqb}
 use lib.Dec.{T}
 use Rattle.machine.specs.Tokens.{Token}
 use Rattle.machine.specs.Syntax.{Syntax}
-use Rattle.machine.specs.Scopes.{Items, callArguments, arrayElements, objectProperties, body, block}
-use Rattle.machine.specs.Machinery.Machine.{end_of_text, Frame, Control, clause_due, item_due, Action, fail, pop, popIn, finish, Value, doneValue, Ending, byStatement, byReturn, by_variable, byStart, byTest, by_step, byObject, by_case, byParen, byBracket, byColon, by_item, look, row, Open, act, run}
+use Rattle.machine.specs.Scopes.{Items, call_arguments, array_elements, object_properties, body, block}
+use Rattle.machine.specs.Machinery.Machine.{end_of_text, Frame, Control, clause_due, item_due, Action, fail, pop, pop_in, finish, Value, done_value, Ending, by_statement, by_return, by_variable, by_start, by_test, by_step, by_object, by_case, by_paren, by_bracket, by_colon, by_item, look, row, Open, act, run}
 use Rattle.machine.specs.Machinery.Classes.{is_end}
 use Rattle.machine.proofs.Ran.{stays_dead}
 use Rattle.controls.specs.Machinery.Numbers.{ending_by, control_of}
@@ -34,7 +34,7 @@ goes_on_entry : {c : Control} {class : ℕ} {action : Action} → Ends class c f
 goes_on_entry goes_on = refl
 
 -- no expression of a group takes the text's end, and no list
-paren_text : {from : Control} → Ended from byParen → look end_of_text (row from false) ≡ fail
+paren_text : {from : Control} → Ended from by_paren → look end_of_text (row from false) ≡ fail
 unfolding ending_by
 paren_text ended = goes_on_entry (parens_end end_of_text tt 12 0 (omega arith) (omega arith) ended)
 
@@ -42,33 +42,33 @@ step_text : {from : Control} → Ended from by_step → look end_of_text (row fr
 unfolding ending_by
 step_text ended = goes_on_entry (parens_end end_of_text tt 10 0 (omega arith) (omega arith) ended)
 
-object_text : {from : Control} → Ended from byObject → look end_of_text (row from false) ≡ fail
+object_text : {from : Control} → Ended from by_object → look end_of_text (row from false) ≡ fail
 unfolding ending_by
 object_text ended = goes_on_entry (parens_end end_of_text tt 11 0 (omega arith) (omega arith) ended)
 
 item_text : {from : Control} (items : Items) → Ended from (by_item items) → look end_of_text (row from false) ≡ fail
-item_text callArguments ended = goes_on_entry (item_ends end_of_text tt callArguments ended)
-item_text arrayElements ended = goes_on_entry (item_ends end_of_text tt arrayElements ended)
-item_text objectProperties ended = goes_on_entry (item_ends end_of_text tt objectProperties ended)
+item_text call_arguments ended = goes_on_entry (item_ends end_of_text tt call_arguments ended)
+item_text array_elements ended = goes_on_entry (item_ends end_of_text tt array_elements ended)
+item_text object_properties ended = goes_on_entry (item_ends end_of_text tt object_properties ended)
 
 group_text : {from : Control} (ending : Ending) → T (in_group ending) → Ended from ending → look end_of_text (row from false) ≡ fail
-group_text (byStatement setting) t ended = absurd t
-group_text (byReturn setting) t ended = absurd t
+group_text (by_statement setting) t ended = absurd t
+group_text (by_return setting) t ended = absurd t
 group_text (by_variable place) t ended = absurd t
-group_text byStart t ended = absurd t
-group_text byTest t ended = absurd t
+group_text by_start t ended = absurd t
+group_text by_test t ended = absurd t
 group_text by_step t ended = absurd t
-group_text byObject t ended = absurd t
+group_text by_object t ended = absurd t
 group_text (by_case seen) t ended = absurd t
-group_text byParen t ended = paren_text ended
-group_text byBracket t ended = goes_on_entry (bracket_ends end_of_text tt ended)
-group_text byColon t ended = absurd t
+group_text by_paren t ended = paren_text ended
+group_text by_bracket t ended = goes_on_entry (bracket_ends end_of_text tt ended)
+group_text by_colon t ended = absurd t
 group_text (by_item items) t ended = absurd t
 
 items_text : (items : Items) → look end_of_text (row (item_due items) false) ≡ fail
-items_text callArguments = refl
-items_text arrayElements = refl
-items_text objectProperties = refl
+items_text call_arguments = refl
+items_text array_elements = refl
+items_text object_properties = refl
 
 clauses_text : (seen : Bool) → look end_of_text (row (clause_due seen) false) ≡ fail
 clauses_text true = refl
@@ -85,7 +85,7 @@ never_text ends_no_parameter e q = no_fail (rw q at e)
 never_text ends_parameter e q = no_fail (rw q at e)
 never_text (ends_head there) e q = no_fail (sym (step_text there) ∙ rw q at e)
 never_text ends_no_step e q = no_fail (rw q at e)
-never_text (ends_clauses {seen = seen}) e q = no_fail (sym (clauses_text seen) ∙ subst (λ x. look x (row (clause_due seen) false) ≡ pop doneValue) q e)
+never_text (ends_clauses {seen = seen}) e q = no_fail (sym (clauses_text seen) ∙ subst (λ x. look x (row (clause_due seen) false) ≡ pop done_value) q e)
 never_text ends_caught e q = no_fail (rw q at e)
 
 -- and it has the head of a `for` with `in` where it pops that
@@ -94,17 +94,17 @@ ended_object ended_operand = refl
 ended_object ended_postfix = refl
 
 group_object : (ending : Ending) → T (in_group ending) → is_by_object ending ≡ false
-group_object (byStatement setting) t = absurd t
-group_object (byReturn setting) t = absurd t
+group_object (by_statement setting) t = absurd t
+group_object (by_return setting) t = absurd t
 group_object (by_variable place) t = absurd t
-group_object byStart t = absurd t
-group_object byTest t = absurd t
+group_object by_start t = absurd t
+group_object by_test t = absurd t
 group_object by_step t = absurd t
-group_object byObject t = absurd t
+group_object by_object t = absurd t
 group_object (by_case seen) t = absurd t
-group_object byParen t = refl
-group_object byBracket t = refl
-group_object byColon t = absurd t
+group_object by_paren t = refl
+group_object by_bracket t = refl
+group_object by_colon t = absurd t
 group_object (by_item items) t = absurd t
 
 pops_none : {c : Control} {class : ℕ} {value : Value} → Ends class c true (pop value) → is_object c ≡ false
@@ -119,10 +119,10 @@ pops_none ends_no_step = refl
 pops_none ends_clauses = refl
 pops_none ends_caught = refl
 
-never_head : {c : Control} {class : ℕ} → Ends class c true popIn → look class (row c false) ≡ popIn → class ≡ end_of_text → ⊥
-never_head (ends_object there) e q = let z : fail ≡ popIn = sym (object_text there) ∙ rw q at e in let w : ◌≡◌ {A = ℕ} 0 1 = cc in omega arith
+never_head : {c : Control} {class : ℕ} → Ends class c true pop_in → look class (row c false) ≡ pop_in → class ≡ end_of_text → ⊥
+never_head (ends_object there) e q = let z : fail ≡ pop_in = sym (object_text there) ∙ rw q at e in let w : ◌≡◌ {A = ℕ} 0 1 = cc in omega arith
 
-pops_head : {c : Control} {class : ℕ} → Ends class c true popIn → is_object c ≡ true
+pops_head : {c : Control} {class : ℕ} → Ends class c true pop_in → is_object c ≡ true
 pops_head (ends_object there) = ended_object there
 
 -- with its value the state behind it is reached

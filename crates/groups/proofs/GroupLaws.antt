@@ -20,7 +20,7 @@ use Rattle.machine.specs.Machinery.Machine.{
   frame,
   new_precedence,
   called,
-  ifNest,
+  if_nest,
   Setting,
   among,
   in_clause,
@@ -28,33 +28,33 @@ use Rattle.machine.specs.Machinery.Machine.{
   Target,
   behind_statement,
   Closing,
-  toParens,
-  toCall,
-  toObject,
-  toArray,
-  toIndex,
-  toBlock,
-  toCondition,
-  toHead,
-  toFor,
-  toForIn,
+  to_parens,
+  to_call,
+  to_object,
+  to_array,
+  to_index,
+  to_block,
+  to_condition,
+  to_head,
+  to_for,
+  to_for_in,
   in_for,
-  toTest,
-  toStatement,
-  toParameter,
-  toDeclaration,
-  toFunction,
+  to_test,
+  to_statement,
+  to_parameter,
+  to_declaration,
+  to_function,
   Ending,
   declared,
   operand_in,
   Control,
   statement_due,
-  testFirst,
-  semicolonDue,
-  switchPast,
-  ifFirst,
-  operandDone,
-  parameterPast,
+  test_first,
+  semicolon_due,
+  switch_past,
+  if_first,
+  operand_done,
+  parameter_past,
 }
 use Rattle.controls.specs.Machinery.Numbers.{closing_by}
 use Rattle.controls.specs.Machinery.Steps.{Due, Spans, past_parens, past_object, past_array, past_index, past_call, past_condition, past_head, past_for, past_for_in, past_subject, past_clauses, past_tried, past_caught, past_handled, past_finally, past_test, past_parameter, past_unnamed, past_block, past_declaration, past_function}
@@ -116,7 +116,7 @@ module _ {g : Frame} {nests : List machine.Open} {table stack₀ : List ℕ} {fi
   pub closes_alone : {from : Control} {ending : Ending} {target : Target} (closing : Closing) (kind mark : ℕ)
       → ((done : Syntax) (starts waiting : List Pending) → machine.close closing mark value (frame done starts waiting nil) ≡ frame done starts waiting (node kind mark value nil))
       → Due from ending target → Stands from g nests table stack₀ first floor passed l stack_before cells_before
-      → Stands (operandDone ending target) (machine.close closing mark value g) nests table stack₀ first floor next (made_one (with_count n l)) stack
+      → Stands (operand_done ending target) (machine.close closing mark value g) nests table stack₀ first floor next (made_one (with_count n l)) stack
       (put_record cells n kind mark (n - l.start + 1))
   closes_alone closing kind mark alone due s =
       let h = at_operand due s in
@@ -124,8 +124,8 @@ module _ {g : Frame} {nests : List machine.Open} {table stack₀ : List ℕ} {fi
       (stands (node kind mark value nil)
       (carries_made (carries_alone (carries_valued h.carries n value valued (omega arith))) kind mark (omega arith)) h.within tt (omega arith) few)
 
-  pub closes_function : {ending : Ending} {target : Target} (mark : ℕ) → Stands (parameterPast (operand_in ending target)) g nests table stack₀ first floor passed l stack_before cells_before
-      → Stands (operandDone ending target) (machine.close toFunction mark value g) nests table stack₀ first floor next (made_one (with_count n l)) stack
+  pub closes_function : {ending : Ending} {target : Target} (mark : ℕ) → Stands (parameter_past (operand_in ending target)) g nests table stack₀ first floor passed l stack_before cells_before
+      → Stands (operand_done ending target) (machine.close to_function mark value g) nests table stack₀ first floor next (made_one (with_count n l)) stack
       (put_record cells n function_syntax l.held (n - l.start + 1))
   closes_function mark s =
       rw (s.is, s.held)
@@ -136,8 +136,8 @@ module _ {g : Frame} {nests : List machine.Open} {table stack₀ : List ℕ} {fi
   pub closes_behind : {ending : Ending} {target : Target} (closing : Closing) (kind mark : ℕ)
       → ((done : Syntax) (starts waiting : List Pending) (operand : Syntax)
       → machine.close closing mark value (frame done starts waiting operand) ≡ frame done starts waiting (node kind mark operand value))
-      → Stands (operandDone ending target) g nests table stack₀ first floor passed l stack_before cells_before
-      → Stands (operandDone ending target) (machine.close closing mark value g) nests table stack₀ first floor next (made_one (with_count n l)) stack
+      → Stands (operand_done ending target) g nests table stack₀ first floor passed l stack_before cells_before
+      → Stands (operand_done ending target) (machine.close closing mark value g) nests table stack₀ first floor next (made_one (with_count n l)) stack
       (put_record cells n kind mark (n - l.start + 1))
   closes_behind closing kind mark both s =
       rw (s.is, both s.done s.starts s.waiting s.operand)
@@ -146,8 +146,8 @@ module _ {g : Frame} {nests : List machine.Open} {table stack₀ : List ℕ} {fi
 
   -- arguments
   pub closes_call : {ending : Ending} {target : Target} (mark : ℕ) → (l.floor < l.top → get_or stack ((l.top - 1) * width) 0 ≡ new_word → ⊥)
-      → Stands (operandDone ending target) g nests table stack₀ first floor passed l stack_before cells_before
-      → Stands (operandDone ending target) (machine.close toCall mark value g) nests table stack₀ first floor next (made_one (with_count n l)) stack
+      → Stands (operand_done ending target) g nests table stack₀ first floor passed l stack_before cells_before
+      → Stands (operand_done ending target) (machine.close to_call mark value g) nests table stack₀ first floor next (made_one (with_count n l)) stack
       (put_record cells n call_syntax mark (n - l.start + 1))
   closes_call mark none s =
       let h = carries_valued (carried s) n value valued (omega arith) in
@@ -155,8 +155,8 @@ module _ {g : Frame} {nests : List machine.Open} {table stack₀ : List ℕ} {fi
       (stands (node call_syntax mark s.operand value) (carries_both call_syntax mark h (omega arith)) s.shaped tt (omega arith) few)
 
   pub closes_construct : {ending : Ending} {target : Target} (mark word : ℕ) → l.floor < l.top → get_or stack ((l.top - 1) * width) 0 ≡ new_word
-      → get_or stack ((l.top - 1) * width + 1) 0 ≡ word → Stands (operandDone ending target) g nests table stack₀ first floor passed l stack_before cells_before
-      → Stands (operandDone ending target) (machine.close toCall mark value g) nests table stack₀ first floor next (made_one (left_one (with_count n l) stack)) stack
+      → get_or stack ((l.top - 1) * width + 1) 0 ≡ word → Stands (operand_done ending target) g nests table stack₀ first floor passed l stack_before cells_before
+      → Stands (operand_done ending target) (machine.close to_call mark value g) nests table stack₀ first floor next (made_one (left_one (with_count n l) stack)) stack
       (put_record cells n construct_syntax word (n - get_or stack ((l.top - 1) * width + 2) 0 + 1))
   closes_construct mark word more is-new is_IsWord s =
       let h = carries_valued (carried s) n value valued (omega arith) in
@@ -167,8 +167,8 @@ module _ {g : Frame} {nests : List machine.Open} {table stack₀ : List ℕ} {fi
       (carries_both construct_syntax w.word (carries_dropped (rw w.is at h)) (omega (arith, w.some))) s.shaped tt (omega (arith, w.some)) few)
 
   -- the value waits as a beginning's left side
-  pub closes_condition : (mark : ℕ) → (l.top + 1) * width ≤ length stack → Stands ifFirst g nests table stack₀ first floor passed l stack_before cells_before
-      → Stands (statement_due true (in_nest ifNest)) (machine.close toCondition mark value g) nests table stack₀ first floor next (waiting_one (with_count n l))
+  pub closes_condition : (mark : ℕ) → (l.top + 1) * width ≤ length stack → Stands if_first g nests table stack₀ first floor passed l stack_before cells_before
+      → Stands (statement_due true (in_nest if_nest)) (machine.close to_condition mark value g) nests table stack₀ first floor next (waiting_one (with_count n l))
       (stack_with stack l.top if_syntax l.held l.start) cells
   unfolding binding
   closes_condition mark room s =
@@ -179,36 +179,36 @@ module _ {g : Frame} {nests : List machine.Open} {table stack₀ : List ℕ} {fi
 
   -- it is the left side of the beginning that waits, which may have another kind then, or the operand
   pub closes_head : {setting : Setting} (mark : ℕ) → AtWord setting g nests table stack₀ first floor passed l stack_before cells_before
-      → Stands (statement_due true setting) (machine.close toHead mark value g) nests table stack₀ first floor next (restarted (with_count n l)) stack cells
+      → Stands (statement_due true setting) (machine.close to_head mark value g) nests table stack₀ first floor next (restarted (with_count n l)) stack cells
   closes_head mark h =
       rw h.is (stands nil (carries_headed (carries_alone (carries_valued h.carries n value valued (omega arith)))) (refl, refl, h.within) tt (omega arith) few)
 
   pub closes_subject : {setting : Setting} (mark : ℕ) → AtWord setting g nests table stack₀ first floor passed l stack_before cells_before
-      → Stands (switchPast setting) (machine.close toHead mark value g) nests table stack₀ first floor next (restarted (with_count n l)) stack cells
+      → Stands (switch_past setting) (machine.close to_head mark value g) nests table stack₀ first floor next (restarted (with_count n l)) stack cells
   closes_subject mark h =
       rw h.is (stands nil (carries_headed (carries_alone (carries_valued h.carries n value valued (omega arith)))) (refl, refl, h.within) tt (omega arith) few)
 
   pub closes_for : {setting : Setting} (mark : ℕ) → AtWord setting g nests table stack₀ first floor passed l stack_before cells_before
-      → Stands (statement_due true setting) (machine.close toFor mark value g) nests table stack₀ first floor next (restarted (with_count n l)) stack cells
+      → Stands (statement_due true setting) (machine.close to_for mark value g) nests table stack₀ first floor next (restarted (with_count n l)) stack cells
   closes_for mark h =
       rw h.is (stands nil (carries_headed (carries_alone (carries_valued h.carries n value valued (omega arith)))) (refl, refl, h.within) tt (omega arith) few)
 
   pub closes_for_in : {setting : Setting} (mark : ℕ) → AtWord setting g nests table stack₀ first floor passed l stack_before cells_before
-      → Stands (statement_due true setting) (machine.close toForIn mark value g) nests table stack₀ first floor next (restarted (with_count n l)) (stack_as stack l.top for_in_syntax) cells
+      → Stands (statement_due true setting) (machine.close to_for_in mark value g) nests table stack₀ first floor next (restarted (with_count n l)) (stack_as stack l.top for_in_syntax) cells
   unfolding binding
   closes_for_in mark h =
       rw h.is
       (stands nil (carries_headed_as for_in_syntax refl (carries_alone (carries_valued h.carries n value valued (omega arith)))) (refl, refl, h.within) tt (omega arith) few)
 
-  pub closes_test : {setting : Setting} (mark : ℕ) → Stands (testFirst setting) g nests table stack₀ first floor passed l stack_before cells_before
-      → Stands (semicolonDue setting) (machine.close toTest mark value g) nests table stack₀ first floor next (with_count n l) stack cells
+  pub closes_test : {setting : Setting} (mark : ℕ) → Stands (test_first setting) g nests table stack₀ first floor passed l stack_before cells_before
+      → Stands (semicolon_due setting) (machine.close to_test mark value g) nests table stack₀ first floor next (with_count n l) stack cells
   closes_test mark s =
       rw s.is
       (stands value (carries_alone (carries_valued (rw s.shaped.1 at (carried s)) n value valued (omega arith))) (s.shaped.0, s.shaped.2) tt (omega arith) few)
 
   -- parameters leave nothing
-  pub closes_parameter : {from to : Control} (mark : ℕ) → value ≡ nil → Stands from g nests table stack₀ first floor passed l stack_before cells_before → Spans toParameter from to
-      → Stands to (machine.close toParameter mark value g) nests table stack₀ first floor next (with_count n l) stack cells
+  pub closes_parameter : {from to : Control} (mark : ℕ) → value ≡ nil → Stands from g nests table stack₀ first floor passed l stack_before cells_before → Spans to_parameter from to
+      → Stands to (machine.close to_parameter mark value g) nests table stack₀ first floor next (with_count n l) stack cells
   closes_parameter mark none s past_parameter =
       rw s.is
       (stands s.operand (carries_alone (rw none at (carries_valued (carried s) n value valued (omega arith)))) s.shaped s.held (omega arith) few)
@@ -224,7 +224,7 @@ module _ {g : Frame} {nests : List machine.Open} {table stack₀ : List ℕ} {fi
   pub closes_block : {to : Control} {setting : Setting} (mark : ℕ) {all : Level} {cells' : List ℕ}
       → Completes (made_one (with_count n l)) stack (put_record cells n block_syntax mark (n - l.start + 1)) all cells'
       → ((done : Syntax) → InSetting setting done nests → Behind done nests to) → AtStatement setting g nests table stack₀ first floor passed l stack_before cells_before
-      → Stands to (machine.close toBlock mark value g) nests table stack₀ first floor next all stack cells'
+      → Stands to (machine.close to_block mark value g) nests table stack₀ first floor next all stack cells'
   closes_block mark completes follows h =
       let one = carries_made (carries_alone (carries_valued h.carries n value valued (omega arith))) block_syntax mark (omega arith) in
       let lighter = completes_lightens one completes in
@@ -232,7 +232,7 @@ module _ {g : Frame} {nests : List machine.Open} {table stack₀ : List ℕ} {fi
 
   pub closes_clauses : {setting : Setting} (mark : ℕ) {all : Level} {cells' : List ℕ} → Completes (with_count n l) stack cells all cells'
       → AtStatement setting g nests table stack₀ first floor passed l stack_before cells_before
-      → Stands (behind_statement setting) (machine.close toStatement mark value g) nests table stack₀ first floor next all stack cells'
+      → Stands (behind_statement setting) (machine.close to_statement mark value g) nests table stack₀ first floor next all stack cells'
   closes_clauses {setting = setting} mark completes h =
       let one = carries_alone (carries_valued h.carries n value valued (omega arith)) in
       let lighter = completes_lightens one completes in
@@ -240,15 +240,15 @@ module _ {g : Frame} {nests : List machine.Open} {table stack₀ : List ℕ} {fi
 
   pub closes_declaration : (mark : ℕ) {all : Level} {cells' : List ℕ}
       → Completes (made_one (with_count n l)) stack (put_record cells n declaration_syntax l.held (n - l.start + 1)) all cells'
-      → Stands (parameterPast declared) g nests table stack₀ first floor passed l stack_before cells_before
-      → Stands (statement_due false (among body)) (machine.close toDeclaration mark value g) nests table stack₀ first floor next all stack cells'
+      → Stands (parameter_past declared) g nests table stack₀ first floor passed l stack_before cells_before
+      → Stands (statement_due false (among body)) (machine.close to_declaration mark value g) nests table stack₀ first floor next all stack cells'
   closes_declaration mark completes s =
       let one = carries_made (carries_alone (carries_valued (carried s) n value valued (omega arith))) declaration_syntax l.held (omega arith) in
       let lighter = completes_lightens one completes in
       rw (s.is, s.held) (behind (behind-statement (among body) s.shaped.2) (rw s.shaped.1 at (carries_statement one completes)) (omega (arith, lighter)) few)
 
 -- the groups by number
-pub closing_index : (closing : ℕ) → (closing ≡ 0 → ⊥) → (closing ≡ 1 → ⊥) → (closing ≡ 2 → ⊥) → (closing ≡ 3 → ⊥) → (closing ≡ 4 → ⊥) → (closing ≡ 5 → ⊥) → (closing ≡ 6 → ⊥) → (closing ≡ 7 → ⊥) → (closing ≡ 8 → ⊥) → (closing ≡ 10 → ⊥) → (closing ≡ 11 → ⊥) → (closing ≡ 12 → ⊥) → (closing ≡ 13 → ⊥) → (closing ≡ 14 → ⊥) → (closing ≡ 15 → ⊥) → closing_by closing ≡ toIndex
+pub closing_index : (closing : ℕ) → (closing ≡ 0 → ⊥) → (closing ≡ 1 → ⊥) → (closing ≡ 2 → ⊥) → (closing ≡ 3 → ⊥) → (closing ≡ 4 → ⊥) → (closing ≡ 5 → ⊥) → (closing ≡ 6 → ⊥) → (closing ≡ 7 → ⊥) → (closing ≡ 8 → ⊥) → (closing ≡ 10 → ⊥) → (closing ≡ 11 → ⊥) → (closing ≡ 12 → ⊥) → (closing ≡ 13 → ⊥) → (closing ≡ 14 → ⊥) → (closing ≡ 15 → ⊥) → closing_by closing ≡ to_index
 unfolding closing_by
 closing_index closing a b d e f g h i j k m n o p q =
     rw (
@@ -311,9 +311,9 @@ closing_for closing e = rw e
 
 -- a statement that is a block, or a block of a `try`
 block_closed : {from to : Control} {g : Frame} {nests : List machine.Open} {table stack₀ : List ℕ} {first floor passed next n : ℕ} {l : Level} {stack_before stack cells_before cells : List ℕ} (mark : ℕ) (value : Syntax)
-    {all : Level} {cells' : List ℕ} → Stands from g nests table stack₀ first floor passed l stack_before cells_before → Spans toBlock from to → Valued l n value stack_before stack cells_before cells
+    {all : Level} {cells' : List ℕ} → Stands from g nests table stack₀ first floor passed l stack_before cells_before → Spans to_block from to → Valued l n value stack_before stack cells_before cells
     → n + l.top < first + floor + next → first + floor + next ≤ most_trees → Completes (made_one (with_count n l)) stack (put_record cells n block_syntax mark (n - l.start + 1)) all cells'
-    → Stands to (machine.close toBlock mark value g) nests table stack₀ first floor next all stack cells'
+    → Stands to (machine.close to_block mark value g) nests table stack₀ first floor next all stack cells'
 block_closed mark value s (past_block {setting = setting}) valued fits few completes =
     closes_block value valued fits few mark completes (λ done within. behind-statement setting within) (at_statement s)
 block_closed mark value s past_tried valued fits few completes =
@@ -327,7 +327,7 @@ module _ {l : Level} {stack cells : List ℕ} (mark n : ℕ) where
   pub parens_close : {r : Level} {cells' : List ℕ} → (r ≡ made_one (with_count n l)) × (cells' ≡ put_record cells n parenthesised_syntax mark (n - l.start + 1)) → ClosesGroup 0 mark n l stack cells r stack cells'
   unfolding closing_by
   parens_close e from to g nests table stack₀ first floor passed next value stack_before cells_before s (past_parens due) valued none fits few =
-      rw (e.0, e.1) (closes_alone value valued fits few toParens parenthesised_syntax mark (λ done starts waiting. refl) due s)
+      rw (e.0, e.1) (closes_alone value valued fits few to_parens parenthesised_syntax mark (λ done starts waiting. refl) due s)
 
   pub call_closes : {r : Level} {cells' : List ℕ} → (l.floor < l.top → get_or stack ((l.top - 1) * width) 0 ≡ new_word → ⊥)
       → (r ≡ made_one (with_count n l)) × (cells' ≡ put_record cells n call_syntax mark (n - l.start + 1)) → ClosesGroup 1 mark n l stack cells r stack cells'
@@ -346,7 +346,7 @@ module _ {l : Level} {stack cells : List ℕ} (mark n : ℕ) where
   pub object_closes : {r : Level} {cells' : List ℕ} → (r ≡ made_one (with_count n l)) × (cells' ≡ put_record cells n object_syntax mark (n - l.start + 1)) → ClosesGroup 2 mark n l stack cells r stack cells'
   unfolding closing_by
   object_closes e from to g nests table stack₀ first floor passed next value stack_before cells_before s (past_object due) valued none fits few =
-      rw (e.0, e.1) (closes_alone value valued fits few toObject object_syntax mark (λ done starts waiting. refl) due s)
+      rw (e.0, e.1) (closes_alone value valued fits few to_object object_syntax mark (λ done starts waiting. refl) due s)
 
   pub condition_closes : {r : Level} {after : List ℕ} → (l.top + 1) * width ≤ length stack
       → (r ≡ waiting_one (with_count n l)) × (after ≡ stack_with stack l.top if_syntax l.held l.start) → ClosesGroup 3 mark n l stack cells r after cells
@@ -379,7 +379,7 @@ module _ {l : Level} {stack cells : List ℕ} (mark n : ℕ) where
   pub array_closes : {r : Level} {cells' : List ℕ} → (r ≡ made_one (with_count n l)) × (cells' ≡ put_record cells n array_syntax mark (n - l.start + 1)) → ClosesGroup 8 mark n l stack cells r stack cells'
   unfolding closing_by
   array_closes e from to g nests table stack₀ first floor passed next value stack_before cells_before s (past_array due) valued none fits few =
-      rw (e.0, e.1) (closes_alone value valued fits few toArray array_syntax mark (λ done starts waiting. refl) due s)
+      rw (e.0, e.1) (closes_alone value valued fits few to_array array_syntax mark (λ done starts waiting. refl) due s)
 
   pub head_closes : ClosesGroup 10 mark n l stack cells (restarted (with_count n l)) stack cells
   unfolding closing_by
@@ -413,13 +413,13 @@ module _ {l : Level} {stack cells : List ℕ} (mark n : ℕ) where
   test_closes from to g nests table stack₀ first floor passed next value stack_before cells_before s past_test valued none fits few = closes_test value valued fits few mark s
 
   index_closed : {from to : Control} {g : Frame} {nests : List machine.Open} {table stack₀ : List ℕ} {first floor passed next : ℕ} {stack_before cells_before : List ℕ} (value : Syntax)
-      → Stands from g nests table stack₀ first floor passed l stack_before cells_before → Spans toIndex from to → Valued l n value stack_before stack cells_before cells
+      → Stands from g nests table stack₀ first floor passed l stack_before cells_before → Spans to_index from to → Valued l n value stack_before stack cells_before cells
       → n + l.top < first + floor + next → first + floor + next ≤ most_trees
-      → Stands to (machine.close toIndex mark value g) nests table stack₀ first floor next (made_one (with_count n l)) stack
+      → Stands to (machine.close to_index mark value g) nests table stack₀ first floor next (made_one (with_count n l)) stack
       (put_record cells n index_syntax mark (n - l.start + 1))
-  index_closed value s past_index valued fits few = closes_behind value valued fits few toIndex index_syntax mark (λ done starts waiting operand. refl) s
+  index_closed value s past_index valued fits few = closes_behind value valued fits few to_index index_syntax mark (λ done starts waiting operand. refl) s
 
-  pub index_closes : (closing : ℕ) {r : Level} {cells' : List ℕ} → closing_by closing ≡ toIndex → (r ≡ made_one (with_count n l)) × (cells' ≡ put_record cells n index_syntax mark (n - l.start + 1))
+  pub index_closes : (closing : ℕ) {r : Level} {cells' : List ℕ} → closing_by closing ≡ to_index → (r ≡ made_one (with_count n l)) × (cells' ≡ put_record cells n index_syntax mark (n - l.start + 1))
       → ClosesGroup closing mark n l stack cells r stack cells'
   index_closes closing is e from to g nests table stack₀ first floor passed next value stack_before cells_before s spans valued none fits few =
       rw (is, e.0, e.1) (index_closed value s (rw is at spans) valued fits few)
@@ -447,7 +447,7 @@ pub record ForWaits (l : Level) (stack : List ℕ) : Type 0 where
   pub waits : 1 ≤ l.top
   pub fits : l.top * width ≤ length stack
 
-for_waits : {from to : Control} {g : Frame} {nests : List machine.Open} {table stack₀ : List ℕ} {first floor passed : ℕ} {l : Level} {stack cells : List ℕ} → Spans toForIn from to
+for_waits : {from to : Control} {g : Frame} {nests : List machine.Open} {table stack₀ : List ℕ} {first floor passed : ℕ} {l : Level} {stack cells : List ℕ} → Spans to_for_in from to
     → Stands from g nests table stack₀ first floor passed l stack cells → ForWaits l stack
 for_waits (past_for_in {setting = setting}) s =
     let u = uppermost (at_word {setting = setting} s s.shaped refl).carries.holds in record { waits = u.some; fits = u.fits }

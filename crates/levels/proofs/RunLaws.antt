@@ -10,7 +10,7 @@ use lib.ListN.{length}
 use Rattle.machine.specs.Tokens.{Token, token, Spot}
 use Rattle.machine.specs.Syntax.{Syntax, nil}
 use Rattle.machine.specs.Operators.{least_binary}
-use Rattle.machine.specs.Machinery.Machine.{end_of_text, Frame, empty, Effect, affect, reduced, answered, Closing, close, in_for, someTarget, expressionValue, value_of, Ending, byColon, Control, operandDue, Action, fail, goto, push, enter, ask, turn, look, row, Open, grouped, nested, asking, State, dead, live, pop_to, head_in, turn_to, act, run}
+use Rattle.machine.specs.Machinery.Machine.{end_of_text, Frame, empty, Effect, affect, reduced, answered, Closing, close, in_for, some_target, expression_value, value_of, Ending, by_colon, Control, operand_due, Action, fail, goto, push, enter, ask, turn, look, row, Open, grouped, nested, asking, State, dead, live, pop_to, head_in, turn_to, act, run}
 use Rattle.machine.proofs.Ran.{stays_dead}
 use Rattle.controls.specs.Machinery.Numbers.{control_of, inside_by}
 use Rattle.machine.specs.Machinery.Classes.{is_opener, is_end, is_single}
@@ -221,9 +221,9 @@ module _ {p : Segment} (fine : Fine p) {from : Control} {count top : ℕ} {table
     }
 
     pub goes_asking : {ending : Ending} → look class (row c (line_at p.cells at)) ≡ ask ending
-        → Stands (operandDue byColon someTarget) empty (asking ending (p.base + at) (reduced least_binary h.g) ∷ h.nests) table before count top (at + 1) l' stack' cells'
+        → Stands (operand_due by_colon some_target) empty (asking ending (p.base + at) (reduced least_binary h.g) ∷ h.nests) table before count top (at + 1) l' stack' cells'
         → false ≡ of_parameter c → length stack' ≡ length stack
-        → Underway p from count top table before (operandDue byColon someTarget) l' (at + 1) cells' stack'
+        → Underway p from count top table before (operand_due by_colon some_target) l' (at + 1) cells' stack'
     goes_asking {ending = ending} entry s kind long = record {
       g = empty;
       nests = asking ending (p.base + at) (reduced least_binary h.g) ∷ h.nests;
@@ -241,15 +241,15 @@ module _ {p : Segment} (fine : Fine p) {from : Control} {count top : ℕ} {table
   module _ (single : T (is_single class)) {cells' stack' : List ℕ} where
     pub goes_turning : {r : Standing} → look class (row c (line_at p.cells at)) ≡ turn → (s : TurnedTo h.g h.nests table before count top (at + 1) r stack' cells')
         → false ≡ of_parameter c → length stack' ≡ length stack
-        → Underway p from count top table before (operandDue s.ending someTarget) r.level (at + 1) cells' stack'
+        → Underway p from count top table before (operand_due s.ending some_target) r.level (at + 1) cells' stack'
     goes_turning entry s kind long = record {
-      g = answered s.mark (value_of expressionValue h.g) s.f;
+      g = answered s.mark (value_of expression_value h.g) s.f;
       nests = s.rest;
       runs = λ around u.
           h.runs around u
           ∙ ap (λ (ts : List Token). run (live c h.g (h.nests ++ around)) ts) (singly single u)
           ∙ step_run c h.g (h.nests ++ around) class (spot_at p at) (tokens_at p (at + 1) ++ u) entry
-          ∙ ap (λ (ns : List Open). run (turn_to (spot_at p at).first (value_of expressionValue h.g) (ns ++ around)) (tokens_at p (at + 1) ++ u)) s.is;
+          ∙ ap (λ (ns : List Open). run (turn_to (spot_at p at).first (value_of expression_value h.g) (ns ++ around)) (tokens_at p (at + 1) ++ u)) s.is;
       stands = s.stands;
       kind = kind ∙ h.kind;
       low = h.low;

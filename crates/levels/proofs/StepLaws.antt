@@ -11,7 +11,7 @@ use Rattle.tables.specs.Records.{most_trees}
 use Rattle.machine.specs.Tokens.{open_bracket}
 use Rattle.machine.specs.Syntax.{nil}
 use Rattle.machine.specs.Scopes.{body}
-use Rattle.machine.specs.Machinery.Machine.{doNest, Setting, among, in_clause, in_nest, Closing, toParens, toCall, toObject, toArray, toIndex, toBlock, toCondition, toHead, toFor, toForIn, toTest, toParameter, toDeclaration, toFunction, toStatement, toBody, toTry, in_for, Ending, byColon, Control, statement_due, tryFirst, ifFirst, Action, fail, goto, push, enter, ask, turn, look, row}
+use Rattle.machine.specs.Machinery.Machine.{do_nest, Setting, among, in_clause, in_nest, Closing, to_parens, to_call, to_object, to_array, to_index, to_block, to_condition, to_head, to_for, to_for_in, to_test, to_parameter, to_declaration, to_function, to_statement, to_body, to_try, in_for, Ending, by_colon, Control, statement_due, try_first, if_first, Action, fail, goto, push, enter, ask, turn, look, row}
 use Rattle.controls.specs.Machinery.Numbers.{setting_by, control_of, effect_by, closing_by, inside_by, entered_by, worded_by, outside_by, behind_by, left_by}
 use Rattle.machine.specs.Machinery.Classes.{is_opener, is_end, is_single}
 use Rattle.controls.specs.Machinery.Steps.{Ended, Leads, Spans, past_parens, past_object, past_array, past_index, past_call, past_condition, past_head, past_for, past_for_in, past_subject, past_clauses, past_tried, past_caught, past_handled, past_finally, past_test, past_parameter, past_unnamed, past_block, past_declaration, past_function, Enters, enters_if, enters_do, enters_try, enters_case, enters_last_case, enters_default, Settled, Means, means_end, means_fail, means_goto, means_push, means_enter, means_ask, means_turn}
@@ -73,7 +73,7 @@ entered_kind : (nest : ℕ) → of_parameter (entered_by nest) ≡ false
 unfolding entered_by
 entered_kind nest = go (eqb nest 0) (eqb nest 1) (eqb nest 2)
   where
-    go : (a b d : Bool) → of_parameter (cond a ifFirst (cond b (statement_due true (in_nest doNest)) (cond d tryFirst (statement_due false in_clause)))) ≡ false
+    go : (a b d : Bool) → of_parameter (cond a if_first (cond b (statement_due true (in_nest do_nest)) (cond d try_first (statement_due false in_clause)))) ≡ false
     go true b d = refl
     go false true d = refl
     go false false true = refl
@@ -112,25 +112,25 @@ spans_in true past_block = past_block
 spans_in true past_declaration = past_declaration
 spans_in true past_function = past_function
 
-parameter_in : (head : Bool) (closing : Closing) → cond head (in_for closing) closing ≡ toParameter → closing ≡ toParameter
+parameter_in : (head : Bool) (closing : Closing) → cond head (in_for closing) closing ≡ to_parameter → closing ≡ to_parameter
 parameter_in false closing e = e
-parameter_in true toParens e = e
-parameter_in true toCall e = e
-parameter_in true toObject e = e
-parameter_in true toArray e = e
-parameter_in true toIndex e = e
-parameter_in true toBlock e = e
-parameter_in true toCondition e = e
-parameter_in true toHead e = e
-parameter_in true toFor e = cc
-parameter_in true toForIn e = e
-parameter_in true toTest e = e
-parameter_in true toParameter e = e
-parameter_in true toDeclaration e = e
-parameter_in true toFunction e = e
-parameter_in true toStatement e = e
-parameter_in true toBody e = e
-parameter_in true toTry e = e
+parameter_in true to_parens e = e
+parameter_in true to_call e = e
+parameter_in true to_object e = e
+parameter_in true to_array e = e
+parameter_in true to_index e = e
+parameter_in true to_block e = e
+parameter_in true to_condition e = e
+parameter_in true to_head e = e
+parameter_in true to_for e = cc
+parameter_in true to_for_in e = e
+parameter_in true to_test e = e
+parameter_in true to_parameter e = e
+parameter_in true to_declaration e = e
+parameter_in true to_function e = e
+parameter_in true to_statement e = e
+parameter_in true to_body e = e
+parameter_in true to_try e = e
 
 record AskEntry (c : Control) (class : ℕ) (action : Action) : Type 0 where
   ending : Ending
@@ -144,7 +144,7 @@ ask_entry (means_ask t e) = record { ending = _; entry = refl; single = t; ended
 record TurnEntry (c : Control) (class : ℕ) (action : Action) : Type 0 where
   entry : action ≡ turn
   single : T (is_single class)
-  ended : Ended c byColon
+  ended : Ended c by_colon
 
 turn_entry : {c : Control} {class : ℕ} {action : Action} → Means c class Turn action → TurnEntry c class action
 turn_entry (means_turn t e) = record { entry = refl; single = t; ended = e }
@@ -327,7 +327,7 @@ module _ {p : Segment} {from : Control} {count top : ℕ} {table before : List �
       spans_by : Spans (closing_by by) c (control_of to)
       spans_by = rw closes_by (spans_in head pushes.spans)
 
-      plain_by : closing_by by ≡ toParameter → (ran inner).value ≡ nil
+      plain_by : closing_by by ≡ to_parameter → (ran inner).value ≡ nil
       plain_by e = (ran inner).plain (parameter_inside closing (parameter_in head (closing_by closing) (sym closes_by ∙ e)))
 
       valued : Valued l n (ran inner).value stack stack₁ cells cells₁

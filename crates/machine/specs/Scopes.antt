@@ -7,4 +7,4 @@ pub data Scope : Type 0 where
 
 -- the lists of document 02, U2, that have values for items
 pub data Items : Type 0 where
-  callArguments arrayElements objectProperties : Items
+  call_arguments array_elements object_properties : Items

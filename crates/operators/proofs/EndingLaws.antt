@@ -8,8 +8,8 @@ use borrow.Author.Tests.{ne_eqb, eqb-true, eqb-false, ltb-true, ltb-false}
 use lib.Dec.{T, eqb, ltb}
 use Rattle.machine.specs.Tokens.{question, in_word, semicolon, comma, colon}
 use Rattle.machine.specs.Operators.{assignment_operators, binary_operators, binary_operators_by, without, postfix_operators, postfix_kind, is_among}
-use Rattle.machine.specs.Scopes.{Items, callArguments, arrayElements, objectProperties}
-use Rattle.machine.specs.Machinery.Machine.{in_statement, in_head, Target, noTarget, someTarget, loneTarget, is_target, takes_in, allows_in, behind_variables, later_variables, Ending, byStatement, byReturn, by_variable, byStart, byTest, by_step, byObject, by_case, byParen, byBracket, byColon, by_item, testDue, operandDue, postfix_done, item_due, takeOperator, takePostfix, Entry, on, otherwise, Action, fail, goto, ask, look, for_each, behind_comma, comma_action, in_entry, is_first, ending_row, after_unary, assignment_row, postfix_row}
+use Rattle.machine.specs.Scopes.{Items, call_arguments, array_elements, object_properties}
+use Rattle.machine.specs.Machinery.Machine.{in_statement, in_head, Target, no_target, some_target, lone_target, is_target, takes_in, allows_in, behind_variables, later_variables, Ending, by_statement, by_return, by_variable, by_start, by_test, by_step, by_object, by_case, by_paren, by_bracket, by_colon, by_item, test_due, operand_due, postfix_done, item_due, take_operator, take_postfix, Entry, on, otherwise, Action, fail, goto, ask, look, for_each, behind_comma, comma_action, in_entry, is_first, ending_row, after_unary, assignment_row, postfix_row}
 use Rattle.machine.specs.Machinery.Classes.{is_single}
 use Rattle.controls.specs.Machinery.Numbers.{setting_by, items_by, variables_by, ending_by, target_by}
 use Rattle.controls.specs.Machinery.Steps.{takes_comma}
@@ -34,15 +34,15 @@ lacked class (on x action ∷ rest) t = go (eqb class x) t (lacked class rest)
 lacked class (otherwise action ∷ rest) t = absurd t
 
 -- what lists have for a class, if it is neither `,` nor a closer
-at_lists : (class : ℕ) (ending setting : ℕ) → 15 ≤ ending → T (lacks class (ending_row (by_item callArguments)))
-    → T (lacks class (ending_row (by_item arrayElements))) → T (lacks class (ending_row (by_item objectProperties)))
+at_lists : (class : ℕ) (ending setting : ℕ) → 15 ≤ ending → T (lacks class (ending_row (by_item call_arguments)))
+    → T (lacks class (ending_row (by_item array_elements))) → T (lacks class (ending_row (by_item object_properties)))
     → look class (ending_row (ending_by ending setting)) ≡ fail
 at_lists class ending setting h a b c = rw (item_ending ending setting h) (lacked class (ending_row (by_item (items_by ending))) (each (items_by ending)))
   where
     each : (items : Items) → T (lacks class (ending_row (by_item items)))
-    each callArguments = a
-    each arrayElements = b
-    each objectProperties = c
+    each call_arguments = a
+    each array_elements = b
+    each object_properties = c
 
 module _ (ending setting : ℕ) where
   -- what ends a variable, and the start of a `for`'s head
@@ -57,21 +57,21 @@ module _ (ending setting : ℕ) where
           let last : ending ≡ 2 = omega (arith, eqb-false ending 3 e, eqb-false ending 4 f) in
           rw last
 
-  pub start_ending : 5 ≤ ending → ending ≤ 6 → ending_by ending setting ≡ byStart
+  pub start_ending : 5 ≤ ending → ending ≤ 6 → ending_by ending setting ≡ by_start
   unfolding ending_by
   start_ending low high = go (eqb ending 5) refl
     where
-      go : (b : Bool) → eqb ending 5 ≡ b → ending_by ending setting ≡ byStart
+      go : (b : Bool) → eqb ending 5 ≡ b → ending_by ending setting ≡ by_start
       go true e = rw (eqb-true ending 5 e)
       go false e =
           let last : ending ≡ 6 = omega (arith, eqb-false ending 5 e) in
           rw last
 
-  pub head_behind : 3 ≤ ending → ending ≤ 4 → behind_variables (variables_by ending setting) ≡ testDue
+  pub head_behind : 3 ≤ ending → ending ≤ 4 → behind_variables (variables_by ending setting) ≡ test_due
   unfolding variables_by
   head_behind low high = go (eqb ending 3) refl
     where
-      go : (b : Bool) → eqb ending 3 ≡ b → behind_variables (variables_by ending setting) ≡ testDue
+      go : (b : Bool) → eqb ending 3 ≡ b → behind_variables (variables_by ending setting) ≡ test_due
       go true e = rw (eqb-true ending 3 e)
       go false e =
           let last : ending ≡ 4 = omega (arith, eqb-false ending 3 e) in
@@ -149,30 +149,30 @@ module _ (ending setting : ℕ) where
   late_comma low high = at_number (λ k. takes_comma (ending_by k setting)) 5 9 tt ending low high
 
 -- a chain that may be assigned to, by its number
-pub some_target : (ending : ℕ) → (ending ≡ 5 → ⊥) → target_by ending true ≡ someTarget
+pub some-target : (ending : ℕ) → (ending ≡ 5 → ⊥) → target_by ending true ≡ some_target
 unfolding target_by
-some_target ending other = rw (ne_eqb ending 5 other)
+some-target ending other = rw (ne_eqb ending 5 other)
 
 pub is-target : (ending : ℕ) → T (is_target (target_by ending true))
 unfolding target_by
 is-target ending = go (eqb ending 5)
   where
-    go : (b : Bool) → T (is_target (cond b loneTarget someTarget))
+    go : (b : Bool) → T (is_target (cond b lone_target some_target))
     go true = tt
     go false = tt
 
 pub comma_operator : (ending : Ending) → T (takes_comma ending) → look comma (ending_row ending) ≡ comma_action ending
-comma_operator (byStatement setting) t = refl
-comma_operator (byReturn setting) t = refl
+comma_operator (by_statement setting) t = refl
+comma_operator (by_return setting) t = refl
 comma_operator (by_variable place) t = absurd t
-comma_operator byStart t = refl
-comma_operator byTest t = refl
+comma_operator by_start t = refl
+comma_operator by_test t = refl
 comma_operator by_step t = refl
-comma_operator byObject t = refl
+comma_operator by_object t = refl
 comma_operator (by_case seen) t = refl
-comma_operator byParen t = refl
-comma_operator byBracket t = refl
-comma_operator byColon t = absurd t
+comma_operator by_paren t = refl
+comma_operator by_bracket t = refl
+comma_operator by_colon t = absurd t
 comma_operator (by_item items) t = absurd t
 
 -- behind a `,` another element or property is due, or the closer
@@ -180,7 +180,7 @@ pub item_next : (ending : ℕ) → (ending ≡ 15 → ⊥) → item_due (items_b
 unfolding items_by
 item_next ending other = rw (ne_eqb ending 15 other) (go (eqb ending 16))
   where
-    go : (b : Bool) → item_due (cond b arrayElements objectProperties) ≡ behind_comma (cond b arrayElements objectProperties)
+    go : (b : Bool) → item_due (cond b array_elements object_properties) ≡ behind_comma (cond b array_elements object_properties)
     go true = refl
     go false = refl
 
@@ -191,10 +191,10 @@ in_operator true t action rest = (refl, tt)
 in_operator false t action rest = absurd t
 
 pub in_next : (ending : Ending) → T (allows_in ending)
-    → (look in_word (after_unary ending) ≡ goto (operandDue ending noTarget) (takeOperator in_word))
+    → (look in_word (after_unary ending) ≡ goto (operand_due ending no_target) (take_operator in_word))
     × T (is_among (binary_operators_by (allows_in ending)) in_word)
 in_next ending t =
-    in_operator (allows_in ending) t (λ class. goto (operandDue ending noTarget) (takeOperator class)) (on question (ask ending) ∷ ending_row ending)
+    in_operator (allows_in ending) t (λ class. goto (operand_due ending no_target) (take_operator class)) (on question (ask ending) ∷ ending_row ending)
 
 -- but for `in`, binary operators are the same everywhere
 among_without : (x class : ℕ) → eqb class x ≡ false → (classes : List ℕ) → is_among (without x classes) class ≡ is_among classes class
@@ -217,65 +217,65 @@ module _ (class : ℕ) (no_in : class ≡ in_word → ⊥) where
 
   -- binary operators at once, and a class that follows no Unary
   pub binary_next : (ending : Ending) → is_among binary_operators class ≡ true
-      → (look class (after_unary ending) ≡ goto (operandDue ending noTarget) (takeOperator class)) × T (is_single class)
+      → (look class (after_unary ending) ≡ goto (operand_due ending no_target) (take_operator class)) × T (is_single class)
   binary_next ending is = (
-    among_entry class (λ class. goto (operandDue ending noTarget) (takeOperator class)) (binary_operators_by (allows_in ending)) (on question (ask ending) ∷ ending_row ending) (among_by (allows_in ending) ∙ is),
+    among_entry class (λ class. goto (operand_due ending no_target) (take_operator class)) (binary_operators_by (allows_in ending)) (on question (ask ending) ∷ ending_row ending) (among_by (allows_in ending) ∙ is),
     among_all class is_single binary_operators tt is,
   )
 
   pub past_operators : (ending : Ending) → is_among binary_operators class ≡ false
       → look class (after_unary ending) ≡ look class (on question (ask ending) ∷ ending_row ending)
   past_operators ending none =
-      other_entry class (λ class. goto (operandDue ending noTarget) (takeOperator class)) (binary_operators_by (allows_in ending)) (on question (ask ending) ∷ ending_row ending) (among_by (allows_in ending) ∙ none)
+      other_entry class (λ class. goto (operand_due ending no_target) (take_operator class)) (binary_operators_by (allows_in ending)) (on question (ask ending) ∷ ending_row ending) (among_by (allows_in ending) ∙ none)
 
   pub none_next : (ending : Ending) → is_among binary_operators class ≡ false → (class ≡ semicolon → ⊥) → (class ≡ comma → ⊥) → (class ≡ question → ⊥)
       → (class ≡ colon → ⊥) → NoCloser class → look class (after_unary ending) ≡ fail
   none_next ending none a b c d h = past_operators ending none ∙ rw (ne_eqb class question c) (ends ending)
     where
       ends : (ending : Ending) → look class (ending_row ending) ≡ fail
-      ends (byStatement setting) = rw (ne_eqb class semicolon a, ne_eqb class comma b)
-      ends (byReturn setting) = rw (ne_eqb class semicolon a, ne_eqb class comma b)
+      ends (by_statement setting) = rw (ne_eqb class semicolon a, ne_eqb class comma b)
+      ends (by_return setting) = rw (ne_eqb class semicolon a, ne_eqb class comma b)
       ends (by_variable place) = rw (ne_eqb class semicolon a, ne_eqb class comma b) (no_in_entry (is_first place) [])
-      ends byStart = rw (ne_eqb class semicolon a, ne_eqb class comma b)
-      ends byTest = rw (ne_eqb class semicolon a, ne_eqb class comma b)
+      ends by_start = rw (ne_eqb class semicolon a, ne_eqb class comma b)
+      ends by_test = rw (ne_eqb class semicolon a, ne_eqb class comma b)
       ends by_step = rw (h.no_paren, ne_eqb class comma b)
-      ends byObject = rw (h.no_paren, ne_eqb class comma b)
+      ends by_object = rw (h.no_paren, ne_eqb class comma b)
       ends (by_case seen) = rw (ne_eqb class colon d, ne_eqb class comma b)
-      ends byParen = rw (h.no_paren, ne_eqb class comma b)
-      ends byBracket = rw (h.no_bracket, ne_eqb class comma b)
-      ends byColon = rw (ne_eqb class colon d)
-      ends (by_item callArguments) = rw (ne_eqb class comma b, h.no_paren)
-      ends (by_item arrayElements) = rw (ne_eqb class comma b, h.no_bracket)
-      ends (by_item objectProperties) = rw (ne_eqb class comma b, h.no_brace)
+      ends by_paren = rw (h.no_paren, ne_eqb class comma b)
+      ends by_bracket = rw (h.no_bracket, ne_eqb class comma b)
+      ends by_colon = rw (ne_eqb class colon d)
+      ends (by_item call_arguments) = rw (ne_eqb class comma b, h.no_paren)
+      ends (by_item array_elements) = rw (ne_eqb class comma b, h.no_bracket)
+      ends (by_item object_properties) = rw (ne_eqb class comma b, h.no_brace)
 
 -- `++` and `--`, and assignments
 module _ (class : ℕ) (ending : Ending) (rest : List Entry) where
   pub postfix_next : is_among postfix_operators class ≡ true
-      → (look class (postfix_row ending false rest) ≡ goto (postfix_done ending) (takePostfix (postfix_kind class))) × T (is_single class)
+      → (look class (postfix_row ending false rest) ≡ goto (postfix_done ending) (take_postfix (postfix_kind class))) × T (is_single class)
   postfix_next is = (
-    among_entry class (λ class. goto (postfix_done ending) (takePostfix (postfix_kind class))) postfix_operators rest is,
+    among_entry class (λ class. goto (postfix_done ending) (take_postfix (postfix_kind class))) postfix_operators rest is,
     among_all class is_single postfix_operators tt is,
   )
 
   pub no_postfix : is_among postfix_operators class ≡ false → (newline : Bool) → look class (postfix_row ending newline rest) ≡ look class rest
   no_postfix none true = refl
-  no_postfix none false = other_entry class (λ class. goto (postfix_done ending) (takePostfix (postfix_kind class))) postfix_operators rest none
+  no_postfix none false = other_entry class (λ class. goto (postfix_done ending) (take_postfix (postfix_kind class))) postfix_operators rest none
 
   assigned : is_among assignment_operators class ≡ true
-      → look class (for_each (λ class. goto (operandDue ending someTarget) (takeOperator class)) assignment_operators rest)
-      ≡ goto (operandDue ending someTarget) (takeOperator class)
-  assigned is = among_entry class (λ class. goto (operandDue ending someTarget) (takeOperator class)) assignment_operators rest is
+      → look class (for_each (λ class. goto (operand_due ending some_target) (take_operator class)) assignment_operators rest)
+      ≡ goto (operand_due ending some_target) (take_operator class)
+  assigned is = among_entry class (λ class. goto (operand_due ending some_target) (take_operator class)) assignment_operators rest is
 
   pub assignment_next : is_among assignment_operators class ≡ true → (target : Target) → T (is_target target)
-      → (look class (assignment_row ending target rest) ≡ goto (operandDue ending someTarget) (takeOperator class)) × T (is_single class)
-  assignment_next is noTarget t = absurd t
-  assignment_next is someTarget t = (assigned is, among_all class is_single assignment_operators tt is)
-  assignment_next is loneTarget t = (assigned is, among_all class is_single assignment_operators tt is)
+      → (look class (assignment_row ending target rest) ≡ goto (operand_due ending some_target) (take_operator class)) × T (is_single class)
+  assignment_next is no_target t = absurd t
+  assignment_next is some_target t = (assigned is, among_all class is_single assignment_operators tt is)
+  assignment_next is lone_target t = (assigned is, among_all class is_single assignment_operators tt is)
 
   pub no_assignment : is_among assignment_operators class ≡ false → (target : Target) → look class (assignment_row ending target rest) ≡ look class rest
-  no_assignment none noTarget = refl
-  no_assignment none someTarget = other_entry class (λ class. goto (operandDue ending someTarget) (takeOperator class)) assignment_operators rest none
-  no_assignment none loneTarget = other_entry class (λ class. goto (operandDue ending someTarget) (takeOperator class)) assignment_operators rest none
+  no_assignment none no_target = refl
+  no_assignment none some_target = other_entry class (λ class. goto (operand_due ending some_target) (take_operator class)) assignment_operators rest none
+  no_assignment none lone_target = other_entry class (λ class. goto (operand_due ending some_target) (take_operator class)) assignment_operators rest none
 
 -- none of them has a class from that of `,` on
 pub neither_next : (class : ℕ) (ending : Ending) → comma ≤ class → (target : Target) (newline : Bool) (rest : List Entry)

@@ -5,7 +5,7 @@
 ghost use Rattle.std.specs.Prelude.{◌≡◌, Bool, not, cond, ◌&&◌, eqb, ◌≤◌, ◌<◌};
 ghost use Rattle.machine.specs.Tokens.{in_word, semicolon, comma, colon};
 ghost use Rattle.machine.specs.Operators.{assignment_operators, postfix_operators, is_among};
-ghost use Rattle.machine.specs.Machinery.Machine.{noTarget, someTarget, behind_variables, later_variables, behind_statement, variableDue, operandDue, operandDone, postfix_done, byObject, look, ending_row, after_unary, after_operand, row};
+ghost use Rattle.machine.specs.Machinery.Machine.{no_target, some_target, behind_variables, later_variables, behind_statement, variable_due, operand_due, operand_done, postfix_done, by_object, look, ending_row, after_unary, after_operand, row};
 ghost use Rattle.controls.specs.Machinery.Numbers.{setting_by, variables_by, ending_by, target_by};
 ghost use Rattle.controls.specs.Machinery.Steps.{Ended, Goes, Means};
 
@@ -28,14 +28,14 @@ pub fn end_statement(setting: u32, effect: u32) -> Step
 
 // Behind an operator between two operands one is due that may not be assigned to.
 fn behind_operator(ending: u32, setting: u32) -> Step
-    ensures { Goes result (operandDue (ending_by ending setting) noTarget) 3 }
+    ensures { Goes result (operand_due (ending_by ending setting) no_target) 3 }
 {
     goto(OPERAND_DUE, ending, setting, false, TAKE_OPERATOR)
 }
 
 // Behind an assignment or a `,` one is due that may, but it is not all of the start of a `for`'s head.
 fn behind_assignment(ending: u32, setting: u32) -> Step
-    ensures { Goes result (operandDue (ending_by ending setting) someTarget) 3 }
+    ensures { Goes result (operand_due (ending_by ending setting) some_target) 3 }
 {
     goto(
         OPERAND_DUE,
@@ -58,7 +58,7 @@ pub fn variables_end(ending: u32, setting: u32) -> Step
 
 // Behind the `,` of a variable a later one is due.
 pub fn next_variable(ending: u32, setting: u32) -> Step
-    ensures { Goes result (variableDue (later_variables (variables_by ending setting))) 14 }
+    ensures { Goes result (variable_due (later_variables (variables_by ending setting))) 14 }
 {
     if ending == BY_FIRST_VARIABLE {
         return goto(VARIABLE_DUE, BY_LATER_VARIABLE, setting, true, END_VARIABLE);
@@ -68,7 +68,7 @@ pub fn next_variable(ending: u32, setting: u32) -> Step
 
 // The `in` of a `for`.
 pub fn in_row() -> Step
-    ensures { Goes result (operandDue byObject someTarget) 9 }
+    ensures { Goes result (operand_due by_object some_target) 9 }
 {
     goto(OPERAND_DUE, BY_OBJECT, BODY, true, END_VALUE)
 }
@@ -217,7 +217,7 @@ fn operation_row(
     newline: bool,
     chain: bool,
 ) -> Step
-    ensures { class < comma → Means (cond chain (operandDone (ending_by ending setting) (target_by ending target)) (postfix_done (ending_by ending setting))) class result (look class (row (cond chain (operandDone (ending_by ending setting) (target_by ending target)) (postfix_done (ending_by ending setting))) newline)) }
+    ensures { class < comma → Means (cond chain (operand_done (ending_by ending setting) (target_by ending target)) (postfix_done (ending_by ending setting))) class result (look class (row (cond chain (operand_done (ending_by ending setting) (target_by ending target)) (postfix_done (ending_by ending setting))) newline)) }
 {
     if takes_assignment(class, target, chain) {
         return behind_assignment(ending, setting);
@@ -233,7 +233,7 @@ fn operation_row(
 
 // What makes a chain longer.
 fn link_row(class: u32, ending: u32, setting: u32, target: bool) -> Step
-    ensures { comma < class → (class ≡ semicolon → ⊥) → (class ≡ colon → ⊥) → (newline : Bool) → Means (operandDone (ending_by ending setting) (target_by ending target)) class result (look class (after_operand (ending_by ending setting) (target_by ending target) newline)) }
+    ensures { comma < class → (class ≡ semicolon → ⊥) → (class ≡ colon → ⊥) → (newline : Bool) → Means (operand_done (ending_by ending setting) (target_by ending target)) class result (look class (after_operand (ending_by ending setting) (target_by ending target) newline)) }
 {
     if class == tokens::DOT {
         return goto(DOT_LAST, ending, setting, target, KEEP);
@@ -249,7 +249,7 @@ fn link_row(class: u32, ending: u32, setting: u32, target: bool) -> Step
 
 // `,` and the signs behind an operand.
 fn sign_row(class: u32, ending: u32, setting: u32, target: bool, chain: bool) -> Step
-    ensures { comma ≤ class → (newline : Bool) → Means (cond chain (operandDone (ending_by ending setting) (target_by ending target)) (postfix_done (ending_by ending setting))) class result (look class (row (cond chain (operandDone (ending_by ending setting) (target_by ending target)) (postfix_done (ending_by ending setting))) newline)) }
+    ensures { comma ≤ class → (newline : Bool) → Means (cond chain (operand_done (ending_by ending setting) (target_by ending target)) (postfix_done (ending_by ending setting))) class result (look class (row (cond chain (operand_done (ending_by ending setting) (target_by ending target)) (postfix_done (ending_by ending setting))) newline)) }
 {
     if class == tokens::SEMICOLON {
         return semicolon_row(ending, setting);
@@ -276,7 +276,7 @@ pub fn operator_row(
     newline: bool,
     chain: bool,
 ) -> Step
-    ensures { Means (cond chain (operandDone (ending_by ending setting) (target_by ending target)) (postfix_done (ending_by ending setting))) class result (look class (row (cond chain (operandDone (ending_by ending setting) (target_by ending target)) (postfix_done (ending_by ending setting))) newline)) }
+    ensures { Means (cond chain (operand_done (ending_by ending setting) (target_by ending target)) (postfix_done (ending_by ending setting))) class result (look class (row (cond chain (operand_done (ending_by ending setting) (target_by ending target)) (postfix_done (ending_by ending setting))) newline)) }
 {
     // No operator has a class from that of `,` on, but `,` itself.
     if class < tokens::COMMA {

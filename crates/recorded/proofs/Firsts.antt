@@ -33,7 +33,7 @@ use Rattle.grammar.specs.Grammar.{
   target_chain,
   target_new,
   binary_form,
-  expressionForm,
+  expression_form,
   Target,
   Chain,
 }
@@ -77,7 +77,7 @@ module _ {all : List Token} {total low : ℕ} where
   binary_first (binary_unary (unary_postfix op same operand)) c = left_mark (target_first operand c)
   binary_first (binary_operator op tight left right) c = left_mark (binary_first left c)
 
-  pub expression_first : {within : Bool} {before after : List Token} {value : Syntax} → Derives (expressionForm within) before after value
+  pub expression_first : {within : Bool} {before after : List Token} {value : Syntax} → Derives (expression_form within) before after value
       → Counting all total low before → MarkIn low value
   expression_first (expression_assign (assign_binary binary)) c = binary_first binary c
   expression_first (expression_assign (assign_to op target value)) c = left_mark (target_first target c)

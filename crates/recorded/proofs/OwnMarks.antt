@@ -38,24 +38,24 @@ use Rattle.grammar.specs.Grammar.{
   no_parameters,
   some_parameters,
   Form,
-  variableForm,
+  variable_form,
   statements_form,
-  statementForm,
-  blockForm,
-  catchForm,
-  finallyForm,
-  functionForm,
-  clausesForm,
-  variablesForm,
-  optionalForm,
-  expressionForm,
-  assignForm,
+  statement_form,
+  block_form,
+  catch_form,
+  finally_form,
+  function_form,
+  clauses_form,
+  variables_form,
+  optional_form,
+  expression_form,
+  assign_form,
   binary_form,
   unary_form,
-  targetForm,
-  chainForm,
-  itemsForm,
-  listForm,
+  target_form,
+  chain_form,
+  items_form,
+  list_form,
   Derives,
   chain_leaf,
   chain_array,
@@ -200,24 +200,24 @@ ends_bare [] = false
 ends_bare (token class spot ∷ rest) = is_among behind_bare class
 
 abbrev ends : Form → List Token → Bool
-ends (variableForm more) after = ends_bare after
+ends (variable_form more) after = ends_bare after
 ends (statements_form scope) after = true
-ends statementForm after = true
-ends blockForm after = true
-ends catchForm after = true
-ends finallyForm after = true
-ends functionForm after = true
-ends (clausesForm more) after = true
-ends (variablesForm more) after = true
-ends (optionalForm more) after = true
-ends (expressionForm more) after = true
-ends (assignForm more) after = true
+ends statement_form after = true
+ends block_form after = true
+ends catch_form after = true
+ends finally_form after = true
+ends function_form after = true
+ends (clauses_form more) after = true
+ends (variables_form more) after = true
+ends (optional_form more) after = true
+ends (expression_form more) after = true
+ends (assign_form more) after = true
 ends (binary_form more least) after = true
 ends unary_form after = true
-ends (targetForm calls) after = true
-ends (chainForm calls) after = true
-ends (itemsForm items) after = true
-ends (listForm items) after = true
+ends (target_form calls) after = true
+ends (chain_form calls) after = true
+ends (items_form items) after = true
+ends (list_form items) after = true
 
 -- tokens are passed, with or without parts that they make: the next mark behind them
 record Skips (all : List Token) (total low : ℕ) (after : List Token) : Type 0 where

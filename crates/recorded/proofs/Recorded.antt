@@ -106,7 +106,7 @@ use Rattle.grammar.specs.Grammar.{
   no_statements,
   add_statement,
   add_declaration,
-  assignForm,
+  assign_form,
   Statement,
   Expression,
   Program,
@@ -197,7 +197,7 @@ module _ {all : List Token} {total : ℕ} {parts : List Part} (free : Gaps parts
   making {kind} {class} h among =
       taken (λ may. has_part (own_part among) (and_left (is_among (marking kind) class) (is_among operand_kinds kind) h) (and_right (is_among (marking kind) class) (is_among operand_kinds kind) h))
 
-  initialised : {more : Bool} {called sign : Spot} {value : Syntax} {rest after : List Token} → Derives (assignForm more) rest after value
+  initialised : {more : Bool} {called sign : Spot} {value : Syntax} {rest after : List Token} → Derives (assign_form more) rest after value
       → Among parts (node variable_syntax called.mark nil value) → Held all total parts rest
       → Held all total parts (token name called ∷ token assign sign ∷ rest)
   initialised {value = value} given among r low counting =

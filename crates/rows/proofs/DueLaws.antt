@@ -7,7 +7,7 @@ use borrow.Author.Tests.{ne_eqb, eqb-true}
 use lib.Dec.{T, eqb, ltb}
 use Rattle.machine.specs.Tokens.{semicolon, var_word}
 use Rattle.machine.specs.Operators.{is_among}
-use Rattle.machine.specs.Machinery.Machine.{someTarget, by_step, Control, returnFirst, throwFirst, startDue, testDue, stepDue, Entry, fail, look, operand, unless_line, row}
+use Rattle.machine.specs.Machinery.Machine.{some_target, by_step, Control, return_first, throw_first, start_due, test_due, step_due, Entry, fail, look, operand, unless_line, row}
 use Rattle.controls.specs.declared.Step.{Step}
 use Rattle.controls.specs.declared.Step.TheVariants.{Fail}
 use Rattle.controls.specs.Machinery.Numbers.{setting_by, ending_by, target_by, control_by}
@@ -59,17 +59,17 @@ module _ {class : ℕ} (ending setting : ℕ) (flag newline : Bool) (no-semicolo
       (λ b. absurd (false≢true b))
 
   -- else an operand does
-  pub operand_due : {step : Step} → (class ≡ var_word → ⊥) → (place : ℕ) → T (is_among (1 ∷ 5 ∷ 9 ∷ 10 ∷ 11 ∷ []) place) → (ltb place 9 && newline) ≡ false
+  pub operand-due : {step : Step} → (class ≡ var_word → ⊥) → (place : ℕ) → T (is_among (1 ∷ 5 ∷ 9 ∷ 10 ∷ 11 ∷ []) place) → (ltb place 9 && newline) ≡ false
       → ((from : Control) (due : Due from (ending_by (ending_at place) setting) (target_by (ending_at place) true)) → T (takes_prefix due) → Means from class step (look class (operand (ending_by (ending_at place) setting) (target_by (ending_at place) true))))
       → At step place
   unfolding ending_by target_by control_by
-  operand_due {step} no-var =
+  operand-due {step} no-var =
       at_due
       (λ place. (ltb place 9 && newline) ≡ false
       → ((from : Control) (due : Due from (ending_by (ending_at place) setting) (target_by (ending_at place) true)) → T (takes_prefix due) → Means from class step (look class (operand (ending_by (ending_at place) setting) (target_by (ending_at place) true))))
       → At step place)
-      (λ b m. rw (b, ne_eqb class semicolon no-semicolon) (m (returnFirst (setting_by setting)) due_value tt))
-      (λ b m. rw b (m (throwFirst (setting_by setting)) due_thrown tt))
-      (λ b m. rw (ne_eqb class semicolon no-semicolon, ne_eqb class var_word no-var) (m startDue due_start tt))
-      (λ b m. rw (ne_eqb class semicolon no-semicolon) (m testDue due_test tt))
-      (λ b m. besides_closers (m stepDue due_step tt) (operand_closers by_step someTarget class) (λ none. rw none.no_paren))
+      (λ b m. rw (b, ne_eqb class semicolon no-semicolon) (m (return_first (setting_by setting)) due_value tt))
+      (λ b m. rw b (m (throw_first (setting_by setting)) due_thrown tt))
+      (λ b m. rw (ne_eqb class semicolon no-semicolon, ne_eqb class var_word no-var) (m start_due due_start tt))
+      (λ b m. rw (ne_eqb class semicolon no-semicolon) (m test_due due_test tt))
+      (λ b m. besides_closers (m step_due due_step tt) (operand_closers by_step some_target class) (λ none. rw none.no_paren))

@@ -5,7 +5,7 @@
 ghost use Rattle.std.specs.Prelude.{◌≡◌, Bool, false, cond, ◌&&◌, [], ◌∷◌, T, eqb, ltb, leb, ℕ, ◌≤◌};
 ghost use Rattle.machine.specs.Tokens.{semicolon, comma, var_word, debugger_word, function_word};
 ghost use Rattle.machine.specs.Operators.{is_among};
-ghost use Rattle.machine.specs.Machinery.Machine.{behind_statement, statement_due, jumpFirst, variableNamed, endValue, on, goto, word_row, look, no_statement, row};
+ghost use Rattle.machine.specs.Machinery.Machine.{behind_statement, statement_due, jump_first, variable_named, end_value, on, goto, word_row, look, no_statement, row};
 ghost use Rattle.controls.specs.Machinery.Numbers.{setting_by, variables_by, must_by, control_by, control_of};
 ghost use Rattle.controls.specs.Machinery.Steps.{Leads, Means, Settled};
 
@@ -166,7 +166,7 @@ fn due_row(place: u32, class: u32, setting: u32, newline: bool) -> Step
 
 // Behind `continue` or `break`.
 fn jump_row(class: u32, setting: u32, newline: bool) -> Step
-    ensures { Means (jumpFirst (setting_by setting)) class result (look class (row (jumpFirst (setting_by setting)) newline)) }
+    ensures { Means (jump_first (setting_by setting)) class result (look class (row (jump_first (setting_by setting)) newline)) }
 {
     if class == tokens::SEMICOLON {
         return end_statement(setting, END_BARE);
@@ -182,7 +182,7 @@ fn jump_row(class: u32, setting: u32, newline: bool) -> Step
 
 // Behind the name of a variable.
 fn variable_row(class: u32, ending: u32, setting: u32) -> Step
-    ensures { Means (variableNamed (variables_by ending setting)) class result (look class (row (variableNamed (variables_by ending setting)) false)) }
+    ensures { Means (variable_named (variables_by ending setting)) class result (look class (row (variable_named (variables_by ending setting)) false)) }
 {
     if class == tokens::ASSIGN {
         return goto(OPERAND_DUE, variable_ending(ending), setting, true, KEEP);
@@ -217,7 +217,7 @@ fn variable_ending(ending: u32) -> u32
 
 // Only `;` may come, with which a statement ends.
 fn semicolon_due(class: u32, setting: u32) -> Step
-    ensures { (from : Rattle.machine.specs.Machinery.Machine.Control) → Leads endValue from (behind_statement (setting_by setting)) → Means from class result (look class (on semicolon (goto (behind_statement (setting_by setting)) endValue) ∷ [])) }
+    ensures { (from : Rattle.machine.specs.Machinery.Machine.Control) → Leads end_value from (behind_statement (setting_by setting)) → Means from class result (look class (on semicolon (goto (behind_statement (setting_by setting)) end_value) ∷ [])) }
 {
     if class == tokens::SEMICOLON {
         return end_statement(setting, END_VALUE);

@@ -9,18 +9,18 @@ use Rattle.rule.specs.Machinery.Summary.{
   Summary,
   nothing,
   operand,
-  afterOperator,
-  afterSeparator,
-  afterDot,
-  afterComma,
-  afterOther,
-  afterReturn,
-  afterHeadWord,
+  after_operator,
+  after_separator,
+  after_dot,
+  after_comma,
+  after_other,
+  after_return,
+  after_head_word,
   after_head,
   after_block,
-  afterFunction,
-  afterFunctionName,
-  afterFunctionParens,
+  after_function,
+  after_function_name,
+  after_function_parens,
 }
 
 abbrev bools : List Bool
@@ -66,10 +66,10 @@ at_class P t c = at P (a_class c) t
 
 -- the last three hold a Boolean
 abbrev plain : List Summary
-plain = nothing ∷ operand ∷ afterOperator ∷ afterSeparator ∷ afterDot ∷ afterComma ∷ afterOther ∷ afterReturn ∷ afterHeadWord ∷ after_head ∷ after_block ∷ []
+plain = nothing ∷ operand ∷ after_operator ∷ after_separator ∷ after_dot ∷ after_comma ∷ after_other ∷ after_return ∷ after_head_word ∷ after_head ∷ after_block ∷ []
 
 abbrev of_functions : List (Bool → Summary)
-of_functions = afterFunction ∷ afterFunctionName ∷ afterFunctionParens ∷ []
+of_functions = after_function ∷ after_function_name ∷ after_function_parens ∷ []
 
 abbrev all_plain : (Summary → Bool) → Bool
 all_plain P = all_in P plain
@@ -91,15 +91,15 @@ module _ (P : Summary → Bool) (t : T (all_summaries P)) where
   pub at_summary : (s : Summary) → T (P s)
   at_summary nothing = at_plain here
   at_summary operand = at_plain (there here)
-  at_summary afterOperator = at_plain (there (there here))
-  at_summary afterSeparator = at_plain (there (there (there here)))
-  at_summary afterDot = at_plain (there (there (there (there here))))
-  at_summary afterComma = at_plain (there (there (there (there (there here)))))
-  at_summary afterOther = at_plain (there (there (there (there (there (there here))))))
-  at_summary afterReturn = at_plain (there (there (there (there (there (there (there here)))))))
-  at_summary afterHeadWord = at_plain (there (there (there (there (there (there (there (there here))))))))
+  at_summary after_operator = at_plain (there (there here))
+  at_summary after_separator = at_plain (there (there (there here)))
+  at_summary after_dot = at_plain (there (there (there (there here))))
+  at_summary after_comma = at_plain (there (there (there (there (there here)))))
+  at_summary after_other = at_plain (there (there (there (there (there (there here))))))
+  at_summary after_return = at_plain (there (there (there (there (there (there (there here)))))))
+  at_summary after_head_word = at_plain (there (there (there (there (there (there (there (there here))))))))
   at_summary after_head = at_plain (there (there (there (there (there (there (there (there (there here)))))))))
   at_summary after_block = at_plain (there (there (there (there (there (there (there (there (there (there here))))))))))
-  at_summary (afterFunction inObject) = at_function here inObject
-  at_summary (afterFunctionName inObject) = at_function (there here) inObject
-  at_summary (afterFunctionParens inObject) = at_function (there (there here)) inObject
+  at_summary (after_function inObject) = at_function here inObject
+  at_summary (after_function_name inObject) = at_function (there here) inObject
+  at_summary (after_function_parens inObject) = at_function (there (there here)) inObject

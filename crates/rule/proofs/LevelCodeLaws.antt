@@ -12,7 +12,7 @@ use Rattle.elements.proofs.Choices.{cond_both}
 use Rattle.rule.specs.Trees.{Trees, none, leaf, group, count, paren_kind, object_kind, bracket_kind}
 use Rattle.rule.specs.Rule.{Class, name, value, operator, question, answer, colon, dot, comma, semicolon, other, return_word, function_word, head_word, parens, brackets, object, block, is, element_class, group_class, backwards, leaving, unanswered, settled_kind}
 use Rattle.rule.specs.Levels.{Levels, whole_text, inside, is_expression, kind_of, trees_of, slash_opens, word_is_name, stated_by, brace_opens, settled_in, count_so_far, on_top}
-use Rattle.rule.specs.Machinery.Summary.{Summary, nothing, afterDot, afterFunctionParens, brace_by, slash_by, name_by, add_name, add_parens, add_block, add, summary, operand, afterOperator, afterSeparator, afterComma, afterOther, afterReturn, afterHeadWord, afterFunction, code, summaries, kinds, one_question, level_for, level_code}
+use Rattle.rule.specs.Machinery.Summary.{Summary, nothing, after_dot, after_function_parens, brace_by, slash_by, name_by, add_name, add_parens, add_block, add, summary, operand, after_operator, after_separator, after_comma, after_other, after_return, after_head_word, after_function, code, summaries, kinds, one_question, level_for, level_code}
 use Rattle.rule.specs.Machinery.LevelCodes.{kind_in, questions_in, with, level_in, slash_by_level, name_by_level, stated_by_level, brace_by_code, brace_by_level, settled_by_level, name_code, level_after_name, parens_code, level_after_parens, block_code, level_after_block, level_after}
 use Rattle.rule.proofs.Finite.{both_bools, at_bool, all_summaries, at_summary}
 use Rattle.rule.proofs.SummaryLaws.{brace_right, slash_right, name_right}
@@ -89,11 +89,11 @@ module _ (k : ℕ) (s : Summary) (n : ℕ) where
 
   slash_level : slash_by_level (level_for k s n) ≡ slash_by s
   unfolding slash_by_level
-  slash_level = answered (ltb (code false (afterFunctionParens true))) (λ o s. slash_by s) tt
+  slash_level = answered (ltb (code false (after_function_parens true))) (λ o s. slash_by s) tt
 
   word_level : name_by_level (level_for k s n) ≡ name_by (eqb k object_kind) s
   unfolding name_by_level
-  word_level = answered (leb (code false afterDot)) name_by tt
+  word_level = answered (leb (code false after_dot)) name_by tt
 
   name_level : level_after_name (level_for k s n) ≡ level_for k (add_name s) n
   unfolding level_after_name
@@ -122,18 +122,18 @@ module _ (k : ℕ) (s : Summary) (n : ℕ) where
     unfolding brace_by_level
     brace_level newline = rw (kind_part, code_part, object_expression k) (brace-by-code (eqb k object_kind) (is_expression k) newline s)
 
-    question_level : with (level_for k s n) (code false afterOperator) + one_question ≡ level_for k afterOperator (n + 1)
+    question_level : with (level_for k s n) (code false after_operator) + one_question ≡ level_for k after_operator (n + 1)
     question_level = rw upper_part (omega arith)
 
-    semicolon_level : with (level_for k s n % one_question) (code false afterSeparator) ≡ level_for k afterSeparator 0
+    semicolon_level : with (level_for k s n % one_question) (code false after_separator) ≡ level_for k after_separator 0
     semicolon_level = omega (arith, code_small (eqb k object_kind) s)
 
     -- an answer takes one, if there is one
-    answer_level : with (cond (ltb (level_for k s n) one_question) (level_for k s n) (level_for k s n - one_question)) (code false afterOperator) ≡ level_for k afterOperator (n - 1)
+    answer_level : with (cond (ltb (level_for k s n) one_question) (level_for k s n) (level_for k s n - one_question)) (code false after_operator) ≡ level_for k after_operator (n - 1)
     answer_level = go n (code_small (eqb k object_kind) s)
       where
         go : (n : ℕ) → code (eqb k object_kind) s < summaries
-            → with (cond (ltb (level_for k s n) one_question) (level_for k s n) (level_for k s n - one_question)) (code false afterOperator) ≡ level_for k afterOperator (n - 1)
+            → with (cond (ltb (level_for k s n) one_question) (level_for k s n) (level_for k s n - one_question)) (code false after_operator) ≡ level_for k after_operator (n - 1)
         go zero small-code = rw (lt-ltb (level_for k s 0) one_question (omega arith)) (omega arith)
         go (suc m) small-code = rw (le-ltb (level_for k s (suc m)) one_question (omega arith)) (omega arith)
 
@@ -143,17 +143,17 @@ module _ (k : ℕ) (s : Summary) (n : ℕ) where
     unfolding level_after
     level-after name newline = name_level
     level-after value newline = plain_level (code false operand)
-    level-after operator newline = plain_level (code false afterOperator)
+    level-after operator newline = plain_level (code false after_operator)
     level-after question newline = question_level
     level-after answer newline = answer_level
-    level-after colon newline = plain_level (code false afterSeparator)
-    level-after dot newline = plain_level (code false afterDot)
-    level-after comma newline = rw kind_part (plain_level (code (eqb k object_kind) afterComma))
+    level-after colon newline = plain_level (code false after_separator)
+    level-after dot newline = plain_level (code false after_dot)
+    level-after comma newline = rw kind_part (plain_level (code (eqb k object_kind) after_comma))
     level-after semicolon newline = semicolon_level
-    level-after other newline = plain_level (code false afterOther)
-    level-after return_word newline = plain_level (code false afterReturn)
-    level-after function_word newline = rw (brace_level newline) (plain_level (code false (afterFunction (brace_by (is_expression k) s newline))))
-    level-after head_word newline = plain_level (code false afterHeadWord)
+    level-after other newline = plain_level (code false after_other)
+    level-after return_word newline = plain_level (code false after_return)
+    level-after function_word newline = rw (brace_level newline) (plain_level (code false (after_function (brace_by (is_expression k) s newline))))
+    level-after head_word newline = plain_level (code false after_head_word)
     level-after parens newline = parens_level
     level-after brackets newline = plain_level (code false operand)
     level-after object newline = plain_level (code false operand)

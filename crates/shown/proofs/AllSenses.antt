@@ -18,7 +18,7 @@ use Rattle.rule.specs.Rule.{increment_sign, decrement_sign}
 use Rattle.rule.specs.Machinery.Summary.{operand}
 use Rattle.derivations.specs.Cuts.{is_closer}
 use Rattle.derivations.specs.Tokens.{token_of, tokens_from, open_brace, colon, sign_class, delimiter_class, class_of}
-use Rattle.derivations.specs.Senses.{Sense, objectAt, block_at, beforeAt, after_at, answerAt}
+use Rattle.derivations.specs.Senses.{Sense, object_at, block_at, before_at, after_at, answer_at}
 use Rattle.shown.specs.Shown.{places_of, is_sensed, sensed_in}
 use Rattle.machine.specs.Machinery.Machine.{State, dead, live, consume, asks_in}
 use Rattle.agreement.proofs.TreeClasses.{is_update, fails}
@@ -95,7 +95,7 @@ sense_place : (asked : Bool) (after : State) (class first : ℕ) → places_of (
 unfolding places_of
 sense_place asked after class first = go (eqb class open_brace) (is_update class) (eqb class colon && asked)
   where
-    go : (a b c : Bool) → places_of (cond a (brace_behind after first ∷ []) (cond b (update_behind after first ∷ []) (cond c (answerAt first ∷ []) [])))
+    go : (a b c : Bool) → places_of (cond a (brace_behind after first ∷ []) (cond b (update_behind after first ∷ []) (cond c (answer_at first ∷ []) [])))
         ≡ cond (a || b) (first ∷ []) []
     go true b c = brace_place after first
     go false true c = update_place after first
@@ -105,11 +105,11 @@ sense_place asked after class first = go (eqb class open_brace) (is_update class
 places_append : (first second : List Sense) → places_of (first ++ second) ≡ places_of first ++ places_of second
 unfolding places_of
 places_append [] second = refl
-places_append (objectAt n ∷ first) second = ap (λ (ns : List ℕ). n ∷ ns) (places_append first second)
+places_append (object_at n ∷ first) second = ap (λ (ns : List ℕ). n ∷ ns) (places_append first second)
 places_append (block_at n ∷ first) second = ap (λ (ns : List ℕ). n ∷ ns) (places_append first second)
-places_append (beforeAt n ∷ first) second = ap (λ (ns : List ℕ). n ∷ ns) (places_append first second)
+places_append (before_at n ∷ first) second = ap (λ (ns : List ℕ). n ∷ ns) (places_append first second)
 places_append (after_at n ∷ first) second = ap (λ (ns : List ℕ). n ∷ ns) (places_append first second)
-places_append (answerAt n ∷ first) second = places_append first second
+places_append (answer_at n ∷ first) second = places_append first second
 
 pub places_from : (state : State) (before : ℕ) (es : List Element) → places_of (senses_from state (tokens_from before es)) ≡ sensed_in es
 unfolding tokens_from sensed_in places_of

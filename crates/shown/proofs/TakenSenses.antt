@@ -20,9 +20,9 @@ use Rattle.grammar.specs.Grammar.{
   body,
   block,
   Items,
-  callArguments,
-  arrayElements,
-  objectProperties,
+  call_arguments,
+  array_elements,
+  object_properties,
   may_end_in_comma,
   Names,
   one_name,
@@ -31,24 +31,24 @@ use Rattle.grammar.specs.Grammar.{
   no_parameters,
   some_parameters,
   Form,
-  expressionForm,
-  assignForm,
+  expression_form,
+  assign_form,
   binary_form,
   unary_form,
-  targetForm,
-  chainForm,
-  functionForm,
-  statementForm,
-  blockForm,
-  catchForm,
-  finallyForm,
-  clausesForm,
-  variablesForm,
-  variableForm,
-  optionalForm,
+  target_form,
+  chain_form,
+  function_form,
+  statement_form,
+  block_form,
+  catch_form,
+  finally_form,
+  clauses_form,
+  variables_form,
+  variable_form,
+  optional_form,
   statements_form,
-  itemsForm,
-  listForm,
+  items_form,
+  list_form,
   Derives,
   Function,
   identifier,
@@ -128,9 +128,9 @@ use Rattle.grammar.specs.Grammar.{
   add_declaration,
   Program,
 }
-use Rattle.derivations.specs.Senses.{Sense, block_at, beforeAt, after_at, answerAt}
+use Rattle.derivations.specs.Senses.{Sense, block_at, before_at, after_at, answer_at}
 use Rattle.shown.specs.Shown.{senses_of}
-use Rattle.machine.specs.Machinery.Machine.{Frame, empty, reduced, Effect, affect, holdWord, takePrefix, takeElse, startStatement, endValue, endHead, Value, doneValue, listValue, statementValue, value_of, Target, noTarget, someTarget, loneTarget, is_target, allows_in, Ending, byStatement, byReturn, by_variable, byStart, byTest, by_step, byObject, by_case, byParen, byBracket, byColon, by_item, Role, declared, operand_in, ifNest, elseNest, doNest, Setting, among, in_clause, in_nest, Variables, in_statement, in_head, later_variables, behind_variables, Control, statement_due, statement_done, clause_due, tryFirst, tryDone, catchPast, catchDone, finallyFirst, tryEnded, switchPast, testDue, stepDue, variableDue, variableNamed, bodyDone, testFirst, semicolonDue, behind_statement, operandDue, operandDone, postfix_done, functionFirst, functionNamed, parameterPast, item_due, parameter_due, parameterNamed, list_closer, Action, goto, push, leave, otherwise, look, row, Closing, toParameter, toStatement, toBlock, toFor, toForIn, toTest, toBody, toTry, close, Open, grouped, nested, asking, State, live, act, consume, start, asks, asks_in}
+use Rattle.machine.specs.Machinery.Machine.{Frame, empty, reduced, Effect, affect, hold_word, take_prefix, take_else, start_statement, end_value, end_head, Value, done_value, list_value, statement_value, value_of, Target, no_target, some_target, lone_target, is_target, allows_in, Ending, by_statement, by_return, by_variable, by_start, by_test, by_step, by_object, by_case, by_paren, by_bracket, by_colon, by_item, Role, declared, operand_in, if_nest, else_nest, do_nest, Setting, among, in_clause, in_nest, Variables, in_statement, in_head, later_variables, behind_variables, Control, statement_due, statement_done, clause_due, try_first, try_done, catch_past, catch_done, finally_first, try_ended, switch_past, test_due, step_due, variable_due, variable_named, body_done, test_first, semicolon_due, behind_statement, operand_due, operand_done, postfix_done, function_first, function_named, parameter_past, item_due, parameter_due, parameter_named, list_closer, Action, goto, push, leave, otherwise, look, row, Closing, to_parameter, to_statement, to_block, to_for, to_for_in, to_test, to_body, to_try, close, Open, grouped, nested, asking, State, live, act, consume, start, asks, asks_in}
 use Rattle.machine.specs.Machinery.Classes.{is_sensed}
 use Rattle.agreement.proofs.TreeClasses.{is_update, holds, fails}
 use Rattle.agreement.proofs.Related.{is_last}
@@ -146,7 +146,7 @@ no_sense : (asked : Bool) (after : State) (class first : ℕ) → T (not (is_sen
 no_sense asked after class first = go (eqb class open_brace) (is_update class) (eqb class colon && asked)
   where
     go : (a b c : Bool) → T (not (a || (b || c)))
-        → cond a (brace_behind after first ∷ []) (cond b (update_behind after first ∷ []) (cond c (answerAt first ∷ []) [])) ≡ []
+        → cond a (brace_behind after first ∷ []) (cond b (update_behind after first ∷ []) (cond c (answer_at first ∷ []) [])) ≡ []
     go true b c none = absurd none
     go false true c none = absurd none
     go false false true none = absurd none
@@ -250,71 +250,71 @@ plain_past {control} {next} class spot after f around looked other =
     step_past class spot after f around looked λ g. no_sense (asks control) (live next g around) class spot.first other
 
 leaf_past : {class : ℕ} (spot : Spot) (after : List Token) (ending : Ending) (target : Target) (f : Frame) (around : List Open) → Leaf class
-    → Past (live (operandDue ending target) f around) (token class spot ∷ after) [] (operandDone ending target) around after
+    → Past (live (operand_due ending target) f around) (token class spot ∷ after) [] (operand_done ending target) around after
 leaf_past {class} spot after ending target f around leaf =
-    plain_past class spot after f around (look_leaf ending target leaf) (at_leaf (λ x. not (is_sensed (asks (operandDue ending target)) x)) tt leaf)
+    plain_past class spot after f around (look_leaf ending target leaf) (at_leaf (λ x. not (is_sensed (asks (operand_due ending target)) x)) tt leaf)
 
 -- operators between two operands have no sense
 assignment_past : (class : ℕ) (sign : Spot) (after : List Token) (ending : Ending) (target : Target) (f : Frame) (around : List Open) → T (is_target target)
     → T (is_among assignment_operators class)
-    → Past (live (operandDone ending target) f around) (token class sign ∷ after) [] (operandDue ending someTarget) around after
+    → Past (live (operand_done ending target) f around) (token class sign ∷ after) [] (operand_due ending some_target) around after
 assignment_past class sign after ending target f around may op =
     plain_past class sign after f around (look_assignment ending target sign.newline class may op)
-    (at_class (λ x. not (is_sensed (asks (operandDone ending target)) x)) assignment_operators class op tt)
+    (at_class (λ x. not (is_sensed (asks (operand_done ending target)) x)) assignment_operators class op tt)
 
 binary_past : {ending : Ending} {control : Control} (class : ℕ) (sign : Spot) (after : List Token) (f : Frame) (around : List Open)
     → T (is_among (binary_operators_by (allows_in ending)) class) → UnaryDone ending control
-    → Past (live control f around) (token class sign ∷ after) [] (operandDue ending noTarget) around after
+    → Past (live control f around) (token class sign ∷ after) [] (operand_due ending no_target) around after
 binary_past {ending} {control} class sign after f around op ends =
     plain_past class sign after f around (look_binary ends sign.newline class op)
     (at_class (λ x. not (is_sensed (asks control) x)) binary_operators class (binary_by (allows_in ending) class op) tt)
 
 comma_past : {ending : Ending} {control : Control} (sign : Spot) (after : List Token) (f : Frame) (around : List Open) → T (takes_comma ending)
-    → UnaryDone ending control → Past (live control f around) (token comma sign ∷ after) [] (operandDue ending someTarget) around after
+    → UnaryDone ending control → Past (live control f around) (token comma sign ∷ after) [] (operand_due ending some_target) around after
 comma_past sign after f around takes ends = plain_past comma sign after f around (look_comma ends sign.newline takes) tt
 
 -- nor has the `?` of a conditional, behind which its middle part stands by itself
 question_past : {ending : Ending} {control : Control} (sign : Spot) (after : List Token) (f : Frame) (around : List Open) → UnaryDone ending control
     → senses_from (live control f around) (token question sign ∷ after)
-    ≡ senses_from (live (operandDue byColon someTarget) empty (asking ending sign.mark (reduced least_binary f) ∷ around)) after
+    ≡ senses_from (live (operand_due by_colon some_target) empty (asking ending sign.mark (reduced least_binary f) ∷ around)) after
 question_past {control = control} sign after f around ends =
     senses_see.past_other (live control f around) question sign after tt
     ∙ ap (λ (z : Action). senses_from (act z question sign f around) after) (look_question ends sign.newline)
 
 -- where an operand is due, none stands last
-no_operand : (ending : Ending) (target : Target) → is_last (operandDue ending target) operand ≡ false
-no_operand (byStatement setting) target = refl
-no_operand (byReturn setting) target = refl
+no_operand : (ending : Ending) (target : Target) → is_last (operand_due ending target) operand ≡ false
+no_operand (by_statement setting) target = refl
+no_operand (by_return setting) target = refl
 no_operand (by_variable place) target = refl
-no_operand byStart target = refl
-no_operand byTest target = refl
+no_operand by_start target = refl
+no_operand by_test target = refl
 no_operand by_step target = refl
-no_operand byObject target = refl
+no_operand by_object target = refl
 no_operand (by_case seen) target = refl
-no_operand byParen target = refl
-no_operand byBracket target = refl
-no_operand byColon target = refl
-no_operand (by_item callArguments) target = refl
-no_operand (by_item arrayElements) target = refl
-no_operand (by_item objectProperties) target = refl
+no_operand by_paren target = refl
+no_operand by_bracket target = refl
+no_operand by_colon target = refl
+no_operand (by_item call_arguments) target = refl
+no_operand (by_item array_elements) target = refl
+no_operand (by_item object_properties) target = refl
 
 -- so `++` and `--` stand before it; the other operators there have no sense
 prefix_past : (class : ℕ) (sign : Spot) (after : List Token) (ending : Ending) (target : Target) (f : Frame) (around : List Open)
     → T (is_among prefix_operators class)
-    → Past (live (operandDue ending target) f around) (token class sign ∷ after) (cond (is_update class) (beforeAt sign.first ∷ []) [])
-    (operandDue ending noTarget) around after
+    → Past (live (operand_due ending target) f around) (token class sign ∷ after) (cond (is_update class) (before_at sign.first ∷ []) [])
+    (operand_due ending no_target) around after
 prefix_past class sign after ending target f around op =
     step_past class sign after f around (look_prefix ending target class op) λ g.
     rw (
       fails (eqb class open_brace) (at_class (λ x. not (eqb x open_brace)) prefix_operators class op tt),
       fails (eqb class colon) (at_class (λ x. not (eqb x colon)) prefix_operators class op tt),
-      no_operand ending noTarget,
+      no_operand ending no_target,
     )
 
 -- behind an operand they stand after it
 postfix_past : (class : ℕ) (sign : Spot) (after : List Token) (ending : Ending) (target : Target) (f : Frame) (around : List Open)
     → T (is_among postfix_operators class) → T (not sign.newline)
-    → Past (live (operandDone ending target) f around) (token class sign ∷ after) (after_at sign.first ∷ []) (postfix_done ending) around after
+    → Past (live (operand_done ending target) f around) (token class sign ∷ after) (after_at sign.first ∷ []) (postfix_done ending) around after
 postfix_past class sign after ending target f around op same =
     step_past class sign after f around (look_postfix ending target sign.newline class op same) λ g.
     rw (fails (eqb class open_brace) (at_class (λ x. not (eqb x open_brace)) postfix_operators class op tt), holds (is_update class) op)
@@ -359,53 +359,53 @@ unasked (in_nest nest) = refl
 
 -- the nest of an `else` is left whatever comes, that of an `if` before all but `else`; that of a `try` is left so behind its `finally`, and behind its
 -- `catch` before all but `finally`
-else_left : (after : List Token) → Left (statement_done elseNest) statementValue after
+else_left : (after : List Token) → Left (statement_done else_nest) statement_value after
 else_left [] = tt
 else_left (token class spot ∷ after) = refl
 
-if_left : (after : List Token) → T (no_else after) → Left (statement_done ifNest) statementValue after
+if_left : (after : List Token) → T (no_else after) → Left (statement_done if_nest) statement_value after
 if_left [] alone = tt
 if_left (token class spot ∷ after) alone =
-    look_past class else_word (goto (statement_due true (in_nest elseNest)) takeElse) (otherwise (leave statementValue) ∷ []) alone
+    look_past class else_word (goto (statement_due true (in_nest else_nest)) take_else) (otherwise (leave statement_value) ∷ []) alone
 
-finally_left : (after : List Token) → Left tryEnded doneValue after
+finally_left : (after : List Token) → Left try_ended done_value after
 finally_left [] = tt
 finally_left (token class spot ∷ after) = refl
 
-catch_left : (after : List Token) → T (no_finally after) → Left catchDone doneValue after
+catch_left : (after : List Token) → T (no_finally after) → Left catch_done done_value after
 catch_left [] alone = tt
 catch_left (token class spot ∷ after) alone =
-    look_past class finally_word (goto finallyFirst (startStatement finally_word)) (otherwise (leave doneValue) ∷ []) alone
+    look_past class finally_word (goto finally_first (start_statement finally_word)) (otherwise (leave done_value) ∷ []) alone
 
 -- a function without a name goes on as one with a name
 unnamed_past : {before after : List Token} {value : Syntax} (ending : Ending) (target : Target) (f : Frame) (around : List Open) → Function before after value
-    → senses_from (live (functionFirst (operand_in ending target)) f around) before ≡ senses_from (live (functionNamed (operand_in ending target)) f around) before
+    → senses_from (live (function_first (operand_in ending target)) f around) before ≡ senses_from (live (function_named (operand_in ending target)) f around) before
 unnamed_past ending target f around (function_all parameters statements) = refl
 
 -- no parameter has a sense
 names_past : {before after : List Token} (f : Frame) (around : List Open) → Names before after
-    → Past (live (parameter_due false) f around) before [] parameterNamed around after
+    → Past (live (parameter_due false) f around) before [] parameter_named around after
 names_past f around one_name = straight f refl
 names_past f around (more_names names) = and_on (names_past f around names) λ u g. straight _ refl
 
 parameters_past : {before after : List Token} {closer : Spot} (f : Frame) (behind : Control) (mark : ℕ) (g : Frame) (around : List Open)
     → Parameters before (token close_paren closer ∷ after)
-    → Past (live (parameter_due false) f (grouped behind toParameter mark g ∷ around)) before [] behind around after
+    → Past (live (parameter_due false) f (grouped behind to_parameter mark g ∷ around)) before [] behind around after
 parameters_past f behind mark g around no_parameters = straight _ refl
-parameters_past f behind mark g around (some_parameters names) = and_on (names_past f (grouped behind toParameter mark g ∷ around) names) λ u h. straight _ refl
+parameters_past f behind mark g around (some_parameters names) = and_on (names_past f (grouped behind to_parameter mark g ∷ around) names) λ u h. straight _ refl
 
 -- where a list may be closed: behind an item, where no argument has come, and behind a `,` that may be the last
 data MayClose : Items → Control → Type 0 where
   behind_item : {items : Items} {control : Control} → UnaryDone (by_item items) control → MayClose items control
-  no_argument : MayClose callArguments (item_due callArguments)
+  no_argument : MayClose call_arguments (item_due call_arguments)
   behind-comma : {items : Items} (first : Bool) → T (may_end_in_comma items) → MayClose items (between_items items first)
 
 item_closed : (items : Items) (f : Frame) (behind : Control) (closing : Closing) (mark : ℕ) (g : Frame) (around : List Open) (closer : Spot) (after : List Token)
     → T (is_among (behind_unary (by_item items)) (list_closer items))
     × Past (live (postfix_done (by_item items)) f (grouped behind closing mark g ∷ around)) (token (list_closer items) closer ∷ after) [] behind around after
-item_closed callArguments f behind closing mark g around closer after = (tt, straight _ refl)
-item_closed arrayElements f behind closing mark g around closer after = (tt, straight _ refl)
-item_closed objectProperties f behind closing mark g around closer after = (tt, straight _ refl)
+item_closed call_arguments f behind closing mark g around closer after = (tt, straight _ refl)
+item_closed array_elements f behind closing mark g around closer after = (tt, straight _ refl)
+item_closed object_properties f behind closing mark g around closer after = (tt, straight _ refl)
 
 closer_past : {items : Items} {control : Control} (f : Frame) (behind : Control) (closing : Closing) (mark : ℕ) (g : Frame) (around : List Open) (closer : Spot)
     (after : List Token) → MayClose items control
@@ -414,11 +414,11 @@ closer_past f behind closing mark g around closer after (behind_item {items = it
     let closed = item_closed items f behind closing mark g around closer after in
     led_by (unary_done (list_closer items) closer after f (grouped behind closing mark g ∷ around) closed.0 ends) closed.1
 closer_past f behind closing mark g around closer after no_argument = straight _ refl
-closer_past f behind closing mark g around closer after (behind-comma {items = callArguments} first allowed) = absurd allowed
-closer_past f behind closing mark g around closer after (behind-comma {items = arrayElements} true allowed) = straight _ refl
-closer_past f behind closing mark g around closer after (behind-comma {items = arrayElements} false allowed) = straight _ refl
-closer_past f behind closing mark g around closer after (behind-comma {items = objectProperties} true allowed) = straight _ refl
-closer_past f behind closing mark g around closer after (behind-comma {items = objectProperties} false allowed) = straight _ refl
+closer_past f behind closing mark g around closer after (behind-comma {items = call_arguments} first allowed) = absurd allowed
+closer_past f behind closing mark g around closer after (behind-comma {items = array_elements} true allowed) = straight _ refl
+closer_past f behind closing mark g around closer after (behind-comma {items = array_elements} false allowed) = straight _ refl
+closer_past f behind closing mark g around closer after (behind-comma {items = object_properties} true allowed) = straight _ refl
+closer_past f behind closing mark g around closer after (behind-comma {items = object_properties} false allowed) = straight _ refl
 
 abbrev PastList : Items → Frame → List Open → List Token → List Sense → List Token → Type 0
 PastList items f around before senses after = PastWhere (live (item_due items) f around) before senses (MayClose items) around after
@@ -431,43 +431,43 @@ list_past {behind = behind} {closing = closing} {mark = mark} {g = g} {around = 
     and_on p λ s h. closer_past h behind closing mark g around closer after s.1
 
 hole_past : (first : Bool) (f : Frame) (around : List Open) (sign : Spot) (after : List Token)
-    → PastTo (live (between_items arrayElements first) f around) (token comma sign ∷ after) [] (between_items arrayElements) around after
+    → PastTo (live (between_items array_elements first) f around) (token comma sign ∷ after) [] (between_items array_elements) around after
 hole_past true f around sign after = record { which = true; f = _; passes = refl }
 hole_past false f around sign after = record { which = true; f = _; passes = refl }
 
 -- a variable is complete behind its name, or behind its initialiser
 data VariableDone : Variables → Control → Type 0 where
-  bare_done : {place : Variables} → VariableDone place (variableNamed place)
+  bare_done : {place : Variables} → VariableDone place (variable_named place)
   value_done : {place : Variables} {control : Control} → UnaryDone (by_variable place) control → VariableDone place control
 
 next_variable : {place : Variables} {control : Control} (f : Frame) (around : List Open) (sign : Spot) (after : List Token) → VariableDone place control
-    → Past (live control f around) (token comma sign ∷ after) [] (variableDue (later_variables place)) around after
+    → Past (live control f around) (token comma sign ∷ after) [] (variable_due (later_variables place)) around after
 next_variable f around sign after bare_done = straight _ refl
 next_variable f around sign after (value_done ends) = plain_past comma sign after f around (look_end ends sign.newline comma tt) tt
 
 -- behind a `,` another may come
 another_variable : (place : Variables) (first : Bool) {control : Control} (f : Frame) (around : List Open) (sign : Spot) (after : List Token)
     → VariableDone (between_variables place first) control
-    → PastTo (live control f around) (token comma sign ∷ after) [] (λ (first : Bool). variableDue (between_variables place first)) around after
+    → PastTo (live control f around) (token comma sign ∷ after) [] (λ (first : Bool). variable_due (between_variables place first)) around after
 another_variable place first {control} f around sign after done =
     let p = next_variable f around sign after done in
     record {
       which = false;
       f = p.f;
-      passes = subst (λ (z : Variables). senses_from (live control f around) (token comma sign ∷ after) ≡ senses_from (live (variableDue z) p.f around) after)
+      passes = subst (λ (z : Variables). senses_from (live control f around) (token comma sign ∷ after) ≡ senses_from (live (variable_due z) p.f around) after)
           (later_between place first) p.passes;
     }
 
 variables_end : {place : Variables} {control : Control} (f : Frame) (around : List Open) (end : Spot) (after : List Token) → VariableDone place control
     → Past (live control f around) (token semicolon end ∷ after) [] (behind_variables place) around after
-variables_end f around end after bare_done = straight (affect endValue end.mark f) refl
+variables_end f around end after bare_done = straight (affect end_value end.mark f) refl
 variables_end f around end after (value_done ends) = plain_past semicolon end after f around (look_end ends end.newline semicolon tt) tt
 
 -- behind the one variable of a `for` stands `in`
 only_variable : {control : Control} (f : Frame) (around : List Open) (sign : Spot) (after : List Token) → VariableDone (in_head true) control
-    → Past (live control f around) (token in_word sign ∷ after) [] (operandDue byObject someTarget) around after
-only_variable f around sign after bare_done = straight (affect endValue sign.mark f) refl
-only_variable f around sign after (value_done ends) = straight (affect endValue sign.mark f) (unary_done in_word sign after f around tt ends)
+    → Past (live control f around) (token in_word sign ∷ after) [] (operand_due by_object some_target) around after
+only_variable f around sign after bare_done = straight (affect end_value sign.mark f) refl
+only_variable f around sign after (value_done ends) = straight (affect end_value sign.mark f) (unary_done in_word sign after f around tt ends)
 
 -- a part of the head of a `for` is complete where it may begin, or behind its value
 data PartDone : Control → Ending → Control → Type 0 where
@@ -495,88 +495,88 @@ behind_part {around = around} {after = after} {spot = spot} part p = and_on p λ
 
 -- the head of a `for` from its first `;` on, or from its `in` on, and the statement behind it
 module _ {setting : Setting} {mark : ℕ} {g : Frame} {around : List Open} {f : Frame} {closer : Spot} {before middle after : List Token} where
-  parts_past : {end : Spot} {update : List Token} {first second third : List Sense} → (let groups = grouped (statement_due true setting) toFor mark g ∷ around in
-      PastPart testDue byTest f groups before first (token semicolon end ∷ update)
-      → ((f : Frame) → PastPart stepDue by_step f groups update second (token close_paren closer ∷ middle))
+  parts_past : {end : Spot} {update : List Token} {first second third : List Sense} → (let groups = grouped (statement_due true setting) to_for mark g ∷ around in
+      PastPart test_due by_test f groups before first (token semicolon end ∷ update)
+      → ((f : Frame) → PastPart step_due by_step f groups update second (token close_paren closer ∷ middle))
       → ((f : Frame) → Past (live (statement_due true setting) f around) middle third (behind_statement setting) around after)
-      → Past (live testDue f groups) before (first ++ (second ++ third)) (behind_statement setting) around after)
+      → Past (live test_due f groups) before (first ++ (second ++ third)) (behind_statement setting) around after)
   parts_past {end} test step inner =
       and_then (behind_part test_part test) λ u t.
       and_then
-      (and_on (led_by refl (behind_part step_part (step (affect endValue end.mark t)))) λ u s.
-      straight {after = middle} {control = statement_due true setting} {around = around} (close toFor mark (value_of listValue s) g) refl) λ u h.
+      (and_on (led_by refl (behind_part step_part (step (affect end_value end.mark t)))) λ u s.
+      straight {after = middle} {control = statement_due true setting} {around = around} (close to_for mark (value_of list_value s) g) refl) λ u h.
       inner h
 
-  object_past : {first second : List Sense} → (let groups = grouped (statement_due true setting) toFor mark g ∷ around in
-      PastUnary (live (operandDue byObject someTarget) f groups) before first byObject groups (token close_paren closer ∷ middle)
+  object_past : {first second : List Sense} → (let groups = grouped (statement_due true setting) to_for mark g ∷ around in
+      PastUnary (live (operand_due by_object some_target) f groups) before first by_object groups (token close_paren closer ∷ middle)
       → ((f : Frame) → Past (live (statement_due true setting) f around) middle second (behind_statement setting) around after)
-      → Past (live (operandDue byObject someTarget) f groups) before (first ++ second) (behind_statement setting) around after)
+      → Past (live (operand_due by_object some_target) f groups) before (first ++ second) (behind_statement setting) around after)
   object_past object inner =
       and_then
       (and_on (behind-unary tt object) λ u o.
-      straight {after = middle} {control = statement_due true setting} {around = around} (close toForIn mark (value_of listValue o) g) refl) λ u h.
+      straight {after = middle} {control = statement_due true setting} {around = around} (close to_for_in mark (value_of list_value o) g) refl) λ u h.
       inner h
 
 -- what the machine makes of the senses of a form, wherever it stands
 abbrev PastForm : Form → List Token → List Sense → List Token → Type 0
-PastForm (chainForm calls) before senses after =
+PastForm (chain_form calls) before senses after =
     (ending : Ending) (target : Target) (f : Frame) (around : List Open)
-    → Past (live (operandDue ending target) f around) before senses (operandDone ending target) around after
-PastForm (targetForm calls) before senses after =
+    → Past (live (operand_due ending target) f around) before senses (operand_done ending target) around after
+PastForm (target_form calls) before senses after =
     (ending : Ending) (target : Target) (f : Frame) (around : List Open)
-    → Past (live (operandDue ending target) f around) before senses (operandDone ending target) around after
+    → Past (live (operand_due ending target) f around) before senses (operand_done ending target) around after
 PastForm unary_form before senses after =
     (ending : Ending) (target : Target) (f : Frame) (around : List Open)
-    → PastUnary (live (operandDue ending target) f around) before senses ending around after
+    → PastUnary (live (operand_due ending target) f around) before senses ending around after
 PastForm (binary_form within least) before senses after =
     (ending : Ending) (target : Target) (f : Frame) (around : List Open) → within ≡ allows_in ending
-    → PastUnary (live (operandDue ending target) f around) before senses ending around after
-PastForm (assignForm within) before senses after =
+    → PastUnary (live (operand_due ending target) f around) before senses ending around after
+PastForm (assign_form within) before senses after =
     (ending : Ending) (target : Target) (f : Frame) (around : List Open) → within ≡ allows_in ending → T (is_target target)
-    → PastUnary (live (operandDue ending target) f around) before senses ending around after
-PastForm (expressionForm within) before senses after =
+    → PastUnary (live (operand_due ending target) f around) before senses ending around after
+PastForm (expression_form within) before senses after =
     (ending : Ending) (target : Target) (f : Frame) (around : List Open) → within ≡ allows_in ending → T (is_target target) → T (takes_comma ending)
-    → PastUnary (live (operandDue ending target) f around) before senses ending around after
-PastForm functionForm before senses after =
-    (role : Role) (f : Frame) (around : List Open) → Past (live (functionNamed role) f around) before senses (behind_function role) around after
-PastForm statementForm before senses after =
+    → PastUnary (live (operand_due ending target) f around) before senses ending around after
+PastForm function_form before senses after =
+    (role : Role) (f : Frame) (around : List Open) → Past (live (function_named role) f around) before senses (behind_function role) around after
+PastForm statement_form before senses after =
     (must : Bool) (setting : Setting) (f : Frame) (around : List Open)
     → Past (live (statement_due must setting) f around) before senses (behind_statement setting) around after
-PastForm blockForm before senses after =
+PastForm block_form before senses after =
     (control behind : Control) (f : Frame) (around : List Open)
-    → ((newline : Bool) → look open_brace (row control newline) ≡ push (statement_due false (among block)) behind toBlock)
+    → ((newline : Bool) → look open_brace (row control newline) ≡ push (statement_due false (among block)) behind to_block)
     → Past (live control f around) before senses behind around after
-PastForm catchForm before senses after = (f : Frame) (around : List Open) → Past (live tryDone f around) before senses catchDone around after
-PastForm finallyForm before senses after =
+PastForm catch_form before senses after = (f : Frame) (around : List Open) → Past (live try_done f around) before senses catch_done around after
+PastForm finally_form before senses after =
     (control : Control) (f : Frame) (around : List Open)
-    → ((newline : Bool) → look finally_word (row control newline) ≡ goto finallyFirst (startStatement finally_word))
-    → Past (live control f around) before senses tryEnded around after
-PastForm (clausesForm seen) before senses after =
-    (f : Frame) (around : List Open) → Left (statement_due false in_clause) doneValue after
+    → ((newline : Bool) → look finally_word (row control newline) ≡ goto finally_first (start_statement finally_word))
+    → Past (live control f around) before senses try_ended around after
+PastForm (clauses_form seen) before senses after =
+    (f : Frame) (around : List Open) → Left (statement_due false in_clause) done_value after
     → Past (live (clause_due false) f around) before senses (clause_due seen) around after
-PastForm (variablesForm within) before senses after =
+PastForm (variables_form within) before senses after =
     (place : Variables) (f : Frame) (around : List Open) → within ≡ allows_in (by_variable place)
-    → PastTo (live (variableDue (between_variables place true)) f around) before senses (λ (first : Bool). variableDue (between_variables place first)) around after
-PastForm (variableForm within) before senses after =
+    → PastTo (live (variable_due (between_variables place true)) f around) before senses (λ (first : Bool). variable_due (between_variables place first)) around after
+PastForm (variable_form within) before senses after =
     (place : Variables) (f : Frame) (around : List Open) → within ≡ allows_in (by_variable place)
-    → PastWhere (live (variableDue place) f around) before senses (VariableDone place) around after
-PastForm (optionalForm within) before senses after =
+    → PastWhere (live (variable_due place) f around) before senses (VariableDone place) around after
+PastForm (optional_form within) before senses after =
     (due : Control) (ending : Ending) (target : Target) (class : ℕ) (f : Frame) (around : List Open) → HeadPart due ending target class
     → within ≡ allows_in ending → T (is_target target) → T (takes_comma ending) → T (no_colon after) → PastPart due ending f around before senses after
 -- another statement is due behind each; declarations stand only among the statements of a body
 PastForm (statements_form scope) before senses after =
     (setting : Setting) (f : Frame) (around : List Open) → behind_statement setting ≡ statement_due false setting → (scope ≡ body → setting ≡ among body)
     → Past (live (statement_due false setting) f around) before senses (statement_due false setting) around after
-PastForm (itemsForm items) before senses after =
+PastForm (items_form items) before senses after =
     (f : Frame) (around : List Open) → PastTo (live (item_due items) f around) before senses (between_items items) around after
-PastForm (listForm items) before senses after = (f : Frame) (around : List Open) → T (no_colon after) → PastList items f around before senses after
+PastForm (list_form items) before senses after = (f : Frame) (around : List Open) → T (no_colon after) → PastList items f around before senses after
 
 -- an Expression in `( )`
-parens_past : {closer : Spot} {inside after : List Token} {senses : List Sense} → PastForm (expressionForm true) inside senses (token close_paren closer ∷ after)
+parens_past : {closer : Spot} {inside after : List Token} {senses : List Sense} → PastForm (expression_form true) inside senses (token close_paren closer ∷ after)
     → (behind : Control) (closing : Closing) (mark : ℕ) (f : Frame) (around : List Open)
-    → Past (live (operandDue byParen someTarget) empty (grouped behind closing mark f ∷ around)) inside senses behind around after
+    → Past (live (operand_due by_paren some_target) empty (grouped behind closing mark f ∷ around)) inside senses behind around after
 parens_past value behind closing mark f around =
-    and_on (behind-unary tt (value byParen someTarget empty (grouped behind closing mark f ∷ around) refl tt tt)) λ u g. straight _ refl
+    and_on (behind-unary tt (value by_paren some_target empty (grouped behind closing mark f ∷ around) refl tt tt)) λ u g. straight _ refl
 
 past : {form : Form} {before after : List Token} {value : Syntax} (d : Derives form before after value) → PastForm form before (senses_of d) after
 unfolding senses_of
@@ -587,11 +587,11 @@ past (chain_parens value) = λ ending target f around. led_by refl (parens_past 
 past (chain_function function) = λ ending target f around. led_by refl (past function (operand_in ending target) _ around)
 past (chain_unnamed {word = word} function) =
     λ ending target f around.
-    led_by (unnamed_past ending target (affect holdWord word.mark f) around function) (past function (operand_in ending target) _ around)
+    led_by (unnamed_past ending target (affect hold_word word.mark f) around function) (past function (operand_in ending target) _ around)
 past (chain_index object value) =
     λ ending target f around.
     and_then (past object ending target f around) λ u g.
-    and_on (led_by refl (behind-unary tt (past value byBracket someTarget empty _ refl tt tt))) λ u h.
+    and_on (led_by refl (behind-unary tt (past value by_bracket some_target empty _ refl tt tt))) λ u h.
     straight _ refl
 past (chain_member identifier object) = λ ending target f around. and_on (past object ending target f around) λ u g. straight _ refl
 past (chain_member reserved_word object) = λ ending target f around. and_on (past object ending target f around) λ u g. straight _ refl
@@ -599,17 +599,17 @@ past (chain_call callee values) =
     λ ending target f around. and_then (past callee ending target f around) λ u g. led_by refl (list_past (past values empty _ tt))
 past (chain_new {word = word} callee values) =
     λ ending target f around.
-    let g = affect (takePrefix new_word) word.mark f in
+    let g = affect (take_prefix new_word) word.mark f in
     and_then (led_by (target_is_taken senses_see ending target g around (target_begins (target_chain callee))) (past callee ending target g around)) λ u h.
     led_by refl (list_past (past values empty _ tt))
 past (target_chain chain) = past chain
 past (target_new {word = word} callee) =
     λ ending target f around.
-    let g = affect (takePrefix new_word) word.mark f in
+    let g = affect (take_prefix new_word) word.mark f in
     led_by (target_is_taken senses_see ending target g around (target_begins callee)) (past callee ending target g around)
 past (unary_target target) = λ ending assignable f around. standing past_operand (past target ending assignable f around)
 past (unary_prefix {class = class} {sign = sign} {middle = middle} op value) =
-    λ ending target f around. and_then (prefix_past class sign middle ending target f around op) λ u g. past value ending noTarget g around
+    λ ending target f around. and_then (prefix_past class sign middle ending target f around op) λ u g. past value ending no_target g around
 past (unary_postfix {class = class} {sign = sign} {after = after} op same value) =
     λ ending target f around.
     standing past_postfix (and_then (past value ending target f around) λ u g. postfix_past class sign after ending target g around op same)
@@ -618,27 +618,27 @@ past (binary_operator {class = class} {sign = sign} {middle = middle} op tight l
     λ ending target f around allowed.
     let among = subst (λ (b : Bool). T (is_among (binary_operators_by b) class)) allowed op in
     and_then (and_on (past left ending target f around allowed) λ s g. binary_past class sign middle g around among s.1) λ u g.
-    past right ending noTarget g around allowed
+    past right ending no_target g around allowed
 past (assign_binary binary) = λ ending target f around allowed may. past binary ending target f around allowed
 past (assign_to {class = class} {sign = sign} {middle = middle} op target value) =
     λ ending assignable f around allowed may.
     and_then (and_on (past target ending assignable f around) λ u g. assignment_past class sign middle ending assignable g around may op) λ u g.
-    past value ending someTarget g around allowed tt
+    past value ending some_target g around allowed tt
 past (assign_conditional {sign = sign} {inside = inside} condition first second) =
     λ ending target f around allowed may.
     and_then (past condition ending target f around allowed) λ s g.
     led_by (question_past sign inside g around s.1)
-    (and_then (behind-unary tt (past first byColon someTarget empty (asking ending sign.mark (reduced least_binary g) ∷ around) refl tt)) λ u h.
-    sensed refl (past second ending someTarget _ around allowed tt))
+    (and_then (behind-unary tt (past first by_colon some_target empty (asking ending sign.mark (reduced least_binary g) ∷ around) refl tt)) λ u h.
+    sensed refl (past second ending some_target _ around allowed tt))
 past (expression_assign value) = λ ending target f around allowed may takes. past value ending target f around allowed may
 past (expression_comma {sign = sign} {middle = middle} left right) =
     λ ending target f around allowed may takes.
     and_then (and_on (past left ending target f around allowed may takes) λ s g. comma_past sign middle g around takes s.1) λ u g.
-    past right ending someTarget g around allowed tt
+    past right ending some_target g around allowed tt
 past (function_all {opener = opener} {openBody = openBody} {inside = inside} {after = after} parameters statements) =
     λ role f around.
-    and_then (led_by refl (parameters_past empty (parameterPast role) opener.mark f around parameters)) λ u g.
-    elim role as (λ (z : Role). PastTo (live (only (parameterPast z) u) g around) (token open_brace openBody ∷ inside) (block_at openBody.first ∷ senses_of statements) (only (behind_function z)) around after) [
+    and_then (led_by refl (parameters_past empty (parameter_past role) opener.mark f around parameters)) λ u g.
+    elim role as (λ (z : Role). PastTo (live (only (parameter_past z) u) g around) (token open_brace openBody ∷ inside) (block_at openBody.first ∷ senses_of statements) (only (behind_function z)) around after) [
       | declared ↦ sensed refl (and_on (past statements (among body) empty _ refl (λ same. refl)) λ u h. straight _ refl)
       | operand_in ending target ↦ sensed refl (and_on (past statements (among body) empty _ refl (λ same. refl)) λ u h. straight _ refl)
     ]
@@ -647,36 +647,36 @@ past (block_all {opener = opener} {inside = inside} statements) =
     sensed
     (ap (λ (z : Action). sense_at (asks control) (act z open_brace opener f around) open_brace opener.first
     ++ senses_from (act z open_brace opener f around) inside) (opens opener.newline))
-    (and_on (past statements (among block) empty (grouped behind toBlock opener.mark f ∷ around) refl (ap among)) λ u g. straight _ refl)
+    (and_on (past statements (among block) empty (grouped behind to_block opener.mark f ∷ around) refl (ap among)) λ u g. straight _ refl)
 past (statement_block inner) = λ must setting f around. past inner (statement_due must setting) (behind_statement setting) f around (λ newline. refl)
 past (statement_expression allowed value) =
     λ must setting f around.
     and_on
     (led_by (expression_is_taken senses_see must setting f around (expression_begins value tt) allowed)
-    (behind-unary tt (past value (byStatement setting) someTarget f around refl tt tt))) λ u g.
+    (behind-unary tt (past value (by_statement setting) some_target f around refl tt tt))) λ u g.
     straight _ refl
 past (statement_if {word = word} {after = after} alone condition inner) =
     λ must setting f around.
-    let groups = nested (behind_statement setting) toStatement word.mark f ∷ around in
-    and_then (led_by refl (parens_past (past condition) (statement_due true (in_nest ifNest)) _ _ _ groups)) λ u g.
-    and_on (past inner true (in_nest ifNest) g groups) λ u h.
-    nest_left statementValue toStatement word.mark h f around after (unasked setting) (if_left after alone)
+    let groups = nested (behind_statement setting) to_statement word.mark f ∷ around in
+    and_then (led_by refl (parens_past (past condition) (statement_due true (in_nest if_nest)) _ _ _ groups)) λ u g.
+    and_on (past inner true (in_nest if_nest) g groups) λ u h.
+    nest_left statement_value to_statement word.mark h f around after (unasked setting) (if_left after alone)
 past (statement_else {word = word} {rest = rest} {after = after} condition first second) =
     λ must setting f around.
-    let groups = nested (behind_statement setting) toStatement word.mark f ∷ around in
-    and_then (led_by refl (parens_past (past condition) (statement_due true (in_nest ifNest)) _ _ _ groups)) λ u g.
+    let groups = nested (behind_statement setting) to_statement word.mark f ∷ around in
+    and_then (led_by refl (parens_past (past condition) (statement_due true (in_nest if_nest)) _ _ _ groups)) λ u g.
     and_then
-    (and_on (past first true (in_nest ifNest) g groups) λ u h. straight {after = rest} {control = statement_due true (in_nest elseNest)} {around = groups} _ refl) λ u h.
-    and_on (past second true (in_nest elseNest) h groups) λ u k.
-    nest_left statementValue toStatement word.mark k f around after (unasked setting) (else_left after)
+    (and_on (past first true (in_nest if_nest) g groups) λ u h. straight {after = rest} {control = statement_due true (in_nest else_nest)} {around = groups} _ refl) λ u h.
+    and_on (past second true (in_nest else_nest) h groups) λ u k.
+    nest_left statement_value to_statement word.mark k f around after (unasked setting) (else_left after)
 past (statement_do {word = word} {opener = opener} {end = end} {inside = inside} inner condition) =
     λ must setting f around.
     and_then
     (led_by refl
-    (and_on (past inner true (in_nest doNest) empty (nested (bodyDone setting) toBody word.mark f ∷ around)) λ u g.
-    straight {after = token open_paren opener ∷ inside} {control = testFirst setting} {around = around} _ refl)) λ u g.
-    and_on (led_by refl (parens_past (past condition) (semicolonDue setting) toTest opener.mark g around)) λ u h.
-    straight (affect endValue end.mark h) refl
+    (and_on (past inner true (in_nest do_nest) empty (nested (body_done setting) to_body word.mark f ∷ around)) λ u g.
+    straight {after = token open_paren opener ∷ inside} {control = test_first setting} {around = around} _ refl)) λ u g.
+    and_on (led_by refl (parens_past (past condition) (semicolon_due setting) to_test opener.mark g around)) λ u h.
+    straight (affect end_value end.mark h) refl
 past (statement_head while-word head inner) =
     λ must setting f around.
     and_then (led_by refl (parens_past (past head) (statement_due true setting) _ _ _ around)) λ u g.
@@ -687,17 +687,17 @@ past (statement_head with-word head inner) =
     past inner true setting g around
 past (statement_for {word = word} {opener = opener} {first = end} {test = test} first condition step inner) =
     λ must setting f around.
-    let groups = grouped (statement_due true setting) toFor opener.mark (affect (startStatement for_word) word.mark f) ∷ around in
+    let groups = grouped (statement_due true setting) to_for opener.mark (affect (start_statement for_word) word.mark f) ∷ around in
     and_then
     (led_by refl
     (and_on (behind_part start_part (past first _ _ _ _ empty groups start_part refl tt tt tt)) λ u g.
-    straight {after = test} {control = testDue} {around = groups} (affect endValue end.mark g) refl)) λ u g.
+    straight {after = test} {control = test_due} {around = groups} (affect end_value end.mark g) refl)) λ u g.
     parts_past (past condition _ _ _ _ g groups test_part refl tt tt tt) (λ f. past step _ _ _ _ f groups step_part refl tt tt tt)
     (λ f. past inner true setting f around)
 past (statement_for_var {word = word} {opener = opener} {declared = var} {first = end} {test = test} variables last condition step inner) =
     λ must setting f around.
-    let groups = grouped (statement_due true setting) toFor opener.mark (affect (startStatement for_word) word.mark f) ∷ around in
-    and_then (led_by refl (past variables (in_head true) (affect (startStatement var_word) var.mark empty) groups refl)) λ one g.
+    let groups = grouped (statement_due true setting) to_for opener.mark (affect (start_statement for_word) word.mark f) ∷ around in
+    and_then (led_by refl (past variables (in_head true) (affect (start_statement var_word) var.mark empty) groups refl)) λ one g.
     and_then (and_on (past last (in_head one) g groups refl) λ s h. variables_end h groups end test s.1) λ u g.
     parts_past (past condition _ _ _ _ g groups test_part refl tt tt tt) (λ f. past step _ _ _ _ f groups step_part refl tt tt tt)
     (λ f. past inner true setting f around)
@@ -708,22 +708,22 @@ past (not_left_out {before = before} value) =
     (and_on (past value ending target f around allowed may takes) λ s g. standing (some_done s.1) (straight g refl))
 past (statement_for_in {word = word} {opener = opener} {sign = sign} {inside = inside} {rest = rest} target object inner) =
     λ must setting f around.
-    let groups = grouped (statement_due true setting) toFor opener.mark (affect (startStatement for_word) word.mark f) ∷ around in
+    let groups = grouped (statement_due true setting) to_for opener.mark (affect (start_statement for_word) word.mark f) ∷ around in
     and_then
     (led_by (part_is_taken senses_see start_part empty groups inside (widened (target_begins target)))
-    (and_on (past target byStart loneTarget empty groups) λ u g.
-    straight {after = rest} {control = operandDue byObject someTarget} {around = groups} (affect endValue sign.mark g) refl)) λ u g.
-    object_past (past object byObject someTarget g groups refl tt tt) (λ f. past inner true setting f around)
+    (and_on (past target by_start lone_target empty groups) λ u g.
+    straight {after = rest} {control = operand_due by_object some_target} {around = groups} (affect end_value sign.mark g) refl)) λ u g.
+    object_past (past object by_object some_target g groups refl tt tt) (λ f. past inner true setting f around)
 past (statement_for_var_in {word = word} {opener = opener} {declared = var} {sign = sign} {rest = rest} variable object inner) =
     λ must setting f around.
-    let groups = grouped (statement_due true setting) toFor opener.mark (affect (startStatement for_word) word.mark f) ∷ around in
+    let groups = grouped (statement_due true setting) to_for opener.mark (affect (start_statement for_word) word.mark f) ∷ around in
     and_then
     (led_by refl
-    (and_on (past variable (in_head true) (affect (startStatement var_word) var.mark empty) groups refl) λ s g. only_variable g groups sign rest s.1)) λ u g.
-    object_past (past object byObject someTarget g groups refl tt tt) (λ f. past inner true setting f around)
+    (and_on (past variable (in_head true) (affect (start_statement var_word) var.mark empty) groups refl) λ s g. only_variable g groups sign rest s.1)) λ u g.
+    object_past (past object by_object some_target g groups refl tt tt) (λ f. past inner true setting f around)
 past (statement_var {word = word} {end = end} {after = after} variables last) =
     λ must setting f around.
-    and_then (led_by refl (past variables (in_statement setting) (affect (startStatement var_word) word.mark f) around refl)) λ one g.
+    and_then (led_by refl (past variables (in_statement setting) (affect (start_statement var_word) word.mark f) around refl)) λ one g.
     and_on (past last (in_statement setting) g around refl) λ s h.
     variables_end h around end after s.1
 past no_variables = λ place f around allowed. record { which = true; f = f; passes = refl }
@@ -735,74 +735,74 @@ past (add_variable {sign = sign} {after = after} variables last) =
 past variable_bare = λ place f around allowed. standing bare_done (straight _ refl)
 past (variable_initialised value) =
     λ place f around allowed.
-    led_by refl (and_on (past value (by_variable place) someTarget _ around allowed tt) λ s g. standing (value_done s.1) (straight g refl))
+    led_by refl (and_on (past value (by_variable place) some_target _ around allowed tt) λ s g. standing (value_done s.1) (straight g refl))
 past statement_empty = λ must setting f around. straight _ refl
 past (statement_bare_jump continue-word) = λ must setting f around. straight _ refl
 past (statement_bare_jump break-word) = λ must setting f around. straight _ refl
 past (statement_jump {word = word} {label = label} {end = end} {after = after} continue-word same) =
     λ must setting f around.
-    straight _ (label_is_taken senses_see setting (affect (startStatement continue_word) word.mark f) around label (token semicolon end ∷ after) same)
+    straight _ (label_is_taken senses_see setting (affect (start_statement continue_word) word.mark f) around label (token semicolon end ∷ after) same)
 past (statement_jump {word = word} {label = label} {end = end} {after = after} break-word same) =
     λ must setting f around.
-    straight _ (label_is_taken senses_see setting (affect (startStatement break_word) word.mark f) around label (token semicolon end ∷ after) same)
+    straight _ (label_is_taken senses_see setting (affect (start_statement break_word) word.mark f) around label (token semicolon end ∷ after) same)
 past (statement_switch {opener = opener} subject clauses) =
     λ must setting f around.
-    and_then (led_by refl (parens_past (past subject) (switchPast setting) _ _ _ around)) λ u g.
-    sensed refl (and_on (past clauses empty (grouped (behind_statement setting) toStatement opener.mark g ∷ around) refl) λ u h. straight _ refl)
+    and_then (led_by refl (parens_past (past subject) (switch_past setting) _ _ _ around)) λ u g.
+    sensed refl (and_on (past clauses empty (grouped (behind_statement setting) to_statement opener.mark g ∷ around) refl) λ u h. straight _ refl)
 past no_clauses = λ f around left. straight f refl
 past (add_case {seen = seen} {sign = sign} {after = after} clauses test statements) =
     λ f around left.
     and_then (past clauses f around refl) λ u g.
-    and_then (led_by refl (behind-unary tt (past test (by_case seen) someTarget _ around refl tt tt))) λ u h.
-    let ended = affect endHead sign.mark h in
+    and_then (led_by refl (behind-unary tt (past test (by_case seen) some_target _ around refl tt tt))) λ u h.
+    let ended = affect end_head sign.mark h in
     led_by refl
-    (and_on (past statements in_clause empty (nested (clause_due seen) toStatement sign.mark ended ∷ around) refl (λ same. cc)) λ u k.
-    nest_left doneValue toStatement sign.mark k ended around after refl left)
+    (and_on (past statements in_clause empty (nested (clause_due seen) to_statement sign.mark ended ∷ around) refl (λ same. cc)) λ u k.
+    nest_left done_value to_statement sign.mark k ended around after refl left)
 past (add_default {word = word} {sign = sign} {after = after} clauses statements) =
     λ f around left.
     and_then (past clauses f around refl) λ u g.
-    let ended = affect endHead sign.mark (affect (startStatement default_word) word.mark g) in
+    let ended = affect end_head sign.mark (affect (start_statement default_word) word.mark g) in
     led_by refl
-    (and_on (past statements in_clause empty (nested (clause_due true) toStatement sign.mark ended ∷ around) refl (λ same. cc)) λ u k.
-    nest_left doneValue toStatement sign.mark k ended around after refl left)
+    (and_on (past statements in_clause empty (nested (clause_due true) to_statement sign.mark ended ∷ around) refl (λ same. cc)) λ u k.
+    nest_left done_value to_statement sign.mark k ended around after refl left)
 past (statement_throw {before = before} same value) =
     λ must setting f around.
     and_on
     (led_by (value_is_thrown senses_see setting _ around before (expression_begins value tt) same)
-    (behind-unary tt (past value (byReturn setting) someTarget _ around refl tt tt))) λ u g.
+    (behind-unary tt (past value (by_return setting) some_target _ around refl tt tt))) λ u g.
     straight _ refl
 past (statement_try {word = word} {after = after} alone inner handler) =
     λ must setting f around.
-    let groups = nested (behind_statement setting) toTry word.mark f ∷ around in
-    and_then (led_by refl (past inner tryFirst tryDone empty groups (λ newline. refl))) λ u g.
+    let groups = nested (behind_statement setting) to_try word.mark f ∷ around in
+    and_then (led_by refl (past inner try_first try_done empty groups (λ newline. refl))) λ u g.
     and_on (past handler g groups) λ u h.
-    nest_left doneValue toTry word.mark h f around after (unasked setting) (catch_left after alone)
+    nest_left done_value to_try word.mark h f around after (unasked setting) (catch_left after alone)
 past (statement_try_finally {word = word} {after = after} inner last) =
     λ must setting f around.
-    let groups = nested (behind_statement setting) toTry word.mark f ∷ around in
-    and_then (led_by refl (past inner tryFirst tryDone empty groups (λ newline. refl))) λ u g.
-    and_on (past last tryDone g groups (λ newline. refl)) λ u h.
-    nest_left doneValue toTry word.mark h f around after (unasked setting) (finally_left after)
+    let groups = nested (behind_statement setting) to_try word.mark f ∷ around in
+    and_then (led_by refl (past inner try_first try_done empty groups (λ newline. refl))) λ u g.
+    and_on (past last try_done g groups (λ newline. refl)) λ u h.
+    nest_left done_value to_try word.mark h f around after (unasked setting) (finally_left after)
 past (statement_try_all {word = word} {after = after} inner handler last) =
     λ must setting f around.
-    let groups = nested (behind_statement setting) toTry word.mark f ∷ around in
-    and_then (led_by refl (past inner tryFirst tryDone empty groups (λ newline. refl))) λ u g.
+    let groups = nested (behind_statement setting) to_try word.mark f ∷ around in
+    and_then (led_by refl (past inner try_first try_done empty groups (λ newline. refl))) λ u g.
     and_then (past handler g groups) λ u h.
-    and_on (past last catchDone h groups (λ newline. refl)) λ u k.
-    nest_left doneValue toTry word.mark k f around after (unasked setting) (finally_left after)
+    and_on (past last catch_done h groups (λ newline. refl)) λ u k.
+    nest_left done_value to_try word.mark k f around after (unasked setting) (finally_left after)
 past (catch_all {word = word} inner) =
-    λ f around. led_by refl (past inner catchPast catchDone (affect (startStatement catch_word) word.mark f) around (λ newline. refl))
+    λ f around. led_by refl (past inner catch_past catch_done (affect (start_statement catch_word) word.mark f) around (λ newline. refl))
 past (finally_all {word = word} {inside = inside} inner) =
     λ control f around starts.
     and_then (plain_past {control = control} finally_word word inside f around (starts word.newline) tt) λ u g.
-    past inner finallyFirst tryEnded g around (λ newline. refl)
+    past inner finally_first try_ended g around (λ newline. refl)
 past statement_debugger = λ must setting f around. straight _ refl
 past statement_bare_return = λ must setting f around. straight _ refl
 past (statement_full_return {before = before} same value) =
     λ must setting f around.
     and_on
     (led_by (value_is_returned senses_see setting _ around before (expression_begins value tt) same)
-    (behind-unary tt (past value (byReturn setting) someTarget _ around refl tt tt))) λ u g.
+    (behind-unary tt (past value (by_return setting) some_target _ around refl tt tt))) λ u g.
     straight _ refl
 past (statement_label inner) = λ must setting f around. led_by refl (past inner true setting _ around)
 past no_statements = λ setting f around another level. straight f refl
@@ -813,14 +813,14 @@ past (add_statement {before = before} {after = after} statements last) =
 past (add_declaration {word = word} statements function) =
     λ setting f around another level.
     rw (level refl)
-    (and_then (past statements (among body) f around refl (λ same. refl)) λ u g. led_by refl (past function declared (affect holdWord word.mark g) around))
+    (and_then (past statements (among body) f around refl (λ same. refl)) λ u g. led_by refl (past function declared (affect hold_word word.mark g) around))
 past no_items = λ f around. record { which = true; f = f; passes = refl }
 past (add_item {items = items} values starts last) =
     λ f around.
     and_then (past values f around) λ one g.
     and_on
     (led_by (item_is_taken senses_see items one g around starts (assign_begins last tt))
-    (behind-unary tt (past last (by_item items) someTarget g around refl tt))) λ u h.
+    (behind-unary tt (past last (by_item items) some_target g around refl tt))) λ u h.
     record { which = false; f = _; passes = refl }
 past (add_hole {sign = sign} {after = after} values) =
     λ f around. and_on (past values f around) λ one g. hole_past one g around sign after
@@ -831,7 +831,7 @@ past (list_last {items = items} values starts last) =
     λ f around next.
     and_then (past values f around) λ one g.
     led_by (item_is_taken senses_see items one g around starts (assign_begins last next))
-    (and_on (past last (by_item items) someTarget g around refl tt) λ s h. standing (behind_item s.1) (straight h refl))
+    (and_on (past last (by_item items) some_target g around refl tt) λ s h. standing (behind_item s.1) (straight h refl))
 
 -- so it does along a program
 pub senses_taken : {all : List Token} {parts : Syntax} (program : Program all parts) → senses_from start all ≡ senses_of program

@@ -111,7 +111,7 @@ use Rattle.grammar.proofs.TableLaws.{at_class, at_leaf, binary_by}
 use Rattle.recorded.proofs.Counts.{is_closing, operator_open}
 use Rattle.grammar.proofs.Suffix.{EndsWith, itself, behind, past, then, item_end, parameters_end, derived_end}
 use Rattle.derivations.specs.Derivations.{count_trees}
-use Rattle.derivations.specs.Senses.{Sense, objectAt, block_at, beforeAt, after_at, answerAt, sense_of}
+use Rattle.derivations.specs.Senses.{Sense, object_at, block_at, before_at, after_at, answer_at, sense_of}
 use Rattle.shown.specs.Shown.{senses_of, shown_in, MarkedBy}
 use Rattle.derivations.proofs.TokenLaws.{closing_class}
 use Rattle.shown.proofs.IndexedRecords.{RecordsOf, no_records, closer_none, a_record}
@@ -125,7 +125,7 @@ is_of_update kind = is_among (incremented_syntax ∷ decremented_syntax ∷ incr
 
 -- the sense of the sign that marks one
 abbrev pub update_sense : ℕ → ℕ → Sense
-update_sense kind first = cond (is_among after_kinds kind) (after_at first) (beforeAt first)
+update_sense kind first = cond (is_among after_kinds kind) (after_at first) (before_at first)
 
 -- a `++` or `--` among all tokens has this mark, and the sense of a part of this kind
 record Stands (all : List Token) (senses : List Sense) (kind mark : ℕ) : Type 0 where
@@ -219,14 +219,14 @@ module _ {all : List Token} {senses : List Sense} where
 
   -- the sign before an operand, and that after one
   prefix_stands : (class : ℕ) (sign : Spot) {rest : List Token} → T (is_among prefix_operators class) → EndsWith all (token class sign ∷ rest)
-      → Among senses (cond (is_among postfix_operators class) (beforeAt sign.first ∷ []) []) → T (is_of_update (prefix_kind class))
+      → Among senses (cond (is_among postfix_operators class) (before_at sign.first ∷ []) []) → T (is_of_update (prefix_kind class))
       → Stands all senses (prefix_kind class) sign.mark
   prefix_stands class sign {rest} op e w h =
       let update =
       under (is_of_update (prefix_kind class)) (is_among postfix_operators class)
       (at_class (λ x. cond (is_of_update (prefix_kind x)) (is_among postfix_operators x) true) prefix_operators class op tt) h in
       let is-before = fails (is_among after_kinds (prefix_kind class)) (at_class (λ x. not (is_among after_kinds (prefix_kind x))) prefix_operators class op tt) in
-      let own : Among senses (beforeAt sign.first ∷ []) = rw (holds (is_among postfix_operators class) update) at w in
+      let own : Among senses (before_at sign.first ∷ []) = rw (holds (is_among postfix_operators class) update) at w in
       record {
         class = class;
         spot = sign;
@@ -234,7 +234,7 @@ module _ {all : List Token} {senses : List Sense} where
         update = update;
         marks = refl;
         at = e;
-        sense = rw is-before (own.each (beforeAt sign.first) (Memᴰ.head refl));
+        sense = rw is-before (own.each (before_at sign.first) (Memᴰ.head refl));
       }
     where
       under : (b c : Bool) → T (cond b c true) → T b → T c
@@ -279,7 +279,7 @@ module _ {all : List Token} {senses : List Sense} where
   told (target_new callee) e w = told_other _ tt told_none (told callee (past e) w)
   told (unary_target target) e w = told target e w
   told (unary_prefix {class = class} {sign = sign} op operand) e w =
-      let own = cond (is_among postfix_operators class) (beforeAt sign.first ∷ []) [] in
+      let own = cond (is_among postfix_operators class) (before_at sign.first ∷ []) [] in
       told_own (λ h. prefix_stands class sign op e (in_first own (senses_of operand) w) h) told_none (told operand (past e) (in_second own (senses_of operand) w))
   told (unary_postfix {class = class} {sign = sign} op same operand) e w =
       let own = after_at sign.first ∷ [] in
@@ -296,7 +296,7 @@ module _ {all : List Token} {senses : List Sense} where
       (told target e m.0) (told value (past (after target e)) m.1)
   told (assign_conditional {answer = answer} condition first second) e w =
       let f = past (after condition e) in
-      let answered = answerAt answer.first ∷ senses_of second in
+      let answered = answer_at answer.first ∷ senses_of second in
       let m = in_second (senses_of condition) (senses_of first ++ answered) w in
       told_other _ tt (told_both (told condition e (in_first (senses_of condition) (senses_of first ++ answered) w)) (told first f (in_first (senses_of first) answered m)))
       (told second (past (after first f)) (in_rest (in_second (senses_of first) answered m)))
@@ -510,18 +510,18 @@ rises_to low (b ∷ before) e after r = omega (arith, r.0, rises_to (b.first + 1
 
 -- the kind and the first byte of a record that shows a sense
 abbrev kind_of : Sense → ℕ
-kind_of (objectAt first) = object_kind
+kind_of (object_at first) = object_kind
 kind_of (block_at first) = block_kind
-kind_of (beforeAt first) = before_kind
+kind_of (before_at first) = before_kind
 kind_of (after_at first) = after_kind
-kind_of (answerAt first) = answer_kind
+kind_of (answer_at first) = answer_kind
 
 abbrev first_of : Sense → ℕ
-first_of (objectAt first) = first
+first_of (object_at first) = first
 first_of (block_at first) = first
-first_of (beforeAt first) = first
+first_of (before_at first) = first
 first_of (after_at first) = first
-first_of (answerAt first) = first
+first_of (answer_at first) = first
 
 record Shows (kind first : ℕ) (s : Sense) : Type 0 where
   same_kind : kind ≡ kind_of s
@@ -529,11 +529,11 @@ record Shows (kind first : ℕ) (s : Sense) : Type 0 where
 
 sense_shown : (kind first : ℕ) (s : Sense) → Memᴰ s (sense_of kind first) → Shows kind first s
 sense_shown kind first s =
-    step object_kind (objectAt first) refl refl
+    step object_kind (object_at first) refl refl
     (step block_kind (block_at first) refl refl
-    (step before_kind (beforeAt first) refl refl
+    (step before_kind (before_at first) refl refl
     (step after_kind (after_at first) refl refl
-    (step answer_kind (answerAt first) refl refl
+    (step answer_kind (answer_at first) refl refl
     (λ member. absurd (Memᴰ.not-nil member))))))
   where
     step : (k : ℕ) (sense : Sense) {others : List Sense} → kind_of sense ≡ k → first_of sense ≡ first → (Memᴰ s others → Shows kind first s)
@@ -637,11 +637,11 @@ module _ (es : List Element) {parts : Syntax} (steps : Program (tokens es) parts
         u.split no_closer (at_first (is_among after_kinds kind) u.e.first)
         ∙ of_kind (is_among after_kinds kind) u.e.first
       where
-        at_first : (b : Bool) (first : ℕ) → first_of (cond b (after_at first) (beforeAt first)) ≡ first
+        at_first : (b : Bool) (first : ℕ) → first_of (cond b (after_at first) (before_at first)) ≡ first
         at_first true first = refl
         at_first false first = refl
 
-        of_kind : (b : Bool) (first : ℕ) → kind_of (cond b (after_at first) (beforeAt first)) ≡ cond b after_kind before_kind
+        of_kind : (b : Bool) (first : ℕ) → kind_of (cond b (after_at first) (before_at first)) ≡ cond b after_kind before_kind
         of_kind true first = refl
         of_kind false first = refl
 

@@ -85,7 +85,7 @@ use Rattle.grammar.specs.Grammar.{
 use Rattle.recorded.specs.Parts.{part, parts_of}
 use Rattle.derivations.specs.Derivations.{Derivation, count_trees}
 use Rattle.derivations.specs.TreeElements.{unsettled_kind}
-use Rattle.derivations.specs.Senses.{Sense, objectAt, block_at, beforeAt, after_at, answerAt, sense_of}
+use Rattle.derivations.specs.Senses.{Sense, object_at, block_at, before_at, after_at, answer_at, sense_of}
 
 -- Document 01, Grammar: a slash "is taken as a regular expression or as the longest sign at that place": the first bytes of those
 -- that a choice takes as regular expressions
@@ -150,17 +150,17 @@ senses_of (expression_assign value) = senses_of value
 senses_of (expression_comma left right) = senses_of left ++ senses_of right
 senses_of (assign_binary binary) = senses_of binary
 senses_of (assign_to op target value) = senses_of target ++ senses_of value
-senses_of (assign_conditional {answer = answer} condition first second) = senses_of condition ++ (senses_of first ++ (answerAt answer.first ∷ senses_of second))
+senses_of (assign_conditional {answer = answer} condition first second) = senses_of condition ++ (senses_of first ++ (answer_at answer.first ∷ senses_of second))
 senses_of (binary_unary unary) = senses_of unary
 senses_of (binary_operator op tight left right) = senses_of left ++ senses_of right
 senses_of (unary_target target) = senses_of target
-senses_of (unary_prefix {class = class} {sign = sign} op value) = cond (is_among postfix_operators class) (beforeAt sign.first ∷ []) [] ++ senses_of value
+senses_of (unary_prefix {class = class} {sign = sign} op value) = cond (is_among postfix_operators class) (before_at sign.first ∷ []) [] ++ senses_of value
 senses_of (unary_postfix {sign = sign} op same target) = senses_of target ++ (after_at sign.first ∷ [])
 senses_of (target_chain chain) = senses_of chain
 senses_of (target_new target) = senses_of target
 senses_of (chain_leaf leaf) = []
 senses_of (chain_array values) = senses_of values
-senses_of (chain_object {opener = opener} values) = objectAt opener.first ∷ senses_of values
+senses_of (chain_object {opener = opener} values) = object_at opener.first ∷ senses_of values
 senses_of (chain_parens value) = senses_of value
 senses_of (chain_function function) = senses_of function
 senses_of (chain_unnamed function) = senses_of function
@@ -231,11 +231,11 @@ pub record Shown {text : List ℕ} (d : Derivation text) (cells : List ℕ) : Ty
 -- the first bytes of what has a sense, but for answers; and of the elements that are a `{`, `++` or `--`
 unfoldable pub places_of : List Sense → List ℕ
 places_of [] = []
-places_of (objectAt first ∷ senses) = first ∷ places_of senses
+places_of (object_at first ∷ senses) = first ∷ places_of senses
 places_of (block_at first ∷ senses) = first ∷ places_of senses
-places_of (beforeAt first ∷ senses) = first ∷ places_of senses
+places_of (before_at first ∷ senses) = first ∷ places_of senses
 places_of (after_at first ∷ senses) = first ∷ places_of senses
-places_of (answerAt first ∷ senses) = places_of senses
+places_of (answer_at first ∷ senses) = places_of senses
 
 abbrev pub is_sensed : Element → Bool
 is_sensed e =

@@ -35,15 +35,15 @@ module _ (s : List ℕ) (place : ℕ) (stated : Stated) (e : Element) (found : e
       let own = own_bytes s place stated e found x separates (written ++ (b ∷ [])) v in
       rw (size, append_assoc written (b ∷ []) tail) at own
 
-  after_separator : (written : List ℕ) (newline : Bool)
+  after-separator : (written : List ℕ) (newline : Bool)
       → element_at ((written ++ separator written newline) ++ tail) (length written) stated ≡ Next.Found (moved e (length (written ++ separator written newline)) newline)
   unfolding blank line_end
-  after_separator [] true = line_end_first [] tail line_feed stated refl ∙ ap lined (behind [] line_feed)
-  after_separator [] false = own_bytes s place stated e found x separates [] v
-  after_separator (b ∷ written) true =
+  after-separator [] true = line_end_first [] tail line_feed stated refl ∙ ap lined (behind [] line_feed)
+  after-separator [] false = own_bytes s place stated e found x separates [] v
+  after-separator (b ∷ written) true =
       rw (append_assoc (b ∷ written) (line_feed ∷ []) tail, length-append (b ∷ written) (line_feed ∷ []))
       (line_end_first (b ∷ written) tail line_feed stated refl ∙ ap lined (behind (b ∷ written) line_feed))
-  after_separator (b ∷ written) false =
+  after-separator (b ∷ written) false =
       rw (append_assoc (b ∷ written) (space ∷ []) tail, length-append (b ∷ written) (space ∷ []))
       (blank_first (b ∷ written) tail space stated refl ∙ behind (b ∷ written) space)
 
@@ -65,7 +65,7 @@ module _ (s : List ℕ) (place : ℕ) (stated : Stated) (e : Element) (found : e
         bytes_length s e.first e.end (omega (arith, p.some)) p.within
 
     pub found_again : element_at again (length written) stated ≡ Next.Found (moved e start newline)
-    found_again = rw parts (after_separator written newline)
+    found_again = rw parts (after-separator written newline)
 
     -- its end is that of what is written
     pub found_end : length (add_element s written e.first e.end newline) ≡ start + (e.end - e.first)

@@ -2,8 +2,8 @@
 use Rattle.std.specs.Prelude.{ℕ, ◌≤◌, ◌≡◌, true, false, List, ◌∷◌, ◌++◌}
 use Rattle.machine.specs.Tokens.{Token, name, close_paren, close_brace, close_bracket}
 use Rattle.machine.specs.Syntax.{Syntax, nil, size}
-use Rattle.machine.specs.Scopes.{Scope, callArguments, arrayElements, objectProperties}
-use Rattle.machine.specs.Machinery.Machine.{empty, among, someTarget, byParen, byBracket, Control, statement_due, clause_due, operandDue, item_due, parameter_due, Open, live, run}
+use Rattle.machine.specs.Scopes.{Scope, call_arguments, array_elements, object_properties}
+use Rattle.machine.specs.Machinery.Machine.{empty, among, some_target, by_paren, by_bracket, Control, statement_due, clause_due, operand_due, item_due, parameter_due, Open, live, run}
 use Rattle.controls.specs.Machinery.Numbers.{inside_by}
 use Rattle.controls.specs.Machinery.Written.{put_record, put_syntax}
 use Rattle.frames.specs.Machinery.Effects.{of_parameter}
@@ -14,19 +14,19 @@ use Rattle.brief.specs.declared.Found.TheVariants.{Nothing, Operand, NeedsLevel}
 
 -- where the inside of a group starts, and the closer that may follow at once
 pub data MayBeEmpty : Control → ℕ → Type 0 where
-  no_arguments : MayBeEmpty (item_due callArguments) close_paren
-  no_elements : MayBeEmpty (item_due arrayElements) close_bracket
-  no_properties : MayBeEmpty (item_due objectProperties) close_brace
+  no_arguments : MayBeEmpty (item_due call_arguments) close_paren
+  no_elements : MayBeEmpty (item_due array_elements) close_bracket
+  no_properties : MayBeEmpty (item_due object_properties) close_brace
   no_parameters : MayBeEmpty (parameter_due false) close_paren
   no_statements : (scope : Scope) → MayBeEmpty (statement_due false (among scope)) close_brace
   no_clauses : MayBeEmpty (clause_due false) close_brace
 
 -- the same where an operand alone stands before the closer
 pub data HoldsOperand : Control → ℕ → Type 0 where
-  in_parens : HoldsOperand (operandDue byParen someTarget) close_paren
-  in_brackets : HoldsOperand (operandDue byBracket someTarget) close_bracket
-  in_arguments : HoldsOperand (item_due callArguments) close_paren
-  in_elements : HoldsOperand (item_due arrayElements) close_bracket
+  in_parens : HoldsOperand (operand_due by_paren some_target) close_paren
+  in_brackets : HoldsOperand (operand_due by_bracket some_target) close_bracket
+  in_arguments : HoldsOperand (item_due call_arguments) close_paren
+  in_elements : HoldsOperand (item_due array_elements) close_bracket
 
 -- the only record of a group, of a class or 0
 pub data Lone (class closer closing : ℕ) : Found → Type 0 where

@@ -3,11 +3,11 @@ use Rattle.std.specs.Prelude.{ℕ, Bool, true, false, cond, ◌||◌, eqb, ltb, 
 use Rattle.machine.specs.Tokens.{name, return_word}
 use Rattle.machine.specs.Operators.{prefix_kind, postfix_kind}
 use Rattle.machine.specs.Syntax.{full_return_syntax, variable_syntax}
-use Rattle.machine.specs.Scopes.{Items, callArguments, arrayElements, objectProperties, body, block}
+use Rattle.machine.specs.Scopes.{Items, call_arguments, array_elements, object_properties, body, block}
 use Rattle.machine.specs.Machinery.Machine.{
-  ifNest,
-  elseNest,
-  doNest,
+  if_nest,
+  else_nest,
+  do_nest,
   Nest,
   Setting,
   among,
@@ -17,57 +17,57 @@ use Rattle.machine.specs.Machinery.Machine.{
   in_statement,
   in_head,
   Target,
-  noTarget,
-  someTarget,
-  loneTarget,
+  no_target,
+  some_target,
+  lone_target,
   Effect,
   keep,
-  takeName,
-  takeMember,
-  endExpression,
-  endValue,
-  endBare,
-  endEmpty,
-  endVariable,
-  endHead,
-  takeLabel,
-  takeElse,
-  holdWord,
-  takeLeaf,
-  takeOperator,
-  takePrefix,
-  takePostfix,
-  startStatement,
+  take_name,
+  take_member,
+  end_expression,
+  end_value,
+  end_bare,
+  end_empty,
+  end_variable,
+  end_head,
+  take_label,
+  take_else,
+  hold_word,
+  take_leaf,
+  take_operator,
+  take_prefix,
+  take_postfix,
+  start_statement,
   Closing,
-  toParens,
-  toCall,
-  toObject,
-  toArray,
-  toIndex,
-  toBlock,
-  toCondition,
-  toHead,
-  toTest,
-  toFor,
-  toForIn,
-  toParameter,
-  toDeclaration,
-  toFunction,
-  toStatement,
-  toBody,
-  toTry,
+  to_parens,
+  to_call,
+  to_object,
+  to_array,
+  to_index,
+  to_block,
+  to_condition,
+  to_head,
+  to_test,
+  to_for,
+  to_for_in,
+  to_parameter,
+  to_declaration,
+  to_function,
+  to_statement,
+  to_body,
+  to_try,
   Ending,
-  byStatement,
-  byReturn,
+  by_statement,
+  by_return,
   by_variable,
-  byStart,
-  byTest,
+  by_start,
+  by_test,
   by_step,
-  byObject,
+  by_object,
   by_case,
-  byParen,
-  byBracket,
-  byColon,
+  by_paren,
+  by_bracket,
+  by_colon,
   by_item,
   declared,
   operand_in,
@@ -75,46 +75,46 @@ use Rattle.machine.specs.Machinery.Machine.{
   statement_due,
   statement_done,
   behind_statement,
-  nameFirst,
-  returnFirst,
-  throwFirst,
-  jumpFirst,
-  headFirst,
-  variableDue,
-  variableNamed,
-  bodyDone,
-  testFirst,
-  semicolonDue,
-  forFirst,
-  startDue,
-  testDue,
-  stepDue,
-  switchFirst,
-  switchPast,
+  name_first,
+  return_first,
+  throw_first,
+  jump_first,
+  head_first,
+  variable_due,
+  variable_named,
+  body_done,
+  test_first,
+  semicolon_due,
+  for_first,
+  start_due,
+  test_due,
+  step_due,
+  switch_first,
+  switch_past,
   clause_due,
-  defaultFirst,
-  tryFirst,
-  tryDone,
-  catchFirst,
-  catchDue,
-  catchNamed,
-  catchPast,
-  catchDone,
-  finallyFirst,
-  tryEnded,
-  ifFirst,
-  operandDue,
-  memberDue,
-  operandDone,
+  default_first,
+  try_first,
+  try_done,
+  catch_first,
+  catch_due,
+  catch_named,
+  catch_past,
+  catch_done,
+  finally_first,
+  try_ended,
+  if_first,
+  operand_due,
+  member_due,
+  operand_done,
   postfix_done,
-  dotLast,
-  functionFirst,
-  functionNamed,
-  parameterPast,
+  dot_last,
+  function_first,
+  function_named,
+  parameter_past,
   item_due,
-  propertyNamed,
+  property_named,
   parameter_due,
-  parameterNamed,
+  parameter_named,
   finished,
 }
 use Rattle.controls.specs.declared.Control as code
@@ -125,41 +125,41 @@ setting_by number =
     cond (eqb number 0) (among body)
     (cond (eqb number 1) (among block)
     (cond (eqb number 2) in_clause
-    (cond (eqb number 3) (in_nest ifNest)
-    (cond (eqb number 4) (in_nest elseNest)
-    (in_nest doNest)))))
+    (cond (eqb number 3) (in_nest if_nest)
+    (cond (eqb number 4) (in_nest else_nest)
+    (in_nest do_nest)))))
 
 unfoldable pub nest_by : ℕ → Nest
-nest_by setting = cond (eqb setting 3) ifNest (cond (eqb setting 4) elseNest doNest)
+nest_by setting = cond (eqb setting 3) if_nest (cond (eqb setting 4) else_nest do_nest)
 
 unfoldable pub items_by : ℕ → Items
-items_by ending = cond (eqb ending 15) callArguments (cond (eqb ending 16) arrayElements objectProperties)
+items_by ending = cond (eqb ending 15) call_arguments (cond (eqb ending 16) array_elements object_properties)
 
 unfoldable pub variables_by : ℕ → ℕ → Variables
 variables_by ending setting = cond (eqb ending 3) (in_head true) (cond (eqb ending 4) (in_head false) (in_statement (setting_by setting)))
 
 unfoldable pub ending_by : ℕ → ℕ → Ending
 ending_by number setting =
-    cond (eqb number 0) (byStatement (setting_by setting))
-    (cond (eqb number 1) (byReturn (setting_by setting))
+    cond (eqb number 0) (by_statement (setting_by setting))
+    (cond (eqb number 1) (by_return (setting_by setting))
     (cond (eqb number 2) (by_variable (in_statement (setting_by setting)))
     (cond (eqb number 3) (by_variable (in_head true))
     (cond (eqb number 4) (by_variable (in_head false))
-    (cond (eqb number 5) byStart
-    (cond (eqb number 6) byStart
-    (cond (eqb number 7) byTest
+    (cond (eqb number 5) by_start
+    (cond (eqb number 6) by_start
+    (cond (eqb number 7) by_test
     (cond (eqb number 8) (by_case false)
     (cond (eqb number 9) (by_case true)
     (cond (eqb number 10) by_step
-    (cond (eqb number 11) byObject
-    (cond (eqb number 12) byParen
-    (cond (eqb number 13) byBracket
-    (cond (eqb number 14) byColon
+    (cond (eqb number 11) by_object
+    (cond (eqb number 12) by_paren
+    (cond (eqb number 13) by_bracket
+    (cond (eqb number 14) by_colon
     (by_item (items_by number))))))))))))))))
 
 -- whether a chain may be assigned to: the start of a `for`'s head is alone by its number
 unfoldable pub target_by : ℕ → Bool → Target
-target_by ending flag = cond flag (cond (eqb ending 5) loneTarget someTarget) noTarget
+target_by ending flag = cond flag (cond (eqb ending 5) lone_target some_target) no_target
 
 -- whether a statement must come: where none must come in a clause is a place of its own
 unfoldable pub must_by : Bool → ℕ → Bool
@@ -169,50 +169,50 @@ must_by flag setting = flag || eqb setting 2
 unfoldable pub control_by : ℕ → ℕ → ℕ → Bool → Control
 control_by place ending setting flag =
     cond (eqb place 0) (statement_due (must_by flag setting) (setting_by setting))
-    (cond (eqb place 1) (returnFirst (setting_by setting))
-    (cond (eqb place 2) (operandDue (ending_by ending setting) (target_by ending flag))
-    (cond (eqb place 3) (operandDone (ending_by ending setting) (target_by ending flag))
+    (cond (eqb place 1) (return_first (setting_by setting))
+    (cond (eqb place 2) (operand_due (ending_by ending setting) (target_by ending flag))
+    (cond (eqb place 3) (operand_done (ending_by ending setting) (target_by ending flag))
     (cond (eqb place 4) (postfix_done (ending_by ending setting))
-    (cond (eqb place 5) (throwFirst (setting_by setting))
-    (cond (eqb place 6) (jumpFirst (setting_by setting))
-    (cond (eqb place 7) (variableNamed (variables_by ending setting))
-    (cond (eqb place 8) (semicolonDue (setting_by setting))
-    (cond (eqb place 9) startDue
-    (cond (eqb place 10) testDue
-    (cond (eqb place 11) stepDue
-    (cond (eqb place 12) (memberDue (ending_by ending setting) (target_by ending flag))
-    (cond (eqb place 13) ifFirst
-    (cond (eqb place 14) (dotLast (ending_by ending setting) (target_by ending flag))
+    (cond (eqb place 5) (throw_first (setting_by setting))
+    (cond (eqb place 6) (jump_first (setting_by setting))
+    (cond (eqb place 7) (variable_named (variables_by ending setting))
+    (cond (eqb place 8) (semicolon_due (setting_by setting))
+    (cond (eqb place 9) start_due
+    (cond (eqb place 10) test_due
+    (cond (eqb place 11) step_due
+    (cond (eqb place 12) (member_due (ending_by ending setting) (target_by ending flag))
+    (cond (eqb place 13) if_first
+    (cond (eqb place 14) (dot_last (ending_by ending setting) (target_by ending flag))
     (cond (eqb place 15) (item_due (items_by ending))
-    (cond (eqb place 16) propertyNamed
-    (cond (eqb place 17) (headFirst (setting_by setting))
-    (cond (eqb place 18) (variableDue (variables_by ending setting))
-    (cond (eqb place 19) (bodyDone (setting_by setting))
-    (cond (eqb place 20) (testFirst (setting_by setting))
-    (cond (eqb place 21) (forFirst (setting_by setting))
-    (cond (eqb place 22) (switchFirst (setting_by setting))
-    (cond (eqb place 23) (switchPast (setting_by setting))
+    (cond (eqb place 16) property_named
+    (cond (eqb place 17) (head_first (setting_by setting))
+    (cond (eqb place 18) (variable_due (variables_by ending setting))
+    (cond (eqb place 19) (body_done (setting_by setting))
+    (cond (eqb place 20) (test_first (setting_by setting))
+    (cond (eqb place 21) (for_first (setting_by setting))
+    (cond (eqb place 22) (switch_first (setting_by setting))
+    (cond (eqb place 23) (switch_past (setting_by setting))
     (cond (eqb place 24) (clause_due flag)
-    (cond (eqb place 25) defaultFirst
-    (cond (eqb place 26) tryFirst
-    (cond (eqb place 27) tryDone
-    (cond (eqb place 28) catchFirst
-    (cond (eqb place 29) catchDue
-    (cond (eqb place 30) catchNamed
-    (cond (eqb place 31) catchPast
-    (cond (eqb place 32) finallyFirst
+    (cond (eqb place 25) default_first
+    (cond (eqb place 26) try_first
+    (cond (eqb place 27) try_done
+    (cond (eqb place 28) catch_first
+    (cond (eqb place 29) catch_due
+    (cond (eqb place 30) catch_named
+    (cond (eqb place 31) catch_past
+    (cond (eqb place 32) finally_first
     (cond (eqb place 33) (parameter_due flag)
-    (cond (eqb place 34) parameterNamed
-    (cond (eqb place 35) (functionFirst (operand_in (ending_by ending setting) (target_by ending flag)))
-    (cond (eqb place 36) (functionNamed (operand_in (ending_by ending setting) (target_by ending flag)))
-    (cond (eqb place 37) (parameterPast (operand_in (ending_by ending setting) (target_by ending flag)))
-    (cond (eqb place 38) (functionFirst declared)
-    (cond (eqb place 39) (functionNamed declared)
-    (cond (eqb place 40) (parameterPast declared)
+    (cond (eqb place 34) parameter_named
+    (cond (eqb place 35) (function_first (operand_in (ending_by ending setting) (target_by ending flag)))
+    (cond (eqb place 36) (function_named (operand_in (ending_by ending setting) (target_by ending flag)))
+    (cond (eqb place 37) (parameter_past (operand_in (ending_by ending setting) (target_by ending flag)))
+    (cond (eqb place 38) (function_first declared)
+    (cond (eqb place 39) (function_named declared)
+    (cond (eqb place 40) (parameter_past declared)
     (cond (eqb place 41) (statement_done (nest_by setting))
-    (cond (eqb place 42) (nameFirst (setting_by setting))
-    (cond (eqb place 43) catchDone
-    (cond (eqb place 44) tryEnded
+    (cond (eqb place 42) (name_first (setting_by setting))
+    (cond (eqb place 43) catch_done
+    (cond (eqb place 44) try_ended
     (cond (leb 45 place) (statement_due false in_clause)
     finished)))))))))))))))))))))))))))))))))))))))))))))
 
@@ -226,73 +226,73 @@ start_kind class = cond (eqb class return_word) full_return_syntax (cond (eqb cl
 -- effects, of a token of a class
 unfoldable pub effect_by : ℕ → ℕ → Effect
 effect_by number class =
-    cond (eqb number 1) (takeLeaf class)
-    (cond (eqb number 2) takeMember
-    (cond (eqb number 3) (takeOperator class)
-    (cond (eqb number 4) takeLabel
-    (cond (eqb number 5) holdWord
-    (cond (eqb number 6) takeName
-    (cond (eqb number 7) (startStatement (start_kind class))
-    (cond (eqb number 8) endExpression
-    (cond (eqb number 9) endValue
-    (cond (eqb number 10) endBare
-    (cond (eqb number 11) (takePrefix (prefix_kind class))
-    (cond (eqb number 12) (takePostfix (postfix_kind class))
-    (cond (eqb number 13) endEmpty
-    (cond (eqb number 14) endVariable
-    (cond (eqb number 15) takeElse
+    cond (eqb number 1) (take_leaf class)
+    (cond (eqb number 2) take_member
+    (cond (eqb number 3) (take_operator class)
+    (cond (eqb number 4) take_label
+    (cond (eqb number 5) hold_word
+    (cond (eqb number 6) take_name
+    (cond (eqb number 7) (start_statement (start_kind class))
+    (cond (eqb number 8) end_expression
+    (cond (eqb number 9) end_value
+    (cond (eqb number 10) end_bare
+    (cond (eqb number 11) (take_prefix (prefix_kind class))
+    (cond (eqb number 12) (take_postfix (postfix_kind class))
+    (cond (eqb number 13) end_empty
+    (cond (eqb number 14) end_variable
+    (cond (eqb number 15) take_else
     keep))))))))))))))
 
 -- groups, by what they do when they close; and where the inside of each starts
 unfoldable pub closing_by : ℕ → Closing
 closing_by number =
-    cond (eqb number 0) toParens
-    (cond (eqb number 1) toCall
-    (cond (eqb number 2) toObject
-    (cond (eqb number 3) toCondition
-    (cond (eqb number 4) toParameter
-    (cond (eqb number 5) toBlock
-    (cond (eqb number 6) toDeclaration
-    (cond (eqb number 7) toFunction
-    (cond (eqb number 8) toArray
-    (cond (eqb number 10) toHead
-    (cond (eqb number 11) toTest
-    (cond (eqb number 12) toFor
-    (cond (eqb number 13) toStatement
-    (cond (eqb number 14) toParameter
-    (cond (eqb number 15) toForIn
-    toIndex))))))))))))))
+    cond (eqb number 0) to_parens
+    (cond (eqb number 1) to_call
+    (cond (eqb number 2) to_object
+    (cond (eqb number 3) to_condition
+    (cond (eqb number 4) to_parameter
+    (cond (eqb number 5) to_block
+    (cond (eqb number 6) to_declaration
+    (cond (eqb number 7) to_function
+    (cond (eqb number 8) to_array
+    (cond (eqb number 10) to_head
+    (cond (eqb number 11) to_test
+    (cond (eqb number 12) to_for
+    (cond (eqb number 13) to_statement
+    (cond (eqb number 14) to_parameter
+    (cond (eqb number 15) to_for_in
+    to_index))))))))))))))
 
 unfoldable pub inside_by : ℕ → Control
 inside_by number =
-    cond (eqb number 1) (item_due callArguments)
-    (cond (eqb number 2) (item_due objectProperties)
+    cond (eqb number 1) (item_due call_arguments)
+    (cond (eqb number 2) (item_due object_properties)
     (cond (eqb number 4) (parameter_due false)
     (cond (eqb number 5) (statement_due false (among block))
     (cond (eqb number 6) (statement_due false (among body))
     (cond (eqb number 7) (statement_due false (among body))
-    (cond (eqb number 8) (item_due arrayElements)
-    (cond (eqb number 9) (operandDue byBracket someTarget)
-    (cond (eqb number 12) startDue
+    (cond (eqb number 8) (item_due array_elements)
+    (cond (eqb number 9) (operand_due by_bracket some_target)
+    (cond (eqb number 12) start_due
     (cond (eqb number 13) (clause_due false)
-    (cond (eqb number 14) catchDue
-    (operandDue byParen someTarget)))))))))))
+    (cond (eqb number 14) catch_due
+    (operand_due by_paren some_target)))))))))))
 
 -- nests, by what they are: where the inside of each starts, what its token does there and around it, where the machine stands behind it, with what value
 -- it is left, and what it does then
 unfoldable pub entered_by : ℕ → Control
 entered_by nest =
-    cond (eqb nest 0) ifFirst (cond (eqb nest 1) (statement_due true (in_nest doNest)) (cond (eqb nest 2) tryFirst (statement_due false in_clause)))
+    cond (eqb nest 0) if_first (cond (eqb nest 1) (statement_due true (in_nest do_nest)) (cond (eqb nest 2) try_first (statement_due false in_clause)))
 
 unfoldable pub worded_by : ℕ → Effect
-worded_by nest = cond (eqb nest 0) holdWord keep
+worded_by nest = cond (eqb nest 0) hold_word keep
 
 unfoldable pub outside_by : ℕ → Effect
-outside_by nest = cond (ltb nest 3) keep endHead
+outside_by nest = cond (ltb nest 3) keep end_head
 
 unfoldable pub behind_by : ℕ → Setting → Control
 behind_by nest setting =
-    cond (eqb nest 1) (bodyDone setting) (cond (ltb nest 3) (behind_statement setting) (clause_due (eqb nest 4)))
+    cond (eqb nest 1) (body_done setting) (cond (ltb nest 3) (behind_statement setting) (clause_due (eqb nest 4)))
 
 unfoldable pub left_by : ℕ → Closing
-left_by nest = cond (eqb nest 1) toBody (cond (eqb nest 2) toTry toStatement)
+left_by nest = cond (eqb nest 1) to_body (cond (eqb nest 2) to_try to_statement)

@@ -3,8 +3,8 @@ use Rattle.std.specs.Prelude.{ℕ, ◌≤◌, ◌≡◌, Bool, true, false, T}
 use Rattle.machine.specs.Tokens.{new_word, comma, colon, var_word, else_word, for_word, switch_word, case_word, default_word, throw_word, catch_word, finally_word, debugger_word, close_brace}
 use Rattle.machine.specs.Syntax.{full_return_syntax, variable_syntax}
 use Rattle.machine.specs.Operators.{assignment_operators, binary_operators_by, prefix_operators, prefix_kind, postfix_operators, postfix_kind, is_among}
-use Rattle.machine.specs.Scopes.{Items, arrayElements, objectProperties, Scope, body}
-use Rattle.machine.specs.Machinery.Machine.{end_of_text, ifNest, elseNest, Setting, among, in_nest, Variables, in_statement, in_head, Target, noTarget, someTarget, loneTarget, is_target, takes_in, allows_in, behind_variables, later_variables, behind_statement, Effect, keep, takeName, takeMember, endExpression, endValue, endBare, endEmpty, endVariable, takeLabel, takeElse, holdWord, takeLeaf, takeOperator, takePrefix, takePostfix, startStatement, Closing, toParens, toCall, toObject, toArray, toIndex, toBlock, toCondition, toHead, toFor, toForIn, toTest, toStatement, toParameter, toDeclaration, toFunction, noValue, expressionValue, doneValue, listValue, Ending, byStatement, byReturn, by_variable, byStart, byTest, by_step, byObject, by_case, byParen, byBracket, byColon, by_item, behind_comma, Role, declared, operand_in, Control, statement_due, statement_done, nameFirst, returnFirst, throwFirst, jumpFirst, headFirst, variableDue, variableNamed, bodyDone, testFirst, semicolonDue, forFirst, startDue, testDue, stepDue, switchFirst, switchPast, clause_due, defaultFirst, tryFirst, tryDone, catchFirst, catchDue, catchNamed, catchPast, catchDone, finallyFirst, tryEnded, ifFirst, operandDue, memberDue, operandDone, postfix_done, dotLast, functionFirst, functionNamed, parameterPast, item_due, propertyNamed, parameter_due, parameterNamed, Action, fail, goto, push, enter, pop, popIn, ask, turn, finish, head_words, jump_words}
+use Rattle.machine.specs.Scopes.{Items, array_elements, object_properties, Scope, body}
+use Rattle.machine.specs.Machinery.Machine.{end_of_text, if_nest, else_nest, Setting, among, in_nest, Variables, in_statement, in_head, Target, no_target, some_target, lone_target, is_target, takes_in, allows_in, behind_variables, later_variables, behind_statement, Effect, keep, take_name, take_member, end_expression, end_value, end_bare, end_empty, end_variable, take_label, take_else, hold_word, take_leaf, take_operator, take_prefix, take_postfix, start_statement, Closing, to_parens, to_call, to_object, to_array, to_index, to_block, to_condition, to_head, to_for, to_for_in, to_test, to_statement, to_parameter, to_declaration, to_function, no_value, expression_value, done_value, list_value, Ending, by_statement, by_return, by_variable, by_start, by_test, by_step, by_object, by_case, by_paren, by_bracket, by_colon, by_item, behind_comma, Role, declared, operand_in, Control, statement_due, statement_done, name_first, return_first, throw_first, jump_first, head_first, variable_due, variable_named, body_done, test_first, semicolon_due, for_first, start_due, test_due, step_due, switch_first, switch_past, clause_due, default_first, try_first, try_done, catch_first, catch_due, catch_named, catch_past, catch_done, finally_first, try_ended, if_first, operand_due, member_due, operand_done, postfix_done, dot_last, function_first, function_named, parameter_past, item_due, property_named, parameter_due, parameter_named, Action, fail, goto, push, enter, pop, pop_in, ask, turn, finish, head_words, jump_words}
 use Rattle.machine.specs.Machinery.Classes.{is_opener, is_end, is_single}
 use Rattle.controls.specs.Machinery.Numbers.{setting_by, control_of, effect_by, closing_by, inside_by, entered_by, worded_by, outside_by, behind_by, left_by}
 use Rattle.controls.specs.declared.Control as code
@@ -14,15 +14,15 @@ use Rattle.controls.specs.declared.Step.TheVariants.{Fail, Goto, Push, Enter, As
 -- where a primary may start, what ends its expression, and whether it may be assigned to; a property's does not start with the item, and
 -- no row takes it there
 pub data Due : Control → Ending → Target → Type 0 where
-  due_operand : {ending : Ending} {target : Target} → Due (operandDue ending target) ending target
-  due_value : {setting : Setting} → Due (returnFirst setting) (byReturn setting) someTarget
-  due_thrown : {setting : Setting} → Due (throwFirst setting) (byReturn setting) someTarget
-  due_item : {items : Items} → Due (item_due items) (by_item items) someTarget
-  due_statement : {must : Bool} {setting : Setting} → Due (statement_due must setting) (byStatement setting) someTarget
-  due_start : Due startDue byStart loneTarget
-  due_test : Due testDue byTest someTarget
-  due_step : Due stepDue by_step someTarget
-  due_member : {ending : Ending} {target : Target} → Due (memberDue ending target) ending target
+  due_operand : {ending : Ending} {target : Target} → Due (operand_due ending target) ending target
+  due_value : {setting : Setting} → Due (return_first setting) (by_return setting) some_target
+  due_thrown : {setting : Setting} → Due (throw_first setting) (by_return setting) some_target
+  due_item : {items : Items} → Due (item_due items) (by_item items) some_target
+  due_statement : {must : Bool} {setting : Setting} → Due (statement_due must setting) (by_statement setting) some_target
+  due_start : Due start_due by_start lone_target
+  due_test : Due test_due by_test some_target
+  due_step : Due step_due by_step some_target
+  due_member : {ending : Ending} {target : Target} → Due (member_due ending target) ending target
 
 -- behind `new` no operator may stand before the operand
 abbrev pub takes_prefix : {from : Control} {ending : Ending} {target : Target} → Due from ending target → Bool
@@ -38,128 +38,128 @@ takes_prefix due_member = false
 
 -- a Unary has ended here, and what ends its expression
 pub data Ended : Control → Ending → Type 0 where
-  ended_operand : {ending : Ending} {target : Target} → Ended (operandDone ending target) ending
+  ended_operand : {ending : Ending} {target : Target} → Ended (operand_done ending target) ending
   ended_postfix : {ending : Ending} → Ended (postfix_done ending) ending
 
 -- a variable has ended here, with its initialiser or without one
 pub data VariableEnded : Control → Variables → Type 0 where
-  ended_bare : {place : Variables} → VariableEnded (variableNamed place) place
+  ended_bare : {place : Variables} → VariableEnded (variable_named place) place
   ended_value : {from : Control} {place : Variables} → Ended from (by_variable place) → VariableEnded from place
 
 -- what stands before the `in` of a `for` has ended here: a chain that is all there is, or one variable
 pub data BeforeIn : Control → Type 0 where
-  before_target : {ending : Ending} {target : Target} → T (takes_in ending target) → BeforeIn (operandDone ending target)
+  before_target : {ending : Ending} {target : Target} → T (takes_in ending target) → BeforeIn (operand_done ending target)
   before_variable : {from : Control} → VariableEnded from (in_head true) → BeforeIn from
 
 -- a part of the head of a `for` has ended here, or is left out, and where its `;` leads
 pub data PartEnded : Control → Control → Type 0 where
-  no_start : PartEnded startDue testDue
-  ended_start : {from : Control} → Ended from byStart → PartEnded from testDue
-  no_test : PartEnded testDue stepDue
-  ended_test : {from : Control} → Ended from byTest → PartEnded from stepDue
+  no_start : PartEnded start_due test_due
+  ended_start : {from : Control} → Ended from by_start → PartEnded from test_due
+  no_test : PartEnded test_due step_due
+  ended_test : {from : Control} → Ended from by_test → PartEnded from step_due
 
 -- the words that statements start with, by the kind of what waits then, and where the machine stands behind each
 pub data Started : ℕ → Setting → Control → Type 0 where
-  started_return : {setting : Setting} → Started full_return_syntax setting (returnFirst setting)
-  started_throw : {setting : Setting} → Started throw_word setting (throwFirst setting)
-  started_jump : {class : ℕ} {setting : Setting} → T (is_among jump_words class) → Started class setting (jumpFirst setting)
-  started_head : {class : ℕ} {setting : Setting} → T (is_among head_words class) → Started class setting (headFirst setting)
-  started_debugger : {setting : Setting} → Started debugger_word setting (semicolonDue setting)
-  started_var : {setting : Setting} → Started var_word setting (variableDue (in_statement setting))
-  started_for : {setting : Setting} → Started for_word setting (forFirst setting)
-  started_switch : {setting : Setting} → Started switch_word setting (switchFirst setting)
+  started_return : {setting : Setting} → Started full_return_syntax setting (return_first setting)
+  started_throw : {setting : Setting} → Started throw_word setting (throw_first setting)
+  started_jump : {class : ℕ} {setting : Setting} → T (is_among jump_words class) → Started class setting (jump_first setting)
+  started_head : {class : ℕ} {setting : Setting} → T (is_among head_words class) → Started class setting (head_first setting)
+  started_debugger : {setting : Setting} → Started debugger_word setting (semicolon_due setting)
+  started_var : {setting : Setting} → Started var_word setting (variable_due (in_statement setting))
+  started_for : {setting : Setting} → Started for_word setting (for_first setting)
+  started_switch : {setting : Setting} → Started switch_word setting (switch_first setting)
 
 -- a `,` behind it is an operator
 abbrev pub takes_comma : Ending → Bool
-takes_comma (byStatement setting) = true
-takes_comma (byReturn setting) = true
+takes_comma (by_statement setting) = true
+takes_comma (by_return setting) = true
 takes_comma (by_variable place) = false
-takes_comma byStart = true
-takes_comma byTest = true
+takes_comma by_start = true
+takes_comma by_test = true
 takes_comma by_step = true
-takes_comma byObject = true
+takes_comma by_object = true
 takes_comma (by_case seen) = true
-takes_comma byParen = true
-takes_comma byBracket = true
-takes_comma byColon = false
+takes_comma by_paren = true
+takes_comma by_bracket = true
+takes_comma by_colon = false
 takes_comma (by_item items) = false
 
 -- the controls between which an effect leads
 pub data Leads : Effect → Control → Control → Type 0 where
-  to_name : {must : Bool} {setting : Setting} → Leads takeName (statement_due must setting) (nameFirst setting)
+  to_name : {must : Bool} {setting : Setting} → Leads take_name (statement_due must setting) (name_first setting)
   to_leaf : {class : ℕ} {from : Control} {ending : Ending} {target : Target} → Due from ending target
-      → Leads (takeLeaf class) from (operandDone ending target)
-  to_function : {from : Control} {ending : Ending} {target : Target} → Due from ending target
-      → Leads holdWord from (functionFirst (operand_in ending target))
-  to_declaration : Leads holdWord (statement_due false (among body)) (functionFirst declared)
-  to_start : {kind : ℕ} {must : Bool} {setting : Setting} {to : Control} → Started kind setting to → Leads (startStatement kind) (statement_due must setting) to
-  to_empty : {must : Bool} {setting : Setting} → Leads endEmpty (statement_due must setting) (behind_statement setting)
-  to_else : Leads takeElse (statement_done ifNest) (statement_due true (in_nest elseNest))
-  to_variable : {place : Variables} → Leads (startStatement variable_syntax) (variableDue place) (variableNamed place)
-  to_initialiser : {place : Variables} → Leads keep (variableNamed place) (operandDue (by_variable place) someTarget)
-  to_next_variable : {from : Control} {place : Variables} → VariableEnded from place → Leads endVariable from (variableDue (later_variables place))
-  to_variables_end : {from : Control} {place : Variables} → VariableEnded from place → Leads endValue from (behind_variables place)
-  to_head_variable : Leads (startStatement var_word) startDue (variableDue (in_head true))
-  to_next_part : {from to : Control} → PartEnded from to → Leads endValue from to
-  to_object : {from : Control} → BeforeIn from → Leads endValue from (operandDue byObject someTarget)
-  to_case : {seen : Bool} → Leads (startStatement case_word) (clause_due seen) (operandDue (by_case seen) someTarget)
-  to_default : Leads (startStatement default_word) (clause_due false) defaultFirst
-  to_catch : Leads (startStatement catch_word) tryDone catchFirst
-  to_finally : Leads (startStatement finally_word) tryDone finallyFirst
-  to_finally_behind : Leads (startStatement finally_word) catchDone finallyFirst
-  to_caught : Leads keep catchDue catchNamed
-  to_test : {setting : Setting} → Leads keep (bodyDone setting) (testFirst setting)
-  to_jump_label : {setting : Setting} → Leads keep (jumpFirst setting) (semicolonDue setting)
-  to_bare_jump : {setting : Setting} → Leads endBare (jumpFirst setting) (behind_statement setting)
-  to_semicolon : {setting : Setting} → Leads endValue (semicolonDue setting) (behind_statement setting)
-  to_label : {setting : Setting} → Leads takeLabel (nameFirst setting) (statement_due true setting)
-  to_bare_end : {setting : Setting} → Leads endBare (returnFirst setting) (behind_statement setting)
-  to_dot : {ending : Ending} {target : Target} → Leads keep (operandDone ending target) (dotLast ending target)
-  to_member : {ending : Ending} {target : Target} → Leads takeMember (dotLast ending target) (operandDone ending target)
+      → Leads (take_leaf class) from (operand_done ending target)
+  to-function : {from : Control} {ending : Ending} {target : Target} → Due from ending target
+      → Leads hold_word from (function_first (operand_in ending target))
+  to-declaration : Leads hold_word (statement_due false (among body)) (function_first declared)
+  to_start : {kind : ℕ} {must : Bool} {setting : Setting} {to : Control} → Started kind setting to → Leads (start_statement kind) (statement_due must setting) to
+  to_empty : {must : Bool} {setting : Setting} → Leads end_empty (statement_due must setting) (behind_statement setting)
+  to_else : Leads take_else (statement_done if_nest) (statement_due true (in_nest else_nest))
+  to_variable : {place : Variables} → Leads (start_statement variable_syntax) (variable_due place) (variable_named place)
+  to_initialiser : {place : Variables} → Leads keep (variable_named place) (operand_due (by_variable place) some_target)
+  to_next_variable : {from : Control} {place : Variables} → VariableEnded from place → Leads end_variable from (variable_due (later_variables place))
+  to_variables_end : {from : Control} {place : Variables} → VariableEnded from place → Leads end_value from (behind_variables place)
+  to_head_variable : Leads (start_statement var_word) start_due (variable_due (in_head true))
+  to_next_part : {from to : Control} → PartEnded from to → Leads end_value from to
+  to-object : {from : Control} → BeforeIn from → Leads end_value from (operand_due by_object some_target)
+  to_case : {seen : Bool} → Leads (start_statement case_word) (clause_due seen) (operand_due (by_case seen) some_target)
+  to_default : Leads (start_statement default_word) (clause_due false) default_first
+  to_catch : Leads (start_statement catch_word) try_done catch_first
+  to_finally : Leads (start_statement finally_word) try_done finally_first
+  to_finally_behind : Leads (start_statement finally_word) catch_done finally_first
+  to_caught : Leads keep catch_due catch_named
+  to-test : {setting : Setting} → Leads keep (body_done setting) (test_first setting)
+  to_jump_label : {setting : Setting} → Leads keep (jump_first setting) (semicolon_due setting)
+  to_bare_jump : {setting : Setting} → Leads end_bare (jump_first setting) (behind_statement setting)
+  to_semicolon : {setting : Setting} → Leads end_value (semicolon_due setting) (behind_statement setting)
+  to_label : {setting : Setting} → Leads take_label (name_first setting) (statement_due true setting)
+  to_bare_end : {setting : Setting} → Leads end_bare (return_first setting) (behind_statement setting)
+  to_dot : {ending : Ending} {target : Target} → Leads keep (operand_done ending target) (dot_last ending target)
+  to_member : {ending : Ending} {target : Target} → Leads take_member (dot_last ending target) (operand_done ending target)
   to_prefix : (class : ℕ) {from : Control} {ending : Ending} {target : Target} → T (is_among prefix_operators class)
       → (due : Due from ending target) → T (takes_prefix due)
-      → Leads (takePrefix (prefix_kind class)) from (operandDue ending noTarget)
-  to_new : {from : Control} {ending : Ending} {target : Target} → Due from ending target → Leads (takePrefix new_word) from (memberDue ending target)
+      → Leads (take_prefix (prefix_kind class)) from (operand_due ending no_target)
+  to_new : {from : Control} {ending : Ending} {target : Target} → Due from ending target → Leads (take_prefix new_word) from (member_due ending target)
   to_postfix : (class : ℕ) {ending : Ending} {target : Target} → T (is_among postfix_operators class)
-      → Leads (takePostfix (postfix_kind class)) (operandDone ending target) (postfix_done ending)
+      → Leads (take_postfix (postfix_kind class)) (operand_done ending target) (postfix_done ending)
   to_assign : {class : ℕ} {ending : Ending} {target : Target} → T (is_target target) → T (is_among assignment_operators class)
-      → Leads (takeOperator class) (operandDone ending target) (operandDue ending someTarget)
+      → Leads (take_operator class) (operand_done ending target) (operand_due ending some_target)
   to_operator : {class : ℕ} {from : Control} {ending : Ending} → T (is_among (binary_operators_by (allows_in ending)) class) → Ended from ending
-      → Leads (takeOperator class) from (operandDue ending noTarget)
-  to_comma : {from : Control} {ending : Ending} → T (takes_comma ending) → Ended from ending → Leads (takeOperator comma) from (operandDue ending someTarget)
-  to_end : {from : Control} {setting : Setting} → Ended from (byStatement setting) → Leads endExpression from (behind_statement setting)
-  to_return_end : {from : Control} {setting : Setting} → Ended from (byReturn setting) → Leads endValue from (behind_statement setting)
-  to_item_end : {from : Control} {items : Items} → Ended from (by_item items) → Leads endValue from (behind_comma items)
-  to_hole : Leads keep (item_due arrayElements) (item_due arrayElements)
-  to_function_name : {role : Role} → Leads keep (functionFirst role) (functionNamed role)
-  to_property : Leads keep (item_due objectProperties) propertyNamed
-  to_value : Leads keep propertyNamed (operandDue (by_item objectProperties) someTarget)
-  to_parameter : {must : Bool} → Leads keep (parameter_due must) parameterNamed
-  to_next_parameter : Leads keep parameterNamed (parameter_due true)
+      → Leads (take_operator class) from (operand_due ending no_target)
+  to_comma : {from : Control} {ending : Ending} → T (takes_comma ending) → Ended from ending → Leads (take_operator comma) from (operand_due ending some_target)
+  to_end : {from : Control} {setting : Setting} → Ended from (by_statement setting) → Leads end_expression from (behind_statement setting)
+  to_return_end : {from : Control} {setting : Setting} → Ended from (by_return setting) → Leads end_value from (behind_statement setting)
+  to_item_end : {from : Control} {items : Items} → Ended from (by_item items) → Leads end_value from (behind_comma items)
+  to_hole : Leads keep (item_due array_elements) (item_due array_elements)
+  to_function_name : {role : Role} → Leads keep (function_first role) (function_named role)
+  to_property : Leads keep (item_due object_properties) property_named
+  to_value : Leads keep property_named (operand_due (by_item object_properties) some_target)
+  to-parameter : {must : Bool} → Leads keep (parameter_due must) parameter_named
+  to_next_parameter : Leads keep parameter_named (parameter_due true)
 
 -- and those between which a group stands
 pub data Spans : Closing → Control → Control → Type 0 where
-  past_parens : {from : Control} {ending : Ending} {target : Target} → Due from ending target → Spans toParens from (operandDone ending target)
-  past_object : {from : Control} {ending : Ending} {target : Target} → Due from ending target → Spans toObject from (operandDone ending target)
-  past_array : {from : Control} {ending : Ending} {target : Target} → Due from ending target → Spans toArray from (operandDone ending target)
-  past_index : {ending : Ending} {target : Target} → Spans toIndex (operandDone ending target) (operandDone ending target)
-  past_call : {ending : Ending} {target : Target} → Spans toCall (operandDone ending target) (operandDone ending target)
-  past_condition : Spans toCondition ifFirst (statement_due true (in_nest ifNest))
-  past_head : {setting : Setting} → Spans toHead (headFirst setting) (statement_due true setting)
-  past_for : {setting : Setting} → Spans toFor (forFirst setting) (statement_due true setting)
-  past_for_in : {setting : Setting} → Spans toForIn (forFirst setting) (statement_due true setting)
-  past_subject : {setting : Setting} → Spans toHead (switchFirst setting) (switchPast setting)
-  past_clauses : {setting : Setting} → Spans toStatement (switchPast setting) (behind_statement setting)
-  past_tried : Spans toBlock tryFirst tryDone
-  past_caught : Spans toParameter catchFirst catchPast
-  past_handled : Spans toBlock catchPast catchDone
-  past_finally : Spans toBlock finallyFirst tryEnded
-  past_test : {setting : Setting} → Spans toTest (testFirst setting) (semicolonDue setting)
-  past_parameter : {role : Role} → Spans toParameter (functionNamed role) (parameterPast role)
-  past_unnamed : {ending : Ending} {target : Target} → Spans toParameter (functionFirst (operand_in ending target)) (parameterPast (operand_in ending target))
-  past_block : {must : Bool} {setting : Setting} → Spans toBlock (statement_due must setting) (behind_statement setting)
-  past_declaration : Spans toDeclaration (parameterPast declared) (statement_due false (among body))
-  past_function : {ending : Ending} {target : Target} → Spans toFunction (parameterPast (operand_in ending target)) (operandDone ending target)
+  past_parens : {from : Control} {ending : Ending} {target : Target} → Due from ending target → Spans to_parens from (operand_done ending target)
+  past_object : {from : Control} {ending : Ending} {target : Target} → Due from ending target → Spans to_object from (operand_done ending target)
+  past_array : {from : Control} {ending : Ending} {target : Target} → Due from ending target → Spans to_array from (operand_done ending target)
+  past_index : {ending : Ending} {target : Target} → Spans to_index (operand_done ending target) (operand_done ending target)
+  past_call : {ending : Ending} {target : Target} → Spans to_call (operand_done ending target) (operand_done ending target)
+  past_condition : Spans to_condition if_first (statement_due true (in_nest if_nest))
+  past_head : {setting : Setting} → Spans to_head (head_first setting) (statement_due true setting)
+  past_for : {setting : Setting} → Spans to_for (for_first setting) (statement_due true setting)
+  past_for_in : {setting : Setting} → Spans to_for_in (for_first setting) (statement_due true setting)
+  past_subject : {setting : Setting} → Spans to_head (switch_first setting) (switch_past setting)
+  past_clauses : {setting : Setting} → Spans to_statement (switch_past setting) (behind_statement setting)
+  past_tried : Spans to_block try_first try_done
+  past_caught : Spans to_parameter catch_first catch_past
+  past_handled : Spans to_block catch_past catch_done
+  past_finally : Spans to_block finally_first try_ended
+  past_test : {setting : Setting} → Spans to_test (test_first setting) (semicolon_due setting)
+  past_parameter : {role : Role} → Spans to_parameter (function_named role) (parameter_past role)
+  past_unnamed : {ending : Ending} {target : Target} → Spans to_parameter (function_first (operand_in ending target)) (parameter_past (operand_in ending target))
+  past_block : {must : Bool} {setting : Setting} → Spans to_block (statement_due must setting) (behind_statement setting)
+  past_declaration : Spans to_declaration (parameter_past declared) (statement_due false (among body))
+  past_function : {ending : Ending} {target : Target} → Spans to_function (parameter_past (operand_in ending target)) (operand_done ending target)
 
 -- where a nest may be opened: where a statement is due, or behind the head of a clause
 pub data Enters : ℕ → Setting → Control → Type 0 where
@@ -168,7 +168,7 @@ pub data Enters : ℕ → Setting → Control → Type 0 where
   enters_try : {must : Bool} {setting : Setting} → Enters 2 setting (statement_due must setting)
   enters_case : {setting : Setting} {from : Control} → Ended from (by_case false) → Enters 3 setting from
   enters_last_case : {setting : Setting} {from : Control} → Ended from (by_case true) → Enters 4 setting from
-  enters_default : {setting : Setting} → Enters 4 setting defaultFirst
+  enters_default : {setting : Setting} → Enters 4 setting default_first
 
 -- what a step says of the action for a token of a class; of a class that ends a level it says nothing
 pub data Means (from : Control) (class : ℕ) : Step → Action → Type 0 where
@@ -181,7 +181,7 @@ pub data Means (from : Control) (class : ℕ) : Step → Action → Type 0 where
   means_enter : {nest number : ℕ} → T (is_single class) → nest ≤ 4 → number ≤ 5 → Enters nest (setting_by number) from
       → Means from class (Enter nest number) (enter (entered_by nest) (worded_by nest) (outside_by nest) (behind_by nest (setting_by number)) (left_by nest))
   means_ask : {ending : Ending} → T (is_single class) → Ended from ending → Means from class Ask (ask ending)
-  means_turn : T (is_single class) → Ended from byColon → Means from class Turn turn
+  means_turn : T (is_single class) → Ended from by_colon → Means from class Turn turn
 
 -- what a step that goes on, or opens a group, means of each class, from wherever it leads
 abbrev pub Goes : Step → Control → ℕ → Type 0
@@ -205,31 +205,31 @@ Settled at class = SettledAt at.place at.setting class
 
 -- an expression that is the whole inside of a group
 abbrev pub in_group : Ending → Bool
-in_group (byStatement setting) = false
-in_group (byReturn setting) = false
+in_group (by_statement setting) = false
+in_group (by_return setting) = false
 in_group (by_variable place) = false
-in_group byStart = false
-in_group byTest = false
+in_group by_start = false
+in_group by_test = false
 in_group by_step = false
-in_group byObject = false
+in_group by_object = false
 in_group (by_case seen) = false
-in_group byParen = true
-in_group byBracket = true
-in_group byColon = false
+in_group by_paren = true
+in_group by_bracket = true
+in_group by_colon = false
 in_group (by_item items) = false
 
 -- whether a level ends at a closer, or at the text's end, and with what
 pub data Ends (class : ℕ) : Control → Bool → Action → Type 0 where
-  ends_statements : {scope : Scope} → Ends class (statement_due false (among scope)) true (pop doneValue)
+  ends_statements : {scope : Scope} → Ends class (statement_due false (among scope)) true (pop done_value)
   ends_text : class ≡ end_of_text → Ends class (statement_due false (among body)) true finish
-  ends_expression : {from : Control} {ending : Ending} → T (in_group ending) → Ended from ending → Ends class from true (pop expressionValue)
-  ends_item : {from : Control} {items : Items} → Ended from (by_item items) → Ends class from true (pop listValue)
-  ends_items : {items : Items} → Ends class (item_due items) true (pop doneValue)
-  ends_no_parameter : Ends class (parameter_due false) true (pop noValue)
-  ends_parameter : Ends class parameterNamed true (pop noValue)
-  ends_head : {from : Control} → Ended from by_step → Ends class from true (pop listValue)
-  ends_object : {from : Control} → Ended from byObject → Ends class from true popIn
-  ends_no_step : Ends class stepDue true (pop listValue)
-  ends_clauses : {seen : Bool} → Ends class (clause_due seen) true (pop doneValue)
-  ends_caught : Ends class catchNamed true (pop noValue)
+  ends_expression : {from : Control} {ending : Ending} → T (in_group ending) → Ended from ending → Ends class from true (pop expression_value)
+  ends_item : {from : Control} {items : Items} → Ended from (by_item items) → Ends class from true (pop list_value)
+  ends_items : {items : Items} → Ends class (item_due items) true (pop done_value)
+  ends_no_parameter : Ends class (parameter_due false) true (pop no_value)
+  ends_parameter : Ends class parameter_named true (pop no_value)
+  ends_head : {from : Control} → Ended from by_step → Ends class from true (pop list_value)
+  ends_object : {from : Control} → Ended from by_object → Ends class from true pop_in
+  ends_no_step : Ends class step_due true (pop list_value)
+  ends_clauses : {seen : Bool} → Ends class (clause_due seen) true (pop done_value)
+  ends_caught : Ends class catch_named true (pop no_value)
   goes_on : {from : Control} → Ends class from false fail

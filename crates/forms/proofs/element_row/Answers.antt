@@ -1,8 +1,8 @@
 -- `element_row` is the machine's row where an element is due.
 use borrow.Author.Tests.{ne_eqb}
 use Rattle.machine.specs.Tokens.{comma}
-use Rattle.machine.specs.Scopes.{arrayElements}
-use Rattle.machine.specs.Machinery.Machine.{someTarget, by_item, item_due}
+use Rattle.machine.specs.Scopes.{array_elements}
+use Rattle.machine.specs.Machinery.Machine.{some_target, by_item, item_due}
 use Rattle.controls.specs.Machinery.Numbers.{items_by, ending_by, target_by, control_by, effect_by}
 use Rattle.controls.specs.Machinery.Steps.{due_item, to_hole}
 use Rattle.controls.proofs.EndLaws.{besides_closers}
@@ -16,5 +16,5 @@ returns-then-class-eq-COMMA c = rw c.if-class-eq-COMMA.true (c.goto.ensures _ _ 
 pub returns : goal.returns
 unfolding items_by ending_by target_by
 returns c = let class = c.args.class in
-    besides_closers (c.operand_row.ensures (item_due arrayElements) due_item tt) (operand_closers (by_item arrayElements) someTarget class)
+    besides_closers (c.operand_row.ensures (item_due array_elements) due_item tt) (operand_closers (by_item array_elements) some_target class)
     (λ none. rw (ne_eqb class comma c.if-class-eq-COMMA.false, none.no_bracket))

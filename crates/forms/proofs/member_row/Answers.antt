@@ -1,7 +1,7 @@
 -- `member_row` is the machine's row behind `new`, entry by entry.
 use mathlib.Core.Path.{sym, ◌∙◌}
 use Rattle.controls.specs.Machinery.Numbers.{ending_by, target_by, control_by, effect_by, closing_by, inside_by}
-use Rattle.controls.specs.Machinery.Steps.{to_leaf, to_function, to_new, past_parens, past_object, past_array, means_fail}
+use Rattle.controls.specs.Machinery.Steps.{to_leaf, to-function, to_new, past_parens, past_object, past_array, means_fail}
 use Rattle.forms.proofs.FormLaws.{leaf_row, no_member}
 use Rattle.forms.proofs.member_row.Goals as goal
 
@@ -19,7 +19,7 @@ returns-then-class-eq-OPEN_BRACKET c = λ from due. rw c.if-class-eq-OPEN_BRACKE
 
 pub returns-then-class-eq-FUNCTION : goal.returns-then-class-eq-FUNCTION
 unfolding control_by effect_by
-returns-then-class-eq-FUNCTION c = λ from due. rw c.if-class-eq-FUNCTION.true (c.goto-then-class-eq-FUNCTION.ensures _ _ tt (to_function due))
+returns-then-class-eq-FUNCTION c = λ from due. rw c.if-class-eq-FUNCTION.true (c.goto-then-class-eq-FUNCTION.ensures _ _ tt (to-function due))
 
 pub returns-then-class-eq-NEW : goal.returns-then-class-eq-NEW
 unfolding control_by effect_by

@@ -11,66 +11,66 @@ use Rattle.machine.specs.Machinery.Machine.{
   empty,
   reduced,
   answered,
-  toParameter,
+  to_parameter,
   Nest,
-  ifNest,
+  if_nest,
   in_clause,
-  someTarget,
+  some_target,
   Ending,
-  byColon,
+  by_colon,
   Control,
   statement_due,
   statement_done,
-  nameFirst,
-  returnFirst,
-  throwFirst,
-  jumpFirst,
-  headFirst,
-  forFirst,
-  switchFirst,
-  switchPast,
-  bodyDone,
-  testFirst,
-  semicolonDue,
-  variableDue,
-  variableNamed,
-  startDue,
-  testDue,
-  stepDue,
-  defaultFirst,
+  name_first,
+  return_first,
+  throw_first,
+  jump_first,
+  head_first,
+  for_first,
+  switch_first,
+  switch_past,
+  body_done,
+  test_first,
+  semicolon_due,
+  variable_due,
+  variable_named,
+  start_due,
+  test_due,
+  step_due,
+  default_first,
   clause_due,
-  tryFirst,
-  tryDone,
-  catchFirst,
-  catchDue,
-  catchNamed,
-  catchPast,
-  catchDone,
-  finallyFirst,
-  tryEnded,
-  ifFirst,
-  operandDue,
-  memberDue,
-  operandDone,
+  try_first,
+  try_done,
+  catch_first,
+  catch_due,
+  catch_named,
+  catch_past,
+  catch_done,
+  finally_first,
+  try_ended,
+  if_first,
+  operand_due,
+  member_due,
+  operand_done,
   postfix_done,
-  dotLast,
-  functionFirst,
-  functionNamed,
-  parameterPast,
+  dot_last,
+  function_first,
+  function_named,
+  parameter_past,
   item_due,
-  propertyNamed,
+  property_named,
   parameter_due,
-  parameterNamed,
+  parameter_named,
   finished,
   Value,
   Action,
   pop,
-  popIn,
+  pop_in,
   finish,
-  expressionValue,
-  doneValue,
-  listValue,
-  statementValue,
+  expression_value,
+  done_value,
+  list_value,
+  statement_value,
   value_of,
   nested,
   asking,
@@ -149,8 +149,8 @@ pub record MayAsk (at : code.Control) (mark : ℕ) (l : Level) (stack cells : Li
   pub marked : mark < most_trees
 
 pub record AskedAt (g : Frame) (ending : Ending) (mark : ℕ) (nests : List machine.Open) (table stack₀ : List ℕ) (first floor passed : ℕ) (r : Standing) (stack cells : List ℕ) : Type 0 where
-  pub control_is : control_of r.control ≡ operandDue byColon someTarget
-  pub stands : Stands (operandDue byColon someTarget) empty (asking ending mark (reduced least_binary g) ∷ nests) table stack₀ first floor passed r.level stack cells
+  pub control_is : control_of r.control ≡ operand_due by_colon some_target
+  pub stands : Stands (operand_due by_colon some_target) empty (asking ending mark (reduced least_binary g) ∷ nests) table stack₀ first floor passed r.level stack cells
 
 abbrev pub Asks : code.Control → ℕ → Level → List ℕ → List ℕ → Standing → List ℕ → List ℕ → Type 0
 Asks at mark l stack cells r stack' cells' = (ending : Ending) (g : Frame) (nests : List machine.Open) (table stack₀ : List ℕ) (first floor passed : ℕ)
@@ -160,7 +160,7 @@ Asks at mark l stack cells r stack' cells' = (ending : Ending) (g : Frame) (nest
 -- and it is answered
 pub record MayTurn (l : Level) (stack cells : List ℕ) : Type 0 where
   pub from : Control
-  pub ends : Ended from byColon
+  pub ends : Ended from by_colon
   pub somewhere : StandsSomewhere from l stack cells
 
 pub record TurnedTo (g : Frame) (nests : List machine.Open) (table stack₀ : List ℕ) (first floor passed : ℕ) (r : Standing) (stack cells : List ℕ) : Type 0 where
@@ -169,12 +169,12 @@ pub record TurnedTo (g : Frame) (nests : List machine.Open) (table stack₀ : Li
   pub f : Frame
   pub rest : List machine.Open
   pub is : nests ≡ asking ending mark f ∷ rest
-  pub control_is : control_of r.control ≡ operandDue ending someTarget
-  pub stands : Stands (operandDue ending someTarget) (answered mark (value_of expressionValue g) f) rest table stack₀ first floor passed r.level stack cells
+  pub control_is : control_of r.control ≡ operand_due ending some_target
+  pub stands : Stands (operand_due ending some_target) (answered mark (value_of expression_value g) f) rest table stack₀ first floor passed r.level stack cells
 
 abbrev pub Turns : Level → List ℕ → List ℕ → Standing → List ℕ → List ℕ → Type 0
 Turns l stack cells r stack' cells' = (from : Control) (g : Frame) (nests : List machine.Open) (table stack₀ : List ℕ) (first floor passed : ℕ)
-    → Stands from g nests table stack₀ first floor passed l stack cells → Ended from byColon → first + floor + passed < most_trees
+    → Stands from g nests table stack₀ first floor passed l stack cells → Ended from by_colon → first + floor + passed < most_trees
     → TurnedTo g nests table stack₀ first floor (passed + 1) r stack' cells'
 
 -- a group's value stands behind a level's records
@@ -199,53 +199,53 @@ pub record MayClose (closing mark n : ℕ) (l : Level) (stack cells : List ℕ) 
 abbrev pub ClosesGroup : ℕ → ℕ → ℕ → Level → List ℕ → List ℕ → Level → List ℕ → List ℕ → Type 0
 ClosesGroup closing mark n l stack cells l' stack' cells' = (from to : Control) (g : Frame) (nests : List machine.Open) (table stack₀ : List ℕ) (first floor passed next : ℕ) (value : Syntax) (stack_before cells_before : List ℕ)
     → Stands from g nests table stack₀ first floor passed l stack_before cells_before → Spans (closing_by closing) from to
-    → Valued l n value stack_before stack cells_before cells → (closing_by closing ≡ toParameter → value ≡ nil) → n + l.top < first + floor + next → first + floor + next ≤ most_trees
+    → Valued l n value stack_before stack cells_before cells → (closing_by closing ≡ to_parameter → value ≡ nil) → n + l.top < first + floor + next → first + floor + next ≤ most_trees
     → Stands to (machine.close (closing_by closing) mark value g) nests table stack₀ first floor next l' stack' cells'
 
 -- inside a parameter's parentheses nothing is written: a level that starts there ends there, with no value
 abbrev pub of_parameter : Control → Bool
 of_parameter (statement_due must setting) = false
 of_parameter (statement_done nest) = false
-of_parameter (nameFirst setting) = false
-of_parameter (returnFirst setting) = false
-of_parameter (throwFirst setting) = false
-of_parameter (jumpFirst setting) = false
-of_parameter (headFirst setting) = false
-of_parameter (forFirst setting) = false
-of_parameter (switchFirst setting) = false
-of_parameter (switchPast setting) = false
-of_parameter (bodyDone setting) = false
-of_parameter (testFirst setting) = false
-of_parameter (semicolonDue setting) = false
-of_parameter (variableDue place) = false
-of_parameter (variableNamed place) = false
-of_parameter startDue = false
-of_parameter testDue = false
-of_parameter stepDue = false
-of_parameter defaultFirst = false
+of_parameter (name_first setting) = false
+of_parameter (return_first setting) = false
+of_parameter (throw_first setting) = false
+of_parameter (jump_first setting) = false
+of_parameter (head_first setting) = false
+of_parameter (for_first setting) = false
+of_parameter (switch_first setting) = false
+of_parameter (switch_past setting) = false
+of_parameter (body_done setting) = false
+of_parameter (test_first setting) = false
+of_parameter (semicolon_due setting) = false
+of_parameter (variable_due place) = false
+of_parameter (variable_named place) = false
+of_parameter start_due = false
+of_parameter test_due = false
+of_parameter step_due = false
+of_parameter default_first = false
 of_parameter (clause_due seen) = false
-of_parameter tryFirst = false
-of_parameter tryDone = false
-of_parameter catchFirst = false
-of_parameter catchDue = true
-of_parameter catchNamed = true
-of_parameter catchPast = false
-of_parameter catchDone = false
-of_parameter finallyFirst = false
-of_parameter tryEnded = false
-of_parameter ifFirst = false
-of_parameter (operandDue ending target) = false
-of_parameter (memberDue ending target) = false
-of_parameter (operandDone ending target) = false
+of_parameter try_first = false
+of_parameter try_done = false
+of_parameter catch_first = false
+of_parameter catch_due = true
+of_parameter catch_named = true
+of_parameter catch_past = false
+of_parameter catch_done = false
+of_parameter finally_first = false
+of_parameter try_ended = false
+of_parameter if_first = false
+of_parameter (operand_due ending target) = false
+of_parameter (member_due ending target) = false
+of_parameter (operand_done ending target) = false
 of_parameter (postfix_done ending) = false
-of_parameter (dotLast ending target) = false
-of_parameter (functionFirst role) = false
-of_parameter (functionNamed role) = false
-of_parameter (parameterPast role) = false
+of_parameter (dot_last ending target) = false
+of_parameter (function_first role) = false
+of_parameter (function_named role) = false
+of_parameter (parameter_past role) = false
 of_parameter (item_due items) = false
-of_parameter propertyNamed = false
+of_parameter property_named = false
 of_parameter (parameter_due must) = true
-of_parameter parameterNamed = true
+of_parameter parameter_named = true
 of_parameter finished = false
 
 -- before a token of a class the machine stands elsewhere, and takes it the same way
@@ -286,12 +286,12 @@ is_done at class = is_done_at at.place at.setting class
 
 -- where a nest is left before a token of a class, and with what value
 pub data Leaving (class : ℕ) : Control → Value → Type 0 where
-  leaving_statement : {nest : Nest} → (nest ≡ ifNest → class ≡ else_word → ⊥) → Leaving class (statement_done nest) statementValue
-  leaving_catch : (class ≡ finally_word → ⊥) → Leaving class catchDone doneValue
-  leaving_try : Leaving class tryEnded doneValue
-  leaving_case : class ≡ case_word → Leaving class (statement_due false in_clause) doneValue
-  leaving_default : class ≡ default_word → Leaving class (statement_due false in_clause) doneValue
-  leaving_clauses : class ≡ close_brace → Leaving class (statement_due false in_clause) doneValue
+  leaving_statement : {nest : Nest} → (nest ≡ if_nest → class ≡ else_word → ⊥) → Leaving class (statement_done nest) statement_value
+  leaving_catch : (class ≡ finally_word → ⊥) → Leaving class catch_done done_value
+  leaving_try : Leaving class try_ended done_value
+  leaving_case : class ≡ case_word → Leaving class (statement_due false in_clause) done_value
+  leaving_default : class ≡ default_word → Leaving class (statement_due false in_clause) done_value
+  leaving_clauses : class ≡ close_brace → Leaving class (statement_due false in_clause) done_value
 
 -- a nest that is done may be left
 pub record MayLeaveOne (l : Level) (stack cells : List ℕ) : Type 0 where
@@ -327,7 +327,7 @@ Names at l cells r cells' = (class : ℕ) (stack : List ℕ) → (class ≡ colo
 -- the value with which a level ends
 pub data IsValue : Action → Frame → Syntax → Type 0 where
   is_popped : {value : Value} {g : Frame} → IsValue (pop value) g (value_of value g)
-  is-head : {g : Frame} → IsValue popIn g (value_of listValue g)
+  is-head : {g : Frame} → IsValue pop_in g (value_of list_value g)
   is-program : {value : Syntax} → IsValue finish (frame value [] [] nil) value
 
 -- a level's end: its value is the whole of its records, and it has no nests

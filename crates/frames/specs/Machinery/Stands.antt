@@ -19,61 +19,61 @@ use Rattle.machine.specs.Machinery.Machine.{
   in_statement,
   in_head,
   Ending,
-  byStatement,
-  byReturn,
+  by_statement,
+  by_return,
   by_variable,
-  byStart,
-  byTest,
+  by_start,
+  by_test,
   by_step,
-  byObject,
+  by_object,
   by_case,
-  byParen,
-  byBracket,
-  byColon,
+  by_paren,
+  by_bracket,
+  by_colon,
   by_item,
   Control,
   statement_due,
   statement_done,
-  nameFirst,
-  returnFirst,
-  throwFirst,
-  jumpFirst,
-  headFirst,
-  forFirst,
-  switchFirst,
-  switchPast,
-  bodyDone,
-  testFirst,
-  semicolonDue,
-  variableDue,
-  variableNamed,
-  startDue,
-  testDue,
-  stepDue,
-  defaultFirst,
+  name_first,
+  return_first,
+  throw_first,
+  jump_first,
+  head_first,
+  for_first,
+  switch_first,
+  switch_past,
+  body_done,
+  test_first,
+  semicolon_due,
+  variable_due,
+  variable_named,
+  start_due,
+  test_due,
+  step_due,
+  default_first,
   clause_due,
-  tryFirst,
-  tryDone,
-  catchFirst,
-  catchDue,
-  catchNamed,
-  catchPast,
-  catchDone,
-  finallyFirst,
-  tryEnded,
-  ifFirst,
-  operandDue,
-  memberDue,
-  operandDone,
+  try_first,
+  try_done,
+  catch_first,
+  catch_due,
+  catch_named,
+  catch_past,
+  catch_done,
+  finally_first,
+  try_ended,
+  if_first,
+  operand_due,
+  member_due,
+  operand_done,
   postfix_done,
-  dotLast,
-  functionFirst,
-  functionNamed,
-  parameterPast,
+  dot_last,
+  function_first,
+  function_named,
+  parameter_past,
   item_due,
-  propertyNamed,
+  property_named,
   parameter_due,
-  parameterNamed,
+  parameter_named,
   finished,
   nested,
   asking,
@@ -135,17 +135,17 @@ InVariables (in_head first) done nests = nests ≡ []
 -- an expression that is the whole inside of a group has nothing else on its level; before an item of a list, or a part of the head of a `for`, stand such
 -- alone; before what a clause starts with stands its word; behind an open `?` nothing stands before it
 abbrev pub Within : Ending → Syntax → List Pending → List machine.Open → Type 0
-Within (byStatement setting) done starts nests = InSetting setting done nests
-Within (byReturn setting) done starts nests = InSetting setting done nests
+Within (by_statement setting) done starts nests = InSetting setting done nests
+Within (by_return setting) done starts nests = InSetting setting done nests
 Within (by_variable place) done starts nests = VariableBegun starts × InVariables place done nests
-Within byStart done starts nests = (starts ≡ []) × (nests ≡ [])
-Within byTest done starts nests = (starts ≡ []) × (nests ≡ [])
+Within by_start done starts nests = (starts ≡ []) × (nests ≡ [])
+Within by_test done starts nests = (starts ≡ []) × (nests ≡ [])
 Within by_step done starts nests = (starts ≡ []) × (nests ≡ [])
-Within byObject done starts nests = (starts ≡ []) × (nests ≡ [])
+Within by_object done starts nests = (starts ≡ []) × (nests ≡ [])
 Within (by_case seen) done starts nests = StatementBegun starts × (nests ≡ [])
-Within byParen done starts nests = (done ≡ nil) × (starts ≡ []) × (nests ≡ [])
-Within byBracket done starts nests = (done ≡ nil) × (starts ≡ []) × (nests ≡ [])
-Within byColon done starts nests = (done ≡ nil) × (starts ≡ []) × Asked nests
+Within by_paren done starts nests = (done ≡ nil) × (starts ≡ []) × (nests ≡ [])
+Within by_bracket done starts nests = (done ≡ nil) × (starts ≡ []) × (nests ≡ [])
+Within by_colon done starts nests = (done ≡ nil) × (starts ≡ []) × Asked nests
 Within (by_item items) done starts nests = (starts ≡ []) × (nests ≡ [])
 
 -- the ending of the expression that an open `?` is in, by the number that stands for it
@@ -211,183 +211,183 @@ abbrev pub Shaped : Control → Syntax → List Pending → List Pending → Syn
 Shaped (statement_due true setting) done starts waiting operand nests = PartDue setting done waiting operand nests
 Shaped (statement_due false setting) done starts waiting operand nests = NoneBegun setting done starts waiting operand nests
 Shaped (statement_done nest) done starts waiting operand nests = (starts ≡ []) × (waiting ≡ []) × (operand ≡ nil) × OneDone done × InNest nests
-Shaped (nameFirst setting) done starts waiting operand nests = (waiting ≡ []) × InSetting setting done nests
-Shaped (returnFirst setting) done starts waiting operand nests = WordAlone setting done starts waiting operand nests
-Shaped (throwFirst setting) done starts waiting operand nests = WordAlone setting done starts waiting operand nests
-Shaped (jumpFirst setting) done starts waiting operand nests = WordAlone setting done starts waiting operand nests
-Shaped (headFirst setting) done starts waiting operand nests = WordAlone setting done starts waiting operand nests
-Shaped (forFirst setting) done starts waiting operand nests = WordAlone setting done starts waiting operand nests
-Shaped (switchFirst setting) done starts waiting operand nests = WordAlone setting done starts waiting operand nests
-Shaped (switchPast setting) done starts waiting operand nests = PartDue setting done waiting operand nests
-Shaped (bodyDone setting) done starts waiting operand nests = PartDue setting done waiting operand nests
-Shaped (testFirst setting) done starts waiting operand nests = PartDue setting done waiting operand nests
-Shaped (semicolonDue setting) done starts waiting operand nests = (waiting ≡ []) × InSetting setting done nests
-Shaped (variableDue place) done starts waiting operand nests = VarBegun starts × (waiting ≡ []) × (operand ≡ nil) × InVariables place done nests
-Shaped (variableNamed place) done starts waiting operand nests = VariableBegun starts × (waiting ≡ []) × (operand ≡ nil) × InVariables place done nests
-Shaped startDue done starts waiting operand nests = ItemsAlone starts waiting operand nests
-Shaped testDue done starts waiting operand nests = ItemsAlone starts waiting operand nests
-Shaped stepDue done starts waiting operand nests = ItemsAlone starts waiting operand nests
-Shaped defaultFirst done starts waiting operand nests = StatementBegun starts × (waiting ≡ []) × (operand ≡ nil) × (nests ≡ [])
+Shaped (name_first setting) done starts waiting operand nests = (waiting ≡ []) × InSetting setting done nests
+Shaped (return_first setting) done starts waiting operand nests = WordAlone setting done starts waiting operand nests
+Shaped (throw_first setting) done starts waiting operand nests = WordAlone setting done starts waiting operand nests
+Shaped (jump_first setting) done starts waiting operand nests = WordAlone setting done starts waiting operand nests
+Shaped (head_first setting) done starts waiting operand nests = WordAlone setting done starts waiting operand nests
+Shaped (for_first setting) done starts waiting operand nests = WordAlone setting done starts waiting operand nests
+Shaped (switch_first setting) done starts waiting operand nests = WordAlone setting done starts waiting operand nests
+Shaped (switch_past setting) done starts waiting operand nests = PartDue setting done waiting operand nests
+Shaped (body_done setting) done starts waiting operand nests = PartDue setting done waiting operand nests
+Shaped (test_first setting) done starts waiting operand nests = PartDue setting done waiting operand nests
+Shaped (semicolon_due setting) done starts waiting operand nests = (waiting ≡ []) × InSetting setting done nests
+Shaped (variable_due place) done starts waiting operand nests = VarBegun starts × (waiting ≡ []) × (operand ≡ nil) × InVariables place done nests
+Shaped (variable_named place) done starts waiting operand nests = VariableBegun starts × (waiting ≡ []) × (operand ≡ nil) × InVariables place done nests
+Shaped start_due done starts waiting operand nests = ItemsAlone starts waiting operand nests
+Shaped test_due done starts waiting operand nests = ItemsAlone starts waiting operand nests
+Shaped step_due done starts waiting operand nests = ItemsAlone starts waiting operand nests
+Shaped default_first done starts waiting operand nests = StatementBegun starts × (waiting ≡ []) × (operand ≡ nil) × (nests ≡ [])
 Shaped (clause_due seen) done starts waiting operand nests = ItemsAlone starts waiting operand nests
-Shaped tryFirst done starts waiting operand nests = PartDue in_clause done waiting operand nests
-Shaped tryDone done starts waiting operand nests = PartDue in_clause done waiting operand nests
-Shaped catchFirst done starts waiting operand nests = PartDue in_clause done waiting operand nests
-Shaped catchDue done starts waiting operand nests = Nothing done starts waiting operand nests
-Shaped catchNamed done starts waiting operand nests = Nothing done starts waiting operand nests
-Shaped catchPast done starts waiting operand nests = PartDue in_clause done waiting operand nests
-Shaped catchDone done starts waiting operand nests = NoneBegun in_clause done starts waiting operand nests
-Shaped finallyFirst done starts waiting operand nests = PartDue in_clause done waiting operand nests
-Shaped tryEnded done starts waiting operand nests = NoneBegun in_clause done starts waiting operand nests
-Shaped ifFirst done starts waiting operand nests = (done ≡ nil) × (starts ≡ []) × (waiting ≡ []) × InNest nests
-Shaped (operandDue ending target) done starts waiting operand nests = (operand ≡ nil) × Within ending done starts nests
-Shaped (memberDue ending target) done starts waiting operand nests = (operand ≡ nil) × Within ending done starts nests
-Shaped (operandDone ending target) done starts waiting operand nests = Within ending done starts nests
+Shaped try_first done starts waiting operand nests = PartDue in_clause done waiting operand nests
+Shaped try_done done starts waiting operand nests = PartDue in_clause done waiting operand nests
+Shaped catch_first done starts waiting operand nests = PartDue in_clause done waiting operand nests
+Shaped catch_due done starts waiting operand nests = Nothing done starts waiting operand nests
+Shaped catch_named done starts waiting operand nests = Nothing done starts waiting operand nests
+Shaped catch_past done starts waiting operand nests = PartDue in_clause done waiting operand nests
+Shaped catch_done done starts waiting operand nests = NoneBegun in_clause done starts waiting operand nests
+Shaped finally_first done starts waiting operand nests = PartDue in_clause done waiting operand nests
+Shaped try_ended done starts waiting operand nests = NoneBegun in_clause done starts waiting operand nests
+Shaped if_first done starts waiting operand nests = (done ≡ nil) × (starts ≡ []) × (waiting ≡ []) × InNest nests
+Shaped (operand_due ending target) done starts waiting operand nests = (operand ≡ nil) × Within ending done starts nests
+Shaped (member_due ending target) done starts waiting operand nests = (operand ≡ nil) × Within ending done starts nests
+Shaped (operand_done ending target) done starts waiting operand nests = Within ending done starts nests
 Shaped (postfix_done ending) done starts waiting operand nests = Within ending done starts nests
-Shaped (dotLast ending target) done starts waiting operand nests = Within ending done starts nests
-Shaped (functionFirst role) done starts waiting operand nests = WithinRole role done starts waiting nests
-Shaped (functionNamed role) done starts waiting operand nests = WithinRole role done starts waiting nests
-Shaped (parameterPast role) done starts waiting operand nests = WithinRole role done starts waiting nests
+Shaped (dot_last ending target) done starts waiting operand nests = Within ending done starts nests
+Shaped (function_first role) done starts waiting operand nests = WithinRole role done starts waiting nests
+Shaped (function_named role) done starts waiting operand nests = WithinRole role done starts waiting nests
+Shaped (parameter_past role) done starts waiting operand nests = WithinRole role done starts waiting nests
 Shaped (item_due items) done starts waiting operand nests = ItemsAlone starts waiting operand nests
-Shaped propertyNamed done starts waiting operand nests = ItemsAlone starts waiting operand nests
+Shaped property_named done starts waiting operand nests = ItemsAlone starts waiting operand nests
 Shaped (parameter_due must) done starts waiting operand nests = Nothing done starts waiting operand nests
-Shaped parameterNamed done starts waiting operand nests = Nothing done starts waiting operand nests
+Shaped parameter_named done starts waiting operand nests = Nothing done starts waiting operand nests
 Shaped finished done starts waiting operand nests = ⊥
 
 -- what is written of an operand: nothing of a name or word that is held; and what is then held
 abbrev pub written : Control → Syntax → Syntax
 written (statement_due must setting) operand = operand
 written (statement_done nest) operand = operand
-written (nameFirst setting) operand = nil
-written (returnFirst setting) operand = operand
-written (throwFirst setting) operand = operand
-written (jumpFirst setting) operand = operand
-written (headFirst setting) operand = operand
-written (forFirst setting) operand = operand
-written (switchFirst setting) operand = operand
-written (switchPast setting) operand = operand
-written (bodyDone setting) operand = operand
-written (testFirst setting) operand = operand
-written (semicolonDue setting) operand = operand
-written (variableDue place) operand = operand
-written (variableNamed place) operand = operand
-written startDue operand = operand
-written testDue operand = operand
-written stepDue operand = operand
-written defaultFirst operand = operand
+written (name_first setting) operand = nil
+written (return_first setting) operand = operand
+written (throw_first setting) operand = operand
+written (jump_first setting) operand = operand
+written (head_first setting) operand = operand
+written (for_first setting) operand = operand
+written (switch_first setting) operand = operand
+written (switch_past setting) operand = operand
+written (body_done setting) operand = operand
+written (test_first setting) operand = operand
+written (semicolon_due setting) operand = operand
+written (variable_due place) operand = operand
+written (variable_named place) operand = operand
+written start_due operand = operand
+written test_due operand = operand
+written step_due operand = operand
+written default_first operand = operand
 written (clause_due seen) operand = operand
-written tryFirst operand = operand
-written tryDone operand = operand
-written catchFirst operand = operand
-written catchDue operand = operand
-written catchNamed operand = operand
-written catchPast operand = operand
-written catchDone operand = operand
-written finallyFirst operand = operand
-written tryEnded operand = operand
-written ifFirst operand = nil
-written (operandDue ending target) operand = operand
-written (memberDue ending target) operand = operand
-written (operandDone ending target) operand = operand
+written try_first operand = operand
+written try_done operand = operand
+written catch_first operand = operand
+written catch_due operand = operand
+written catch_named operand = operand
+written catch_past operand = operand
+written catch_done operand = operand
+written finally_first operand = operand
+written try_ended operand = operand
+written if_first operand = nil
+written (operand_due ending target) operand = operand
+written (member_due ending target) operand = operand
+written (operand_done ending target) operand = operand
 written (postfix_done ending) operand = operand
-written (dotLast ending target) operand = operand
-written (functionFirst role) operand = nil
-written (functionNamed role) operand = nil
-written (parameterPast role) operand = nil
+written (dot_last ending target) operand = operand
+written (function_first role) operand = nil
+written (function_named role) operand = nil
+written (parameter_past role) operand = nil
 written (item_due items) operand = operand
-written propertyNamed operand = operand
+written property_named operand = operand
 written (parameter_due must) operand = operand
-written parameterNamed operand = operand
+written parameter_named operand = operand
 written finished operand = operand
 
 abbrev pub HeldAt : Control → Syntax → ℕ → Type 0
 HeldAt (statement_due must setting) operand word = Unit {0}
 HeldAt (statement_done nest) operand word = Unit {0}
-HeldAt (nameFirst setting) operand word = operand ≡ node name word nil nil
-HeldAt (returnFirst setting) operand word = Unit {0}
-HeldAt (throwFirst setting) operand word = Unit {0}
-HeldAt (jumpFirst setting) operand word = Unit {0}
-HeldAt (headFirst setting) operand word = Unit {0}
-HeldAt (forFirst setting) operand word = Unit {0}
-HeldAt (switchFirst setting) operand word = Unit {0}
-HeldAt (switchPast setting) operand word = Unit {0}
-HeldAt (bodyDone setting) operand word = Unit {0}
-HeldAt (testFirst setting) operand word = Unit {0}
-HeldAt (semicolonDue setting) operand word = Unit {0}
-HeldAt (variableDue place) operand word = Unit {0}
-HeldAt (variableNamed place) operand word = Unit {0}
-HeldAt startDue operand word = Unit {0}
-HeldAt testDue operand word = Unit {0}
-HeldAt stepDue operand word = Unit {0}
-HeldAt defaultFirst operand word = Unit {0}
+HeldAt (name_first setting) operand word = operand ≡ node name word nil nil
+HeldAt (return_first setting) operand word = Unit {0}
+HeldAt (throw_first setting) operand word = Unit {0}
+HeldAt (jump_first setting) operand word = Unit {0}
+HeldAt (head_first setting) operand word = Unit {0}
+HeldAt (for_first setting) operand word = Unit {0}
+HeldAt (switch_first setting) operand word = Unit {0}
+HeldAt (switch_past setting) operand word = Unit {0}
+HeldAt (body_done setting) operand word = Unit {0}
+HeldAt (test_first setting) operand word = Unit {0}
+HeldAt (semicolon_due setting) operand word = Unit {0}
+HeldAt (variable_due place) operand word = Unit {0}
+HeldAt (variable_named place) operand word = Unit {0}
+HeldAt start_due operand word = Unit {0}
+HeldAt test_due operand word = Unit {0}
+HeldAt step_due operand word = Unit {0}
+HeldAt default_first operand word = Unit {0}
 HeldAt (clause_due seen) operand word = Unit {0}
-HeldAt tryFirst operand word = Unit {0}
-HeldAt tryDone operand word = Unit {0}
-HeldAt catchFirst operand word = Unit {0}
-HeldAt catchDue operand word = Unit {0}
-HeldAt catchNamed operand word = Unit {0}
-HeldAt catchPast operand word = Unit {0}
-HeldAt catchDone operand word = Unit {0}
-HeldAt finallyFirst operand word = Unit {0}
-HeldAt tryEnded operand word = Unit {0}
-HeldAt ifFirst operand word = mark_of operand ≡ word
-HeldAt (operandDue ending target) operand word = Unit {0}
-HeldAt (memberDue ending target) operand word = Unit {0}
-HeldAt (operandDone ending target) operand word = Unit {0}
+HeldAt try_first operand word = Unit {0}
+HeldAt try_done operand word = Unit {0}
+HeldAt catch_first operand word = Unit {0}
+HeldAt catch_due operand word = Unit {0}
+HeldAt catch_named operand word = Unit {0}
+HeldAt catch_past operand word = Unit {0}
+HeldAt catch_done operand word = Unit {0}
+HeldAt finally_first operand word = Unit {0}
+HeldAt try_ended operand word = Unit {0}
+HeldAt if_first operand word = mark_of operand ≡ word
+HeldAt (operand_due ending target) operand word = Unit {0}
+HeldAt (member_due ending target) operand word = Unit {0}
+HeldAt (operand_done ending target) operand word = Unit {0}
 HeldAt (postfix_done ending) operand word = Unit {0}
-HeldAt (dotLast ending target) operand word = Unit {0}
-HeldAt (functionFirst role) operand word = mark_of operand ≡ word
-HeldAt (functionNamed role) operand word = mark_of operand ≡ word
-HeldAt (parameterPast role) operand word = mark_of operand ≡ word
+HeldAt (dot_last ending target) operand word = Unit {0}
+HeldAt (function_first role) operand word = mark_of operand ≡ word
+HeldAt (function_named role) operand word = mark_of operand ≡ word
+HeldAt (parameter_past role) operand word = mark_of operand ≡ word
 HeldAt (item_due items) operand word = Unit {0}
-HeldAt propertyNamed operand word = Unit {0}
+HeldAt property_named operand word = Unit {0}
 HeldAt (parameter_due must) operand word = Unit {0}
-HeldAt parameterNamed operand word = Unit {0}
+HeldAt parameter_named operand word = Unit {0}
 HeldAt finished operand word = Unit {0}
 
 -- a record that a name which is held may yet need
 abbrev pub owed : Control → ℕ
 owed (statement_due must setting) = 0
 owed (statement_done nest) = 0
-owed (nameFirst setting) = 1
-owed (returnFirst setting) = 0
-owed (throwFirst setting) = 0
-owed (jumpFirst setting) = 0
-owed (headFirst setting) = 0
-owed (forFirst setting) = 0
-owed (switchFirst setting) = 0
-owed (switchPast setting) = 0
-owed (bodyDone setting) = 0
-owed (testFirst setting) = 0
-owed (semicolonDue setting) = 0
-owed (variableDue place) = 0
-owed (variableNamed place) = 0
-owed startDue = 0
-owed testDue = 0
-owed stepDue = 0
-owed defaultFirst = 0
+owed (name_first setting) = 1
+owed (return_first setting) = 0
+owed (throw_first setting) = 0
+owed (jump_first setting) = 0
+owed (head_first setting) = 0
+owed (for_first setting) = 0
+owed (switch_first setting) = 0
+owed (switch_past setting) = 0
+owed (body_done setting) = 0
+owed (test_first setting) = 0
+owed (semicolon_due setting) = 0
+owed (variable_due place) = 0
+owed (variable_named place) = 0
+owed start_due = 0
+owed test_due = 0
+owed step_due = 0
+owed default_first = 0
 owed (clause_due seen) = 0
-owed tryFirst = 0
-owed tryDone = 0
-owed catchFirst = 0
-owed catchDue = 0
-owed catchNamed = 0
-owed catchPast = 0
-owed catchDone = 0
-owed finallyFirst = 0
-owed tryEnded = 0
-owed ifFirst = 0
-owed (operandDue ending target) = 0
-owed (memberDue ending target) = 0
-owed (operandDone ending target) = 0
+owed try_first = 0
+owed try_done = 0
+owed catch_first = 0
+owed catch_due = 0
+owed catch_named = 0
+owed catch_past = 0
+owed catch_done = 0
+owed finally_first = 0
+owed try_ended = 0
+owed if_first = 0
+owed (operand_due ending target) = 0
+owed (member_due ending target) = 0
+owed (operand_done ending target) = 0
 owed (postfix_done ending) = 0
-owed (dotLast ending target) = 0
-owed (functionFirst role) = 0
-owed (functionNamed role) = 0
-owed (parameterPast role) = 0
+owed (dot_last ending target) = 0
+owed (function_first role) = 0
+owed (function_named role) = 0
+owed (parameter_past role) = 0
 owed (item_due items) = 0
-owed propertyNamed = 0
+owed property_named = 0
 owed (parameter_due must) = 0
-owed parameterNamed = 0
+owed parameter_named = 0
 owed finished = 0
 
 -- the stack below a level's floor is as it was

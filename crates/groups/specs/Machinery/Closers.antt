@@ -7,61 +7,61 @@ use Rattle.machine.specs.Machinery.Machine.{
   Frame,
   frame,
   Ending,
-  byStatement,
-  byReturn,
+  by_statement,
+  by_return,
   by_variable,
-  byStart,
-  byTest,
+  by_start,
+  by_test,
   by_step,
-  byObject,
+  by_object,
   by_case,
-  byParen,
-  byBracket,
-  byColon,
+  by_paren,
+  by_bracket,
+  by_colon,
   by_item,
   Control,
   statement_due,
   statement_done,
-  nameFirst,
-  returnFirst,
-  throwFirst,
-  jumpFirst,
-  headFirst,
-  forFirst,
-  switchFirst,
-  switchPast,
-  bodyDone,
-  testFirst,
-  semicolonDue,
-  variableDue,
-  variableNamed,
-  startDue,
-  testDue,
-  stepDue,
-  defaultFirst,
+  name_first,
+  return_first,
+  throw_first,
+  jump_first,
+  head_first,
+  for_first,
+  switch_first,
+  switch_past,
+  body_done,
+  test_first,
+  semicolon_due,
+  variable_due,
+  variable_named,
+  start_due,
+  test_due,
+  step_due,
+  default_first,
   clause_due,
-  tryFirst,
-  tryDone,
-  catchFirst,
-  catchDue,
-  catchNamed,
-  catchPast,
-  catchDone,
-  finallyFirst,
-  tryEnded,
-  ifFirst,
-  operandDue,
-  memberDue,
-  operandDone,
+  try_first,
+  try_done,
+  catch_first,
+  catch_due,
+  catch_named,
+  catch_past,
+  catch_done,
+  finally_first,
+  try_ended,
+  if_first,
+  operand_due,
+  member_due,
+  operand_done,
   postfix_done,
-  dotLast,
-  functionFirst,
-  functionNamed,
-  parameterPast,
+  dot_last,
+  function_first,
+  function_named,
+  parameter_past,
   item_due,
-  propertyNamed,
+  property_named,
   parameter_due,
-  parameterNamed,
+  parameter_named,
   finished,
   Open,
   State,
@@ -87,62 +87,62 @@ closer_token class place mark = token class (record { newline = false; mark = ma
 
 -- where what stands behind the `in` of a `for` has ended
 abbrev pub is_by_object : Ending → Bool
-is_by_object (byStatement setting) = false
-is_by_object (byReturn setting) = false
+is_by_object (by_statement setting) = false
+is_by_object (by_return setting) = false
 is_by_object (by_variable place) = false
-is_by_object byStart = false
-is_by_object byTest = false
+is_by_object by_start = false
+is_by_object by_test = false
 is_by_object by_step = false
-is_by_object byObject = true
+is_by_object by_object = true
 is_by_object (by_case seen) = false
-is_by_object byParen = false
-is_by_object byBracket = false
-is_by_object byColon = false
+is_by_object by_paren = false
+is_by_object by_bracket = false
+is_by_object by_colon = false
 is_by_object (by_item items) = false
 
 abbrev pub is_object : Control → Bool
 is_object (statement_due must setting) = false
 is_object (statement_done nest) = false
-is_object (nameFirst setting) = false
-is_object (returnFirst setting) = false
-is_object (throwFirst setting) = false
-is_object (jumpFirst setting) = false
-is_object (headFirst setting) = false
-is_object (forFirst setting) = false
-is_object (switchFirst setting) = false
-is_object (switchPast setting) = false
-is_object (bodyDone setting) = false
-is_object (testFirst setting) = false
-is_object (semicolonDue setting) = false
-is_object (variableDue place) = false
-is_object (variableNamed place) = false
-is_object startDue = false
-is_object testDue = false
-is_object stepDue = false
-is_object defaultFirst = false
+is_object (name_first setting) = false
+is_object (return_first setting) = false
+is_object (throw_first setting) = false
+is_object (jump_first setting) = false
+is_object (head_first setting) = false
+is_object (for_first setting) = false
+is_object (switch_first setting) = false
+is_object (switch_past setting) = false
+is_object (body_done setting) = false
+is_object (test_first setting) = false
+is_object (semicolon_due setting) = false
+is_object (variable_due place) = false
+is_object (variable_named place) = false
+is_object start_due = false
+is_object test_due = false
+is_object step_due = false
+is_object default_first = false
 is_object (clause_due seen) = false
-is_object tryFirst = false
-is_object tryDone = false
-is_object catchFirst = false
-is_object catchDue = false
-is_object catchNamed = false
-is_object catchPast = false
-is_object catchDone = false
-is_object finallyFirst = false
-is_object tryEnded = false
-is_object ifFirst = false
-is_object (operandDue ending target) = false
-is_object (memberDue ending target) = false
-is_object (operandDone ending target) = is_by_object ending
+is_object try_first = false
+is_object try_done = false
+is_object catch_first = false
+is_object catch_due = false
+is_object catch_named = false
+is_object catch_past = false
+is_object catch_done = false
+is_object finally_first = false
+is_object try_ended = false
+is_object if_first = false
+is_object (operand_due ending target) = false
+is_object (member_due ending target) = false
+is_object (operand_done ending target) = is_by_object ending
 is_object (postfix_done ending) = is_by_object ending
-is_object (dotLast ending target) = false
-is_object (functionFirst role) = false
-is_object (functionNamed role) = false
-is_object (parameterPast role) = false
+is_object (dot_last ending target) = false
+is_object (function_first role) = false
+is_object (function_named role) = false
+is_object (parameter_past role) = false
 is_object (item_due items) = false
-is_object propertyNamed = false
+is_object property_named = false
 is_object (parameter_due must) = false
-is_object parameterNamed = false
+is_object parameter_named = false
 is_object finished = false
 
 -- the machine's state behind a level that has closed with a value, which is the head of a `for` with `in` or not

@@ -4,7 +4,7 @@ use Rattle.std.specs.Prelude.{ℕ, ◌-◌, Bool, true, false, cond, ◌&&◌, L
 use Rattle.machine.specs.Tokens.{Token, token, Spot, name, number, string, pattern, this_word, null_word, true_word, false_word, new_word, assign, question, comma, in_word, var_word, else_word, do_word, while_word, for_word, continue_word, break_word, with_word, switch_word, case_word, default_word, throw_word, try_word, catch_word, finally_word, debugger_word, colon, semicolon, dot, open_paren, close_paren, open_brace, close_brace, return_word, function_word, if_word, word_name, open_bracket, close_bracket}
 use Rattle.machine.specs.Syntax.{Syntax, nil, node, snoc, object_syntax, parenthesised_syntax, function_syntax, member_syntax, call_syntax, construct_syntax, expression_syntax, full_return_syntax, block_syntax, label_syntax, if_syntax, declaration_syntax, array_syntax, index_syntax, variable_syntax, empty_syntax, for_in_syntax}
 use Rattle.machine.specs.Operators.{precedence, least_binary, assignment_operators, binary_operators_by, prefix_operators, prefix_kind, postfix_operators, postfix_kind, is_among}
-use Rattle.machine.specs.Scopes.{Scope, body, block, Items, callArguments, arrayElements, objectProperties}
+use Rattle.machine.specs.Scopes.{Scope, body, block, Items, call_arguments, array_elements, object_properties}
 
 -- behind the last token of a text stands its end
 abbrev pub end_of_text : ℕ
@@ -72,8 +72,8 @@ held_word mark = node 0 mark nil nil
 -- What a token does to the frame. A name that a statement starts with is a label or an operand; a statement that starts with a word waits for its
 -- parts, and so does a variable; a value that ends is that of such a statement, or an item of a list.
 pub data Effect : Type 0 where
-  keep takeName takeMember endExpression endValue endBare endEmpty endVariable endHead takeLabel takeElse holdWord : Effect
-  takeLeaf takeOperator takePrefix takePostfix startStatement : ℕ → Effect
+  keep take_name take_member end_expression end_value end_bare end_empty end_variable end_head take_label take_else hold_word : Effect
+  take_leaf take_operator take_prefix take_postfix start_statement : ℕ → Effect
 
 abbrev pub await : ℕ → ℕ → Frame → Frame
 await class mark (frame done starts waiting operand) = frame done starts (pending class mark operand ∷ waiting) nil
@@ -144,80 +144,80 @@ last_of (snoc before last) = last
 
 abbrev pub affect : Effect → ℕ → Frame → Frame
 affect keep mark f = f
-affect takeName mark (frame done starts waiting operand) = frame done starts waiting (node name mark nil nil)
-affect takeMember mark (frame done starts waiting operand) = frame done starts waiting (node member_syntax mark operand nil)
-affect endExpression mark (frame done starts waiting operand) = complete_expression mark (reduce 0 done starts waiting operand)
-affect endValue mark (frame done starts waiting operand) = complete_value (reduce 0 done starts waiting operand)
-affect endBare mark (frame done starts waiting operand) = complete_bare done starts
-affect endEmpty mark (frame done starts waiting operand) = complete_statement done starts (node empty_syntax mark nil nil)
-affect endVariable mark (frame done starts waiting operand) = complete_variable (reduce 0 done starts waiting operand)
-affect endHead mark (frame done starts waiting operand) = complete_head (reduce 0 done starts waiting operand)
-affect takeLabel mark (frame done starts waiting operand) = frame done (pending label_syntax (mark_of operand) nil ∷ starts) waiting nil
-affect takeElse mark (frame done starts waiting operand) = frame nil (pending else_word mark (last_of done) ∷ []) waiting nil
-affect holdWord mark (frame done starts waiting operand) = frame done starts waiting (held_word mark)
-affect (takeLeaf class) mark (frame done starts waiting operand) = frame done starts waiting (node class mark nil nil)
-affect (takeOperator class) mark (frame done starts waiting operand) = await class mark (reduce (threshold class) done starts waiting operand)
-affect (takePrefix kind) mark (frame done starts waiting operand) = frame done starts (pending kind mark nil ∷ waiting) nil
-affect (takePostfix kind) mark (frame done starts waiting operand) = postfixed kind mark (reduce new_precedence done starts waiting operand)
-affect (startStatement kind) mark (frame done starts waiting operand) = frame done (pending kind mark nil ∷ starts) waiting nil
+affect take_name mark (frame done starts waiting operand) = frame done starts waiting (node name mark nil nil)
+affect take_member mark (frame done starts waiting operand) = frame done starts waiting (node member_syntax mark operand nil)
+affect end_expression mark (frame done starts waiting operand) = complete_expression mark (reduce 0 done starts waiting operand)
+affect end_value mark (frame done starts waiting operand) = complete_value (reduce 0 done starts waiting operand)
+affect end_bare mark (frame done starts waiting operand) = complete_bare done starts
+affect end_empty mark (frame done starts waiting operand) = complete_statement done starts (node empty_syntax mark nil nil)
+affect end_variable mark (frame done starts waiting operand) = complete_variable (reduce 0 done starts waiting operand)
+affect end_head mark (frame done starts waiting operand) = complete_head (reduce 0 done starts waiting operand)
+affect take_label mark (frame done starts waiting operand) = frame done (pending label_syntax (mark_of operand) nil ∷ starts) waiting nil
+affect take_else mark (frame done starts waiting operand) = frame nil (pending else_word mark (last_of done) ∷ []) waiting nil
+affect hold_word mark (frame done starts waiting operand) = frame done starts waiting (held_word mark)
+affect (take_leaf class) mark (frame done starts waiting operand) = frame done starts waiting (node class mark nil nil)
+affect (take_operator class) mark (frame done starts waiting operand) = await class mark (reduce (threshold class) done starts waiting operand)
+affect (take_prefix kind) mark (frame done starts waiting operand) = frame done starts (pending kind mark nil ∷ waiting) nil
+affect (take_postfix kind) mark (frame done starts waiting operand) = postfixed kind mark (reduce new_precedence done starts waiting operand)
+affect (start_statement kind) mark (frame done starts waiting operand) = frame done (pending kind mark nil ∷ starts) waiting nil
 
 -- what a group or nest that closes does to the frame around it, with its mark and its value
 pub data Closing : Type 0 where
-  toParens toCall toObject toArray toIndex toBlock toCondition toHead toFor toForIn toTest toParameter toDeclaration toFunction toStatement toBody toTry : Closing
+  to_parens to_call to_object to_array to_index to_block to_condition to_head to_for to_for_in to_test to_parameter to_declaration to_function to_statement to_body to_try : Closing
 
 abbrev pub close : Closing → ℕ → Syntax → Frame → Frame
-close toParens mark value (frame done starts waiting operand) = frame done starts waiting (node parenthesised_syntax mark value nil)
-close toCall mark value (frame done starts waiting operand) = called mark value done starts waiting operand
-close toObject mark value (frame done starts waiting operand) = frame done starts waiting (node object_syntax mark value nil)
-close toArray mark value (frame done starts waiting operand) = frame done starts waiting (node array_syntax mark value nil)
-close toIndex mark value (frame done starts waiting operand) = frame done starts waiting (node index_syntax mark operand value)
-close toBlock mark value (frame done starts waiting operand) = complete_statement done starts (node block_syntax mark value nil)
-close toCondition mark value (frame done starts waiting operand) = frame done (pending if_syntax (mark_of operand) value ∷ starts) waiting nil
-close toHead mark value (frame done starts waiting operand) = frame done (headed value starts) waiting nil
-close toFor mark value (frame done starts waiting operand) = frame done (headed value starts) waiting nil
-close toForIn mark value (frame done starts waiting operand) = frame done (in_headed value starts) waiting nil
-close toTest mark value (frame done starts waiting operand) = frame done starts waiting value
-close toParameter mark value f = f
-close toDeclaration mark value (frame done starts waiting operand) = complete_statement done starts (node declaration_syntax (mark_of operand) value nil)
-close toFunction mark value (frame done starts waiting operand) = frame done starts waiting (node function_syntax (mark_of operand) value nil)
-close toStatement mark value (frame done starts waiting operand) = complete_statement done starts value
-close toBody mark value (frame done starts waiting operand) = frame done (pending do_word mark value ∷ starts) waiting nil
-close toTry mark value (frame done starts waiting operand) = complete_statement done starts (node try_word mark value nil)
+close to_parens mark value (frame done starts waiting operand) = frame done starts waiting (node parenthesised_syntax mark value nil)
+close to_call mark value (frame done starts waiting operand) = called mark value done starts waiting operand
+close to_object mark value (frame done starts waiting operand) = frame done starts waiting (node object_syntax mark value nil)
+close to_array mark value (frame done starts waiting operand) = frame done starts waiting (node array_syntax mark value nil)
+close to_index mark value (frame done starts waiting operand) = frame done starts waiting (node index_syntax mark operand value)
+close to_block mark value (frame done starts waiting operand) = complete_statement done starts (node block_syntax mark value nil)
+close to_condition mark value (frame done starts waiting operand) = frame done (pending if_syntax (mark_of operand) value ∷ starts) waiting nil
+close to_head mark value (frame done starts waiting operand) = frame done (headed value starts) waiting nil
+close to_for mark value (frame done starts waiting operand) = frame done (headed value starts) waiting nil
+close to_for_in mark value (frame done starts waiting operand) = frame done (in_headed value starts) waiting nil
+close to_test mark value (frame done starts waiting operand) = frame done starts waiting value
+close to_parameter mark value f = f
+close to_declaration mark value (frame done starts waiting operand) = complete_statement done starts (node declaration_syntax (mark_of operand) value nil)
+close to_function mark value (frame done starts waiting operand) = frame done starts waiting (node function_syntax (mark_of operand) value nil)
+close to_statement mark value (frame done starts waiting operand) = complete_statement done starts value
+close to_body mark value (frame done starts waiting operand) = frame done (pending do_word mark value ∷ starts) waiting nil
+close to_try mark value (frame done starts waiting operand) = complete_statement done starts (node try_word mark value nil)
 
 -- what a group does whose inside turned out to be the head of a `for` with `in`
 abbrev pub in_for : Closing → Closing
-in_for toParens = toParens
-in_for toCall = toCall
-in_for toObject = toObject
-in_for toArray = toArray
-in_for toIndex = toIndex
-in_for toBlock = toBlock
-in_for toCondition = toCondition
-in_for toHead = toHead
-in_for toFor = toForIn
-in_for toForIn = toForIn
-in_for toTest = toTest
-in_for toParameter = toParameter
-in_for toDeclaration = toDeclaration
-in_for toFunction = toFunction
-in_for toStatement = toStatement
-in_for toBody = toBody
-in_for toTry = toTry
+in_for to_parens = to_parens
+in_for to_call = to_call
+in_for to_object = to_object
+in_for to_array = to_array
+in_for to_index = to_index
+in_for to_block = to_block
+in_for to_condition = to_condition
+in_for to_head = to_head
+in_for to_for = to_for_in
+in_for to_for_in = to_for_in
+in_for to_test = to_test
+in_for to_parameter = to_parameter
+in_for to_declaration = to_declaration
+in_for to_function = to_function
+in_for to_statement = to_statement
+in_for to_body = to_body
+in_for to_try = to_try
 
 -- the value of a group or nest that closes: none; an expression; what is done, the last item of a list with it or not; a statement
 pub data Value : Type 0 where
-  noValue expressionValue doneValue listValue statementValue : Value
+  no_value expression_value done_value list_value statement_value : Value
 
 abbrev pub value_of : Value → Frame → Syntax
-value_of noValue f = nil
-value_of expressionValue (frame done starts waiting operand) = operand_of (reduce 0 done starts waiting operand)
-value_of doneValue f = done_of f
-value_of listValue (frame done starts waiting operand) = done_of (complete_value (reduce 0 done starts waiting operand))
-value_of statementValue f = last_of (done_of f)
+value_of no_value f = nil
+value_of expression_value (frame done starts waiting operand) = operand_of (reduce 0 done starts waiting operand)
+value_of done_value f = done_of f
+value_of list_value (frame done starts waiting operand) = done_of (complete_value (reduce 0 done starts waiting operand))
+value_of statement_value f = last_of (done_of f)
 
 -- a stretch of a level that holds one statement: from `if` to the end of it, the same from its `else` on, and that behind `do`; its frame holds that alone
 pub data Nest : Type 0 where
-  ifNest elseNest doNest : Nest
+  if_nest else_nest do_nest : Nest
 
 -- where a statement stands: among the statements of a scope, or of a clause of a `switch`, which are a nest; or alone in a nest
 pub data Setting : Type 0 where
@@ -232,17 +232,17 @@ pub data Variables : Type 0 where
 
 -- whether a chain may be assigned to, and if so, whether it may also be all that stands before the `in` of a `for`
 pub data Target : Type 0 where
-  noTarget someTarget loneTarget : Target
+  no_target some_target lone_target : Target
 
 -- what ends an expression: the `;` of an expression statement, or of a return or `throw`, in a setting; what ends a variable; in the head of a `for` its
 -- first `;`, its second, and the `)` behind its third part or behind what follows `in`; the `:` of a `case`, behind a `default` or not; `)`; `]`; the
 -- `:` of a conditional; or what ends an item of a list
 pub data Ending : Type 0 where
-  byStatement byReturn : Setting → Ending
+  by_statement by_return : Setting → Ending
   by_variable : Variables → Ending
-  byStart byTest by_step byObject : Ending
+  by_start by_test by_step by_object : Ending
   by_case : Bool → Ending
-  byParen byBracket byColon : Ending
+  by_paren by_bracket by_colon : Ending
   by_item : Items → Ending
 
 -- what a function is: a declaration, or an operand of an expression that may yet be assigned to or not
@@ -255,17 +255,17 @@ pub data Role : Type 0 where
 pub data Control : Type 0 where
   statement_due : Bool → Setting → Control
   statement_done : Nest → Control
-  nameFirst returnFirst throwFirst jumpFirst headFirst forFirst switchFirst switchPast bodyDone testFirst semicolonDue : Setting → Control
-  variableDue variableNamed : Variables → Control
-  startDue testDue stepDue defaultFirst : Control
+  name_first return_first throw_first jump_first head_first for_first switch_first switch_past body_done test_first semicolon_due : Setting → Control
+  variable_due variable_named : Variables → Control
+  start_due test_due step_due default_first : Control
   clause_due : Bool → Control
-  tryFirst tryDone catchFirst catchDue catchNamed catchPast catchDone finallyFirst tryEnded : Control
-  operandDue memberDue operandDone dotLast : Ending → Target → Control
+  try_first try_done catch_first catch_due catch_named catch_past catch_done finally_first try_ended : Control
+  operand_due member_due operand_done dot_last : Ending → Target → Control
   postfix_done : Ending → Control
-  functionFirst functionNamed parameterPast : Role → Control
+  function_first function_named parameter_past : Role → Control
   item_due : Items → Control
   parameter_due : Bool → Control
-  ifFirst propertyNamed parameterNamed finished : Control
+  if_first property_named parameter_named finished : Control
 
 -- behind a statement: another may come, or its nest is done
 abbrev pub behind_statement : Setting → Control
@@ -283,7 +283,7 @@ pub data Action : Type 0 where
   enter : Control → Effect → Effect → Control → Closing → Action
   pop leave : Value → Action
   ask : Ending → Action
-  turn popIn finish : Action
+  turn pop_in finish : Action
 
 -- an entry of a row: the action for a class, or for any that no entry before it names
 pub data Entry : Type 0 where
@@ -311,23 +311,23 @@ values = number ∷ string ∷ pattern ∷ this_word ∷ null_word ∷ true_word
 -- what an operand starts with, wherever one is due: behind `new` and at the beginning of a statement too
 abbrev pub primaries : Ending → Target → List Entry → List Entry
 primaries ending target rest =
-    for_each (λ class. goto (operandDone ending target) (takeLeaf class)) values
-    (on open_paren (push (operandDue byParen someTarget) (operandDone ending target) toParens)
-    ∷ on open_bracket (push (item_due arrayElements) (operandDone ending target) toArray)
-    ∷ on new_word (goto (memberDue ending target) (takePrefix new_word))
+    for_each (λ class. goto (operand_done ending target) (take_leaf class)) values
+    (on open_paren (push (operand_due by_paren some_target) (operand_done ending target) to_parens)
+    ∷ on open_bracket (push (item_due array_elements) (operand_done ending target) to_array)
+    ∷ on new_word (goto (member_due ending target) (take_prefix new_word))
     ∷ rest)
 
 -- the same, or an operator before an operand
 abbrev pub beginnings : Ending → Target → List Entry → List Entry
 beginnings ending target rest =
-    for_each (λ class. goto (operandDue ending noTarget) (takePrefix (prefix_kind class))) prefix_operators (primaries ending target rest)
+    for_each (λ class. goto (operand_due ending no_target) (take_prefix (prefix_kind class))) prefix_operators (primaries ending target rest)
 
 -- where no statement may start: names, objects and functions too
 abbrev pub operand_begins : Ending → Target → List Entry → List Entry
 operand_begins ending target rest =
-    on name (goto (operandDone ending target) (takeLeaf name))
-    ∷ on open_brace (push (item_due objectProperties) (operandDone ending target) toObject)
-    ∷ on function_word (goto (functionFirst (operand_in ending target)) holdWord)
+    on name (goto (operand_done ending target) (take_leaf name))
+    ∷ on open_brace (push (item_due object_properties) (operand_done ending target) to_object)
+    ∷ on function_word (goto (function_first (operand_in ending target)) hold_word)
     ∷ rest
 
 abbrev pub operand : Ending → Target → List Entry
@@ -340,30 +340,30 @@ member ending target = operand_begins ending target (primaries ending target [])
 abbrev pub no_statement : Bool → Setting → List Entry
 no_statement true setting = []
 no_statement false (among body) =
-    on function_word (goto (functionFirst declared) holdWord) ∷ on close_brace (pop doneValue) ∷ on end_of_text finish ∷ []
-no_statement false (among block) = on close_brace (pop doneValue) ∷ []
-no_statement false in_clause = on case_word (leave doneValue) ∷ on default_word (leave doneValue) ∷ on close_brace (leave doneValue) ∷ []
+    on function_word (goto (function_first declared) hold_word) ∷ on close_brace (pop done_value) ∷ on end_of_text finish ∷ []
+no_statement false (among block) = on close_brace (pop done_value) ∷ []
+no_statement false in_clause = on case_word (leave done_value) ∷ on default_word (leave done_value) ∷ on close_brace (leave done_value) ∷ []
 no_statement false (in_nest nest) = []
 
 -- the class of the closer of a list, and where the machine stands behind a `,` in it
 abbrev pub list_closer : Items → ℕ
-list_closer callArguments = close_paren
-list_closer arrayElements = close_bracket
-list_closer objectProperties = close_brace
+list_closer call_arguments = close_paren
+list_closer array_elements = close_bracket
+list_closer object_properties = close_brace
 
 abbrev pub behind_comma : Items → Control
-behind_comma callArguments = operandDue (by_item callArguments) someTarget
-behind_comma arrayElements = item_due arrayElements
-behind_comma objectProperties = item_due objectProperties
+behind_comma call_arguments = operand_due (by_item call_arguments) some_target
+behind_comma array_elements = item_due array_elements
+behind_comma object_properties = item_due object_properties
 
 -- the comma operator
 abbrev pub comma_action : Ending → Action
-comma_action ending = goto (operandDue ending someTarget) (takeOperator comma)
+comma_action ending = goto (operand_due ending some_target) (take_operator comma)
 
 -- behind the variables, and behind the `,` of one
 abbrev pub behind_variables : Variables → Control
 behind_variables (in_statement setting) = behind_statement setting
-behind_variables (in_head first) = testDue
+behind_variables (in_head first) = test_due
 
 abbrev pub later_variables : Variables → Variables
 later_variables (in_statement setting) = in_statement setting
@@ -371,7 +371,7 @@ later_variables (in_head first) = in_head false
 
 -- the `in` of a `for`, behind one variable, or a chain that is all there is
 abbrev pub in_entry : Bool → List Entry → List Entry
-in_entry true rest = on in_word (goto (operandDue byObject someTarget) endValue) ∷ rest
+in_entry true rest = on in_word (goto (operand_due by_object some_target) end_value) ∷ rest
 in_entry false rest = rest
 
 abbrev pub is_first : Variables → Bool
@@ -379,50 +379,50 @@ is_first (in_statement setting) = false
 is_first (in_head first) = first
 
 abbrev pub ending_row : Ending → List Entry
-ending_row (byStatement setting) = on semicolon (goto (behind_statement setting) endExpression) ∷ on comma (comma_action (byStatement setting)) ∷ []
-ending_row (byReturn setting) = on semicolon (goto (behind_statement setting) endValue) ∷ on comma (comma_action (byReturn setting)) ∷ []
+ending_row (by_statement setting) = on semicolon (goto (behind_statement setting) end_expression) ∷ on comma (comma_action (by_statement setting)) ∷ []
+ending_row (by_return setting) = on semicolon (goto (behind_statement setting) end_value) ∷ on comma (comma_action (by_return setting)) ∷ []
 ending_row (by_variable place) =
-    on semicolon (goto (behind_variables place) endValue) ∷ on comma (goto (variableDue (later_variables place)) endVariable) ∷ in_entry (is_first place) []
-ending_row byStart = on semicolon (goto testDue endValue) ∷ on comma (comma_action byStart) ∷ []
-ending_row byTest = on semicolon (goto stepDue endValue) ∷ on comma (comma_action byTest) ∷ []
-ending_row by_step = on close_paren (pop listValue) ∷ on comma (comma_action by_step) ∷ []
-ending_row byObject = on close_paren popIn ∷ on comma (comma_action byObject) ∷ []
+    on semicolon (goto (behind_variables place) end_value) ∷ on comma (goto (variable_due (later_variables place)) end_variable) ∷ in_entry (is_first place) []
+ending_row by_start = on semicolon (goto test_due end_value) ∷ on comma (comma_action by_start) ∷ []
+ending_row by_test = on semicolon (goto step_due end_value) ∷ on comma (comma_action by_test) ∷ []
+ending_row by_step = on close_paren (pop list_value) ∷ on comma (comma_action by_step) ∷ []
+ending_row by_object = on close_paren pop_in ∷ on comma (comma_action by_object) ∷ []
 ending_row (by_case seen) =
-    on colon (enter (statement_due false in_clause) keep endHead (clause_due seen) toStatement) ∷ on comma (comma_action (by_case seen)) ∷ []
-ending_row byParen = on close_paren (pop expressionValue) ∷ on comma (comma_action byParen) ∷ []
-ending_row byBracket = on close_bracket (pop expressionValue) ∷ on comma (comma_action byBracket) ∷ []
-ending_row byColon = on colon turn ∷ []
-ending_row (by_item items) = on comma (goto (behind_comma items) endValue) ∷ on (list_closer items) (pop listValue) ∷ []
+    on colon (enter (statement_due false in_clause) keep end_head (clause_due seen) to_statement) ∷ on comma (comma_action (by_case seen)) ∷ []
+ending_row by_paren = on close_paren (pop expression_value) ∷ on comma (comma_action by_paren) ∷ []
+ending_row by_bracket = on close_bracket (pop expression_value) ∷ on comma (comma_action by_bracket) ∷ []
+ending_row by_colon = on colon turn ∷ []
+ending_row (by_item items) = on comma (goto (behind_comma items) end_value) ∷ on (list_closer items) (pop list_value) ∷ []
 
 -- whether `in` is an operator
 abbrev pub allows_in : Ending → Bool
-allows_in (byStatement setting) = true
-allows_in (byReturn setting) = true
+allows_in (by_statement setting) = true
+allows_in (by_return setting) = true
 allows_in (by_variable (in_statement setting)) = true
 allows_in (by_variable (in_head first)) = false
-allows_in byStart = false
-allows_in byTest = true
+allows_in by_start = false
+allows_in by_test = true
 allows_in by_step = true
-allows_in byObject = true
+allows_in by_object = true
 allows_in (by_case seen) = true
-allows_in byParen = true
-allows_in byBracket = true
-allows_in byColon = true
+allows_in by_paren = true
+allows_in by_bracket = true
+allows_in by_colon = true
 allows_in (by_item items) = true
 
 -- what may follow a whole Unary: binary operators, `?`, and what ends the expression
 abbrev pub after_unary : Ending → List Entry
 after_unary ending =
-    for_each (λ class. goto (operandDue ending noTarget) (takeOperator class)) (binary_operators_by (allows_in ending)) (on question (ask ending) ∷ ending_row ending)
+    for_each (λ class. goto (operand_due ending no_target) (take_operator class)) (binary_operators_by (allows_in ending)) (on question (ask ending) ∷ ending_row ending)
 
 -- what a chain that may be assigned to takes besides
 abbrev pub is_target : Target → Bool
-is_target noTarget = false
-is_target someTarget = true
-is_target loneTarget = true
+is_target no_target = false
+is_target some_target = true
+is_target lone_target = true
 
 abbrev assignments : Ending → Bool → List Entry → List Entry
-assignments ending true rest = for_each (λ class. goto (operandDue ending someTarget) (takeOperator class)) assignment_operators rest
+assignments ending true rest = for_each (λ class. goto (operand_due ending some_target) (take_operator class)) assignment_operators rest
 assignments ending false rest = rest
 
 abbrev pub assignment_row : Ending → Target → List Entry → List Entry
@@ -430,55 +430,55 @@ assignment_row ending target rest = assignments ending (is_target target) rest
 
 -- whether a chain is all that stands before the `in` of a `for`
 abbrev is_start : Ending → Bool
-is_start (byStatement setting) = false
-is_start (byReturn setting) = false
+is_start (by_statement setting) = false
+is_start (by_return setting) = false
 is_start (by_variable place) = false
-is_start byStart = true
-is_start byTest = false
+is_start by_start = true
+is_start by_test = false
 is_start by_step = false
-is_start byObject = false
+is_start by_object = false
 is_start (by_case seen) = false
-is_start byParen = false
-is_start byBracket = false
-is_start byColon = false
+is_start by_paren = false
+is_start by_bracket = false
+is_start by_colon = false
 is_start (by_item items) = false
 
 abbrev pub takes_in : Ending → Target → Bool
-takes_in ending noTarget = false
-takes_in ending someTarget = false
-takes_in ending loneTarget = is_start ending
+takes_in ending no_target = false
+takes_in ending some_target = false
+takes_in ending lone_target = is_start ending
 
 -- `++` and `--` want no line end before them
 abbrev pub postfix_row : Ending → Bool → List Entry → List Entry
 postfix_row ending true rest = rest
-postfix_row ending false rest = for_each (λ class. goto (postfix_done ending) (takePostfix (postfix_kind class))) postfix_operators rest
+postfix_row ending false rest = for_each (λ class. goto (postfix_done ending) (take_postfix (postfix_kind class))) postfix_operators rest
 
 abbrev pub after_operand : Ending → Target → Bool → List Entry
 after_operand ending target newline =
-    on dot (goto (dotLast ending target) keep)
-    ∷ on open_paren (push (item_due callArguments) (operandDone ending target) toCall)
-    ∷ on open_bracket (push (operandDue byBracket someTarget) (operandDone ending target) toIndex)
+    on dot (goto (dot_last ending target) keep)
+    ∷ on open_paren (push (item_due call_arguments) (operand_done ending target) to_call)
+    ∷ on open_bracket (push (operand_due by_bracket some_target) (operand_done ending target) to_index)
     ∷ in_entry (takes_in ending target) (assignment_row ending target (postfix_row ending newline (after_unary ending)))
 
 abbrev pub after_parameter : Role → Entry
-after_parameter declared = on open_brace (push (statement_due false (among body)) (statement_due false (among body)) toDeclaration)
-after_parameter (operand_in ending target) = on open_brace (push (statement_due false (among body)) (operandDone ending target) toFunction)
+after_parameter declared = on open_brace (push (statement_due false (among body)) (statement_due false (among body)) to_declaration)
+after_parameter (operand_in ending target) = on open_brace (push (statement_due false (among body)) (operand_done ending target) to_function)
 
 -- a function in an expression needs no name
 abbrev pub unnamed : Role → List Entry
 unnamed declared = []
-unnamed (operand_in ending target) = on open_paren (push (parameter_due false) (parameterPast (operand_in ending target)) toParameter) ∷ []
+unnamed (operand_in ending target) = on open_paren (push (parameter_due false) (parameter_past (operand_in ending target)) to_parameter) ∷ []
 
 -- the items of a list: each takes an item's beginning, or the closer
 abbrev pub item_row : Items → List Entry
-item_row callArguments = on close_paren (pop doneValue) ∷ operand (by_item callArguments) someTarget
-item_row arrayElements = on comma (goto (item_due arrayElements) keep) ∷ on close_bracket (pop doneValue) ∷ operand (by_item arrayElements) someTarget
-item_row objectProperties = names (goto propertyNamed keep) (on close_brace (pop doneValue) ∷ [])
+item_row call_arguments = on close_paren (pop done_value) ∷ operand (by_item call_arguments) some_target
+item_row array_elements = on comma (goto (item_due array_elements) keep) ∷ on close_bracket (pop done_value) ∷ operand (by_item array_elements) some_target
+item_row object_properties = names (goto property_named keep) (on close_brace (pop done_value) ∷ [])
 
 -- what a place that needs no parameter takes besides
 abbrev pub no_parameter : Bool → List Entry
 no_parameter true = []
-no_parameter false = on close_paren (pop noValue) ∷ []
+no_parameter false = on close_paren (pop no_value) ∷ []
 
 abbrev pub unless_line : Bool → List Entry → List Entry
 unless_line true row = []
@@ -494,77 +494,77 @@ jump_words = continue_word ∷ break_word ∷ []
 -- the statements that start with a word, but for `if` and `return`, and the empty one
 abbrev pub word_row : Setting → List Entry → List Entry
 word_row setting rest =
-    on semicolon (goto (behind_statement setting) endEmpty)
-    ∷ on var_word (goto (variableDue (in_statement setting)) (startStatement var_word))
-    ∷ on do_word (enter (statement_due true (in_nest doNest)) keep keep (bodyDone setting) toBody)
-    ∷ on for_word (goto (forFirst setting) (startStatement for_word))
-    ∷ on switch_word (goto (switchFirst setting) (startStatement switch_word))
-    ∷ on throw_word (goto (throwFirst setting) (startStatement throw_word))
-    ∷ on try_word (enter tryFirst keep keep (behind_statement setting) toTry)
-    ∷ on debugger_word (goto (semicolonDue setting) (startStatement debugger_word))
-    ∷ for_each (λ class. goto (headFirst setting) (startStatement class)) head_words
-    (for_each (λ class. goto (jumpFirst setting) (startStatement class)) jump_words
+    on semicolon (goto (behind_statement setting) end_empty)
+    ∷ on var_word (goto (variable_due (in_statement setting)) (start_statement var_word))
+    ∷ on do_word (enter (statement_due true (in_nest do_nest)) keep keep (body_done setting) to_body)
+    ∷ on for_word (goto (for_first setting) (start_statement for_word))
+    ∷ on switch_word (goto (switch_first setting) (start_statement switch_word))
+    ∷ on throw_word (goto (throw_first setting) (start_statement throw_word))
+    ∷ on try_word (enter try_first keep keep (behind_statement setting) to_try)
+    ∷ on debugger_word (goto (semicolon_due setting) (start_statement debugger_word))
+    ∷ for_each (λ class. goto (head_first setting) (start_statement class)) head_words
+    (for_each (λ class. goto (jump_first setting) (start_statement class)) jump_words
     rest)
 
 -- at most one `default`
 abbrev pub default_row : Bool → List Entry
 default_row true = []
-default_row false = on default_word (goto defaultFirst (startStatement default_word)) ∷ []
+default_row false = on default_word (goto default_first (start_statement default_word)) ∷ []
 
 -- the table: the row of a control, by whether a line end lies before the token
 abbrev pub row : Control → Bool → List Entry
 row (statement_due must setting) newline =
-    on open_brace (push (statement_due false (among block)) (behind_statement setting) toBlock)
-    ∷ on if_word (enter ifFirst holdWord keep (behind_statement setting) toStatement)
-    ∷ on return_word (goto (returnFirst setting) (startStatement full_return_syntax))
-    ∷ on name (goto (nameFirst setting) takeName)
-    ∷ word_row setting (beginnings (byStatement setting) someTarget (no_statement must setting))
-row (statement_done ifNest) newline = on else_word (goto (statement_due true (in_nest elseNest)) takeElse) ∷ otherwise (leave statementValue) ∷ []
-row (statement_done elseNest) newline = otherwise (leave statementValue) ∷ []
-row (statement_done doNest) newline = otherwise (leave statementValue) ∷ []
-row (nameFirst setting) newline = on colon (goto (statement_due true setting) takeLabel) ∷ after_operand (byStatement setting) someTarget newline
-row (returnFirst setting) newline = on semicolon (goto (behind_statement setting) endBare) ∷ unless_line newline (operand (byReturn setting) someTarget)
-row (throwFirst setting) newline = unless_line newline (operand (byReturn setting) someTarget)
-row (jumpFirst setting) newline =
-    on semicolon (goto (behind_statement setting) endBare) ∷ unless_line newline (on name (goto (semicolonDue setting) keep) ∷ [])
-row (headFirst setting) newline = on open_paren (push (operandDue byParen someTarget) (statement_due true setting) toHead) ∷ []
-row (forFirst setting) newline = on open_paren (push startDue (statement_due true setting) toFor) ∷ []
-row startDue newline =
-    on semicolon (goto testDue endValue) ∷ on var_word (goto (variableDue (in_head true)) (startStatement var_word)) ∷ operand byStart loneTarget
-row testDue newline = on semicolon (goto stepDue endValue) ∷ operand byTest someTarget
-row stepDue newline = on close_paren (pop listValue) ∷ operand by_step someTarget
-row (switchFirst setting) newline = on open_paren (push (operandDue byParen someTarget) (switchPast setting) toHead) ∷ []
-row (switchPast setting) newline = on open_brace (push (clause_due false) (behind_statement setting) toStatement) ∷ []
+    on open_brace (push (statement_due false (among block)) (behind_statement setting) to_block)
+    ∷ on if_word (enter if_first hold_word keep (behind_statement setting) to_statement)
+    ∷ on return_word (goto (return_first setting) (start_statement full_return_syntax))
+    ∷ on name (goto (name_first setting) take_name)
+    ∷ word_row setting (beginnings (by_statement setting) some_target (no_statement must setting))
+row (statement_done if_nest) newline = on else_word (goto (statement_due true (in_nest else_nest)) take_else) ∷ otherwise (leave statement_value) ∷ []
+row (statement_done else_nest) newline = otherwise (leave statement_value) ∷ []
+row (statement_done do_nest) newline = otherwise (leave statement_value) ∷ []
+row (name_first setting) newline = on colon (goto (statement_due true setting) take_label) ∷ after_operand (by_statement setting) some_target newline
+row (return_first setting) newline = on semicolon (goto (behind_statement setting) end_bare) ∷ unless_line newline (operand (by_return setting) some_target)
+row (throw_first setting) newline = unless_line newline (operand (by_return setting) some_target)
+row (jump_first setting) newline =
+    on semicolon (goto (behind_statement setting) end_bare) ∷ unless_line newline (on name (goto (semicolon_due setting) keep) ∷ [])
+row (head_first setting) newline = on open_paren (push (operand_due by_paren some_target) (statement_due true setting) to_head) ∷ []
+row (for_first setting) newline = on open_paren (push start_due (statement_due true setting) to_for) ∷ []
+row start_due newline =
+    on semicolon (goto test_due end_value) ∷ on var_word (goto (variable_due (in_head true)) (start_statement var_word)) ∷ operand by_start lone_target
+row test_due newline = on semicolon (goto step_due end_value) ∷ operand by_test some_target
+row step_due newline = on close_paren (pop list_value) ∷ operand by_step some_target
+row (switch_first setting) newline = on open_paren (push (operand_due by_paren some_target) (switch_past setting) to_head) ∷ []
+row (switch_past setting) newline = on open_brace (push (clause_due false) (behind_statement setting) to_statement) ∷ []
 row (clause_due seen) newline =
-    on case_word (goto (operandDue (by_case seen) someTarget) (startStatement case_word)) ∷ on close_brace (pop doneValue) ∷ default_row seen
-row defaultFirst newline = on colon (enter (statement_due false in_clause) keep endHead (clause_due true) toStatement) ∷ []
-row tryFirst newline = on open_brace (push (statement_due false (among block)) tryDone toBlock) ∷ []
-row tryDone newline = on catch_word (goto catchFirst (startStatement catch_word)) ∷ on finally_word (goto finallyFirst (startStatement finally_word)) ∷ []
-row catchFirst newline = on open_paren (push catchDue catchPast toParameter) ∷ []
-row catchDue newline = on name (goto catchNamed keep) ∷ []
-row catchNamed newline = on close_paren (pop noValue) ∷ []
-row catchPast newline = on open_brace (push (statement_due false (among block)) catchDone toBlock) ∷ []
-row catchDone newline = on finally_word (goto finallyFirst (startStatement finally_word)) ∷ otherwise (leave doneValue) ∷ []
-row finallyFirst newline = on open_brace (push (statement_due false (among block)) tryEnded toBlock) ∷ []
-row tryEnded newline = otherwise (leave doneValue) ∷ []
-row (variableDue place) newline = on name (goto (variableNamed place) (startStatement variable_syntax)) ∷ []
-row (variableNamed place) newline = on assign (goto (operandDue (by_variable place) someTarget) keep) ∷ ending_row (by_variable place)
-row (bodyDone setting) newline = on while_word (goto (testFirst setting) keep) ∷ []
-row (testFirst setting) newline = on open_paren (push (operandDue byParen someTarget) (semicolonDue setting) toTest) ∷ []
-row (semicolonDue setting) newline = on semicolon (goto (behind_statement setting) endValue) ∷ []
-row ifFirst newline = on open_paren (push (operandDue byParen someTarget) (statement_due true (in_nest ifNest)) toCondition) ∷ []
-row (operandDue ending target) newline = operand ending target
-row (memberDue ending target) newline = member ending target
-row (operandDone ending target) newline = after_operand ending target newline
+    on case_word (goto (operand_due (by_case seen) some_target) (start_statement case_word)) ∷ on close_brace (pop done_value) ∷ default_row seen
+row default_first newline = on colon (enter (statement_due false in_clause) keep end_head (clause_due true) to_statement) ∷ []
+row try_first newline = on open_brace (push (statement_due false (among block)) try_done to_block) ∷ []
+row try_done newline = on catch_word (goto catch_first (start_statement catch_word)) ∷ on finally_word (goto finally_first (start_statement finally_word)) ∷ []
+row catch_first newline = on open_paren (push catch_due catch_past to_parameter) ∷ []
+row catch_due newline = on name (goto catch_named keep) ∷ []
+row catch_named newline = on close_paren (pop no_value) ∷ []
+row catch_past newline = on open_brace (push (statement_due false (among block)) catch_done to_block) ∷ []
+row catch_done newline = on finally_word (goto finally_first (start_statement finally_word)) ∷ otherwise (leave done_value) ∷ []
+row finally_first newline = on open_brace (push (statement_due false (among block)) try_ended to_block) ∷ []
+row try_ended newline = otherwise (leave done_value) ∷ []
+row (variable_due place) newline = on name (goto (variable_named place) (start_statement variable_syntax)) ∷ []
+row (variable_named place) newline = on assign (goto (operand_due (by_variable place) some_target) keep) ∷ ending_row (by_variable place)
+row (body_done setting) newline = on while_word (goto (test_first setting) keep) ∷ []
+row (test_first setting) newline = on open_paren (push (operand_due by_paren some_target) (semicolon_due setting) to_test) ∷ []
+row (semicolon_due setting) newline = on semicolon (goto (behind_statement setting) end_value) ∷ []
+row if_first newline = on open_paren (push (operand_due by_paren some_target) (statement_due true (in_nest if_nest)) to_condition) ∷ []
+row (operand_due ending target) newline = operand ending target
+row (member_due ending target) newline = member ending target
+row (operand_done ending target) newline = after_operand ending target newline
 row (postfix_done ending) newline = after_unary ending
-row (dotLast ending target) newline = names (goto (operandDone ending target) takeMember) []
-row (functionFirst role) newline = on name (goto (functionNamed role) keep) ∷ unnamed role
-row (functionNamed role) newline = on open_paren (push (parameter_due false) (parameterPast role) toParameter) ∷ []
-row (parameterPast role) newline = after_parameter role ∷ []
+row (dot_last ending target) newline = names (goto (operand_done ending target) take_member) []
+row (function_first role) newline = on name (goto (function_named role) keep) ∷ unnamed role
+row (function_named role) newline = on open_paren (push (parameter_due false) (parameter_past role) to_parameter) ∷ []
+row (parameter_past role) newline = after_parameter role ∷ []
 row (item_due items) newline = item_row items
-row propertyNamed newline = on colon (goto (operandDue (by_item objectProperties) someTarget) keep) ∷ []
-row (parameter_due must) newline = on name (goto parameterNamed keep) ∷ no_parameter must
-row parameterNamed newline = on comma (goto (parameter_due true) keep) ∷ on close_paren (pop noValue) ∷ []
+row property_named newline = on colon (goto (operand_due (by_item object_properties) some_target) keep) ∷ []
+row (parameter_due must) newline = on name (goto parameter_named keep) ∷ no_parameter must
+row parameter_named newline = on comma (goto (parameter_due true) keep) ∷ on close_paren (pop no_value) ∷ []
 row finished newline = []
 
 -- a group or a nest that is open: the control behind it, what it does when it closes, its mark, and the frame around it; or a `?` that is not
@@ -596,7 +596,7 @@ abbrev pub turn_to : ℕ → Syntax → List Open → State
 turn_to place value [] = dead place
 turn_to place value (grouped behind closing mark f ∷ around) = dead place
 turn_to place value (nested behind closing mark f ∷ around) = dead place
-turn_to place value (asking ending mark f ∷ around) = live (operandDue ending someTarget) (answered mark value f) around
+turn_to place value (asking ending mark f ∷ around) = live (operand_due ending some_target) (answered mark value f) around
 
 abbrev pub finish_in : ℕ → Frame → List Open → State
 finish_in place f [] = live finished f []
@@ -611,9 +611,9 @@ act_by out (enter inside effect outer behind closing) spot f around =
     live inside (affect effect spot.mark empty) (nested behind closing spot.mark (affect outer spot.mark f) ∷ around)
 act_by out (pop value) spot f around = pop_to spot.first (value_of value f) around
 act_by out (leave value) spot f around = out (value_of value f)
-act_by out (ask ending) spot f around = live (operandDue byColon someTarget) empty (asking ending spot.mark (reduced least_binary f) ∷ around)
-act_by out popIn spot f around = pop_to spot.first (value_of listValue f) (head_in around)
-act_by out turn spot f around = turn_to spot.first (value_of expressionValue f) around
+act_by out (ask ending) spot f around = live (operand_due by_colon some_target) empty (asking ending spot.mark (reduced least_binary f) ∷ around)
+act_by out pop_in spot f around = pop_to spot.first (value_of list_value f) (head_in around)
+act_by out turn spot f around = turn_to spot.first (value_of expression_value f) around
 act_by out finish spot f around = finish_in spot.first f around
 
 -- a nest is left with a value: the control behind it takes the token
@@ -640,17 +640,17 @@ start = live (statement_due false (among body)) empty []
 
 -- whether a `?` of its expression is open where the machine stands: the next `:` answers it
 abbrev is_asked : Ending → Bool
-is_asked (byStatement setting) = false
-is_asked (byReturn setting) = false
+is_asked (by_statement setting) = false
+is_asked (by_return setting) = false
 is_asked (by_variable place) = false
-is_asked byStart = false
-is_asked byTest = false
+is_asked by_start = false
+is_asked by_test = false
 is_asked by_step = false
-is_asked byObject = false
+is_asked by_object = false
 is_asked (by_case seen) = false
-is_asked byParen = false
-is_asked byBracket = false
-is_asked byColon = true
+is_asked by_paren = false
+is_asked by_bracket = false
+is_asked by_colon = true
 is_asked (by_item items) = false
 
 abbrev asked_in : Role → Bool
@@ -660,46 +660,46 @@ asked_in (operand_in ending target) = is_asked ending
 abbrev pub asks : Control → Bool
 asks (statement_due must setting) = false
 asks (statement_done nest) = false
-asks (nameFirst setting) = false
-asks (returnFirst setting) = false
-asks (throwFirst setting) = false
-asks (jumpFirst setting) = false
-asks (headFirst setting) = false
-asks (variableDue place) = false
-asks (variableNamed place) = false
-asks (forFirst setting) = false
-asks (switchFirst setting) = false
-asks (switchPast setting) = false
+asks (name_first setting) = false
+asks (return_first setting) = false
+asks (throw_first setting) = false
+asks (jump_first setting) = false
+asks (head_first setting) = false
+asks (variable_due place) = false
+asks (variable_named place) = false
+asks (for_first setting) = false
+asks (switch_first setting) = false
+asks (switch_past setting) = false
 asks (clause_due seen) = false
-asks startDue = false
-asks testDue = false
-asks stepDue = false
-asks defaultFirst = false
-asks tryFirst = false
-asks tryDone = false
-asks catchFirst = false
-asks catchDue = false
-asks catchNamed = false
-asks catchPast = false
-asks catchDone = false
-asks finallyFirst = false
-asks tryEnded = false
-asks (bodyDone setting) = false
-asks (testFirst setting) = false
-asks (semicolonDue setting) = false
-asks ifFirst = false
-asks (operandDue ending target) = is_asked ending
-asks (memberDue ending target) = is_asked ending
-asks (operandDone ending target) = is_asked ending
+asks start_due = false
+asks test_due = false
+asks step_due = false
+asks default_first = false
+asks try_first = false
+asks try_done = false
+asks catch_first = false
+asks catch_due = false
+asks catch_named = false
+asks catch_past = false
+asks catch_done = false
+asks finally_first = false
+asks try_ended = false
+asks (body_done setting) = false
+asks (test_first setting) = false
+asks (semicolon_due setting) = false
+asks if_first = false
+asks (operand_due ending target) = is_asked ending
+asks (member_due ending target) = is_asked ending
+asks (operand_done ending target) = is_asked ending
 asks (postfix_done ending) = is_asked ending
-asks (dotLast ending target) = is_asked ending
-asks (functionFirst role) = asked_in role
-asks (functionNamed role) = asked_in role
-asks (parameterPast role) = asked_in role
+asks (dot_last ending target) = is_asked ending
+asks (function_first role) = asked_in role
+asks (function_named role) = asked_in role
+asks (parameter_past role) = asked_in role
 asks (item_due items) = false
-asks propertyNamed = false
+asks property_named = false
 asks (parameter_due must) = false
-asks parameterNamed = false
+asks parameter_named = false
 asks finished = false
 
 abbrev pub asks_in : State → Bool

@@ -1,7 +1,7 @@
 -- `in_operator_row` is the machine's row behind a Unary, at `in`.
 use native.Mathlib.Omega.{arith}
 use Rattle.controls.specs.Machinery.Numbers.{ending_by, effect_by}
-use Rattle.controls.specs.Machinery.Steps.{ended_value, before_variable, to_operator, to_object, means_fail}
+use Rattle.controls.specs.Machinery.Steps.{ended_value, before_variable, to_operator, to-object, means_fail}
 use Rattle.operators.proofs.EndingLaws.{early_in, late_in, in_next, in_nowhere}
 use Rattle.operators.proofs.in_operator_row.Goals as goal
 
@@ -22,7 +22,7 @@ returns-then-ending-le-BY_VARIABLE c = λ from ended.
 pub returns-then-ending-eq-BY_FIRST_VARIABLE : goal.returns-then-ending-eq-BY_FIRST_VARIABLE
 unfolding ending_by effect_by
 returns-then-ending-eq-BY_FIRST_VARIABLE c = λ from ended.
-    rw c.if-ending-eq-BY_FIRST_VARIABLE.true (c.in_row.ensures _ _ tt (to_object (before_variable (ended_value (rw c.if-ending-eq-BY_FIRST_VARIABLE.true at ended)))))
+    rw c.if-ending-eq-BY_FIRST_VARIABLE.true (c.in_row.ensures _ _ tt (to-object (before_variable (ended_value (rw c.if-ending-eq-BY_FIRST_VARIABLE.true at ended)))))
 
 pub returns : goal.returns
 returns c = λ from ended.

@@ -1,6 +1,6 @@
 -- `due_row` is the machine's row where an expression is due, by the class.
 use mathlib.Core.Path.{sym, ◌∙◌}
-use Rattle.rows.proofs.DueLaws.{barred, operand_due}
+use Rattle.rows.proofs.DueLaws.{barred, operand-due}
 use Rattle.rows.proofs.due_row.Goals as goal
 
 pub returns-then-class-eq-SEMICOLON : goal.returns-then-class-eq-SEMICOLON
@@ -19,5 +19,5 @@ returns-then-bars_line c = λ ending flag due.
 pub returns : goal.returns
 returns c = λ ending flag due.
     let a = c.args in
-    operand_due ending a.setting flag a.newline c.if-class-eq-SEMICOLON.false c.if-class-eq-VAR.false a.place due (sym c.bars_line.ensures ∙ c.if-bars_line.false)
+    operand-due ending a.setting flag a.newline c.if-class-eq-SEMICOLON.false c.if-class-eq-VAR.false a.place due (sym c.bars_line.ensures ∙ c.if-bars_line.false)
     (rw c.due_ending.ensures at c.operand_row.ensures)

@@ -2,7 +2,7 @@
 use mathlib.Core.Path.{◌≡◌, refl}
 use Prim.Native.Nat.{ℕ}
 use Rattle.machine.specs.Tokens.{var_word}
-use Rattle.machine.specs.Machinery.Machine.{someTarget, byReturn, look, operand, row}
+use Rattle.machine.specs.Machinery.Machine.{some_target, by_return, look, operand, row}
 use Rattle.controls.specs.declared.Step.TheVariants.{Fail}
 use Rattle.controls.specs.Machinery.Numbers.{setting_by, variables_by, control_by, start_kind, effect_by}
 use Rattle.controls.specs.Machinery.Steps.{to_head_variable, Means, means_fail}
@@ -16,7 +16,7 @@ returns-then-place-eq-START_DUE c = λ ending setting flag newline due. rw c.if-
 pub returns : goal.returns
 unfolding control_by
 returns c = λ ending setting flag newline due.
-    let value = operand (byReturn (setting_by setting)) someTarget in
+    let value = operand (by_return (setting_by setting)) some_target in
     at_due
     (λ (k : ℕ). (k ≡ 9 → ⊥) → Means (control_by k ending setting flag) var_word Fail (look var_word (row (control_by k ending setting flag) newline)))
     (λ no_start. rw (on_no_line var_word newline value refl) means_fail)

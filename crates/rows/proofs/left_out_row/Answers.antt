@@ -3,7 +3,7 @@ use native.Mathlib.Omega.{arith}
 use mathlib.Core.Path.{◌≡◌, refl}
 use Prim.Native.Nat.{ℕ}
 use Rattle.machine.specs.Tokens.{semicolon}
-use Rattle.machine.specs.Machinery.Machine.{someTarget, byReturn, look, operand, row}
+use Rattle.machine.specs.Machinery.Machine.{some_target, by_return, look, operand, row}
 use Rattle.controls.specs.declared.Step.TheVariants.{Fail}
 use Rattle.controls.specs.Machinery.Numbers.{setting_by, control_by, effect_by}
 use Rattle.controls.specs.Machinery.Steps.{no_start, no_test, to_next_part, to_bare_end, Means, means_fail}
@@ -29,9 +29,9 @@ returns-in_default c = λ ending flag newline due.
     let setting = a.setting in
     at_due
     (λ (k : ℕ). (k ≡ 1 → ⊥) → (k ≡ 9 → ⊥) → (k ≡ 10 → ⊥) → Means (control_by k ending setting flag) semicolon Fail (look semicolon (row (control_by k ending setting flag) newline)))
-    (λ no_value no_start no_test. absurd (no_value refl))
-    (λ no_value no_start no_test. rw (on_no_line semicolon newline (operand (byReturn (setting_by setting)) someTarget) refl) means_fail)
-    (λ no_value no_start no_test. absurd (no_start refl))
-    (λ no_value no_start no_test. absurd (no_test refl))
-    (λ no_value no_start no_test. means_fail)
+    (λ no-value no_start no_test. absurd (no-value refl))
+    (λ no-value no_start no_test. rw (on_no_line semicolon newline (operand (by_return (setting_by setting)) some_target) refl) means_fail)
+    (λ no-value no_start no_test. absurd (no_start refl))
+    (λ no-value no_start no_test. absurd (no_test refl))
+    (λ no-value no_start no_test. means_fail)
     a.place due (omega arith) (omega arith) (omega arith)

@@ -7,7 +7,7 @@ use Prim.Native.Nat.{ℕ, ◌≤◌, ◌<◌}
 use native.Mathlib.Omega.{arith}
 use borrow.Author.Tests.{eqb-true, eqb-false, leb-true, le-leb, ltb-true, ltb-false}
 use lib.Dec.{eqb, leb, ltb}
-use Rattle.machine.specs.Machinery.Machine.{operandDue}
+use Rattle.machine.specs.Machinery.Machine.{operand_due}
 use Rattle.controls.specs.Machinery.Numbers.{setting_by, ending_by, target_by, must_by, control_by, control_of}
 use Rattle.controls.specs.Machinery.Steps.{due_operand, to_semicolon}
 use Rattle.controls.proofs.StepLaws.{at_place, in-clause}
@@ -54,7 +54,7 @@ pub returns-in-2 : goal.returns-in-2
 unfolding control_by
 returns-in-2 c = λ settled.
     let at = c.args.at in
-    rw (at_place at 2 c.in-2.is) (c.operand_row.ensures (operandDue (ending_by at.ending at.setting) (target_by at.ending at.flag)) due_operand tt)
+    rw (at_place at 2 c.in-2.is) (c.operand_row.ensures (operand_due (ending_by at.ending at.setting) (target_by at.ending at.flag)) due_operand tt)
 
 pub returns-in-6 : goal.returns-in-6
 unfolding control_by

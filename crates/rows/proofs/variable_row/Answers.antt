@@ -2,11 +2,11 @@
 use native.Mathlib.Omega.{arith}
 use borrow.Author.Tests.{ne_eqb}
 use Rattle.machine.specs.Tokens.{assign, semicolon, comma}
-use Rattle.machine.specs.Machinery.Machine.{someTarget, behind_variables, by_variable, operandDue, is_first}
+use Rattle.machine.specs.Machinery.Machine.{some_target, behind_variables, by_variable, operand_due, is_first}
 use mathlib.Core.List.{[]}
 use Rattle.controls.specs.Machinery.Numbers.{variables_by, control_by, effect_by}
-use Rattle.controls.specs.Machinery.Steps.{Goes, ended_bare, before_variable, to_initialiser, to_next_variable, to_variables_end, to_object, means_fail}
-use Rattle.operators.proofs.EndingLaws.{variable_ending, some_target, not_first, no_in_entry}
+use Rattle.controls.specs.Machinery.Steps.{Goes, ended_bare, before_variable, to_initialiser, to_next_variable, to_variables_end, to-object, means_fail}
+use Rattle.operators.proofs.EndingLaws.{variable_ending, some-target, not_first, no_in_entry}
 use Rattle.rows.proofs.variable_row.Goals as goal
 
 -- `variable_row` is the machine's row behind the name of a variable, entry by entry.
@@ -17,8 +17,8 @@ returns-then-class-eq-ASSIGN c =
     let a = c.args in
     let by = c.variable_ending.result in
     let v = c.variable_ending.ensures in
-    let next : Goes c.goto.result (operandDue (by_variable (variables_by a.ending a.setting)) someTarget) 0 =
-    rw (variable_ending by a.setting v.0 v.1, v.2 a.setting, some_target by (λ e. omega (arith, v.1))) at c.goto.ensures in
+    let next : Goes c.goto.result (operand_due (by_variable (variables_by a.ending a.setting)) some_target) 0 =
+    rw (variable_ending by a.setting v.0 v.1, v.2 a.setting, some-target by (λ e. omega (arith, v.1))) at c.goto.ensures in
     rw c.if-class-eq-ASSIGN.true (next _ _ tt to_initialiser)
 
 pub returns-then-class-eq-COMMA : goal.returns-then-class-eq-COMMA
@@ -48,4 +48,4 @@ returns c =
 
 pub returns-then-ending-eq-BY_FIRST_VARIABLE : goal.returns-then-ending-eq-BY_FIRST_VARIABLE
 unfolding variables_by effect_by
-returns-then-ending-eq-BY_FIRST_VARIABLE c = rw (c.if-ending-eq-BY_FIRST_VARIABLE.true, c.if-class-ne-IN.false) (c.in_row.ensures _ _ tt (to_object (before_variable ended_bare)))
+returns-then-ending-eq-BY_FIRST_VARIABLE c = rw (c.if-ending-eq-BY_FIRST_VARIABLE.true, c.if-class-ne-IN.false) (c.in_row.ensures _ _ tt (to-object (before_variable ended_bare)))

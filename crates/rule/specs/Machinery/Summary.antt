@@ -7,74 +7,74 @@ use Rattle.rule.specs.Levels.{Levels, is_expression, kind_of, trees_of}
 -- what stands last. A head, as in `if ( )`, is told from other `( )`, `:` and `;` from other signs, and the trees of a function from other trees, with whether a brace in
 -- place of `function` would open an object
 pub data Summary : Type 0 where
-  nothing operand afterOperator afterSeparator afterDot afterComma afterOther afterReturn afterHeadWord after_head after_block : Summary
-  afterFunction afterFunctionName afterFunctionParens : Bool → Summary
+  nothing operand after_operator after_separator after_dot after_comma after_other after_return after_head_word after_head after_block : Summary
+  after_function after_function_name after_function_parens : Bool → Summary
 
 -- its answers: what a brace opens, and what a slash does
 abbrev pub brace_by : Bool → Summary → Bool → Bool
 brace_by expression nothing newline = expression
 brace_by expression operand newline = false
-brace_by expression afterOperator newline = true
-brace_by expression afterSeparator newline = expression
-brace_by expression afterDot newline = false
-brace_by expression afterComma newline = true
-brace_by expression afterOther newline = false
-brace_by expression afterReturn newline = not newline
-brace_by expression afterHeadWord newline = false
+brace_by expression after_operator newline = true
+brace_by expression after_separator newline = expression
+brace_by expression after_dot newline = false
+brace_by expression after_comma newline = true
+brace_by expression after_other newline = false
+brace_by expression after_return newline = not newline
+brace_by expression after_head_word newline = false
 brace_by expression after_head newline = false
 brace_by expression after_block newline = false
-brace_by expression (afterFunction inObject) newline = false
-brace_by expression (afterFunctionName inObject) newline = false
-brace_by expression (afterFunctionParens inObject) newline = false
+brace_by expression (after_function inObject) newline = false
+brace_by expression (after_function_name inObject) newline = false
+brace_by expression (after_function_parens inObject) newline = false
 
 abbrev pub slash_by : Summary → Bool
 slash_by nothing = true
 slash_by operand = false
-slash_by afterOperator = true
-slash_by afterSeparator = true
-slash_by afterDot = true
-slash_by afterComma = true
-slash_by afterOther = true
-slash_by afterReturn = true
-slash_by afterHeadWord = true
+slash_by after_operator = true
+slash_by after_separator = true
+slash_by after_dot = true
+slash_by after_comma = true
+slash_by after_other = true
+slash_by after_return = true
+slash_by after_head_word = true
 slash_by after_head = true
 slash_by after_block = true
-slash_by (afterFunction inObject) = true
-slash_by (afterFunctionName inObject) = false
-slash_by (afterFunctionParens inObject) = false
+slash_by (after_function inObject) = true
+slash_by (after_function_name inObject) = false
+slash_by (after_function_parens inObject) = false
 
 -- after a name, after `( )` and after a block
 abbrev pub add_name : Summary → Summary
 add_name nothing = operand
 add_name operand = operand
-add_name afterOperator = operand
-add_name afterSeparator = operand
-add_name afterDot = operand
-add_name afterComma = operand
-add_name afterOther = operand
-add_name afterReturn = operand
-add_name afterHeadWord = operand
+add_name after_operator = operand
+add_name after_separator = operand
+add_name after_dot = operand
+add_name after_comma = operand
+add_name after_other = operand
+add_name after_return = operand
+add_name after_head_word = operand
 add_name after_head = operand
 add_name after_block = operand
-add_name (afterFunction inObject) = afterFunctionName inObject
-add_name (afterFunctionName inObject) = operand
-add_name (afterFunctionParens inObject) = operand
+add_name (after_function inObject) = after_function_name inObject
+add_name (after_function_name inObject) = operand
+add_name (after_function_parens inObject) = operand
 
 abbrev pub add_parens : Summary → Summary
 add_parens nothing = operand
 add_parens operand = operand
-add_parens afterOperator = operand
-add_parens afterSeparator = operand
-add_parens afterDot = operand
-add_parens afterComma = operand
-add_parens afterOther = operand
-add_parens afterReturn = operand
-add_parens afterHeadWord = after_head
+add_parens after_operator = operand
+add_parens after_separator = operand
+add_parens after_dot = operand
+add_parens after_comma = operand
+add_parens after_other = operand
+add_parens after_return = operand
+add_parens after_head_word = after_head
 add_parens after_head = operand
 add_parens after_block = operand
-add_parens (afterFunction inObject) = afterFunctionParens inObject
-add_parens (afterFunctionName inObject) = afterFunctionParens inObject
-add_parens (afterFunctionParens inObject) = operand
+add_parens (after_function inObject) = after_function_parens inObject
+add_parens (after_function_name inObject) = after_function_parens inObject
+add_parens (after_function_parens inObject) = operand
 
 -- a function in an operand's place is an operand
 abbrev pub function_block : Bool → Summary
@@ -84,34 +84,34 @@ function_block false = after_block
 abbrev pub add_block : Summary → Summary
 add_block nothing = after_block
 add_block operand = after_block
-add_block afterOperator = after_block
-add_block afterSeparator = after_block
-add_block afterDot = after_block
-add_block afterComma = after_block
-add_block afterOther = after_block
-add_block afterReturn = after_block
-add_block afterHeadWord = after_block
+add_block after_operator = after_block
+add_block after_separator = after_block
+add_block after_dot = after_block
+add_block after_comma = after_block
+add_block after_other = after_block
+add_block after_return = after_block
+add_block after_head_word = after_block
 add_block after_head = after_block
 add_block after_block = after_block
-add_block (afterFunction inObject) = after_block
-add_block (afterFunctionName inObject) = after_block
-add_block (afterFunctionParens inObject) = function_block inObject
+add_block (after_function inObject) = after_block
+add_block (after_function_name inObject) = after_block
+add_block (after_function_parens inObject) = function_block inObject
 
 -- after a tree of a class, before which a line end lies or not
 abbrev pub add : Bool → Summary → Class → Bool → Summary
 add expression s name newline = add_name s
 add expression s value newline = operand
-add expression s operator newline = afterOperator
-add expression s question newline = afterOperator
-add expression s answer newline = afterOperator
-add expression s colon newline = afterSeparator
-add expression s dot newline = afterDot
-add expression s comma newline = afterComma
-add expression s semicolon newline = afterSeparator
-add expression s other newline = afterOther
-add expression s return_word newline = afterReturn
-add expression s function_word newline = afterFunction (brace_by expression s newline)
-add expression s head_word newline = afterHeadWord
+add expression s operator newline = after_operator
+add expression s question newline = after_operator
+add expression s answer newline = after_operator
+add expression s colon newline = after_separator
+add expression s dot newline = after_dot
+add expression s comma newline = after_comma
+add expression s semicolon newline = after_separator
+add expression s other newline = after_other
+add expression s return_word newline = after_return
+add expression s function_word newline = after_function (brace_by expression s newline)
+add expression s head_word newline = after_head_word
 add expression s parens newline = add_parens s
 add expression s brackets newline = operand
 add expression s object newline = operand
@@ -125,36 +125,36 @@ summary expression (tree class newline ∷ before) = add expression (summary exp
 abbrev pub name_by : Bool → Summary → Bool
 name_by inBrace nothing = inBrace
 name_by inBrace operand = false
-name_by inBrace afterOperator = false
-name_by inBrace afterSeparator = false
-name_by inBrace afterDot = true
-name_by inBrace afterComma = inBrace
-name_by inBrace afterOther = false
-name_by inBrace afterReturn = false
-name_by inBrace afterHeadWord = false
+name_by inBrace after_operator = false
+name_by inBrace after_separator = false
+name_by inBrace after_dot = true
+name_by inBrace after_comma = inBrace
+name_by inBrace after_other = false
+name_by inBrace after_return = false
+name_by inBrace after_head_word = false
 name_by inBrace after_head = false
 name_by inBrace after_block = false
-name_by inBrace (afterFunction inObject) = false
-name_by inBrace (afterFunctionName inObject) = false
-name_by inBrace (afterFunctionParens inObject) = false
+name_by inBrace (after_function inObject) = false
+name_by inBrace (after_function_name inObject) = false
+name_by inBrace (after_function_parens inObject) = false
 
 -- The number of a summary, in an object brace or not. Where a property is due, first or behind `,`, one number says all; elsewhere `,` is like an
 -- operator. So one comparison tells whether a reserved word is a name.
 abbrev pub code : Bool → Summary → ℕ
 code inBrace operand = 0
-code inBrace (afterFunctionName inObject) = cond inObject 2 1
-code inBrace (afterFunctionParens inObject) = cond inObject 4 3
-code inBrace (afterFunction inObject) = cond inObject 6 5
+code inBrace (after_function_name inObject) = cond inObject 2 1
+code inBrace (after_function_parens inObject) = cond inObject 4 3
+code inBrace (after_function inObject) = cond inObject 6 5
 code inBrace nothing = cond inBrace 16 7
-code inBrace afterOperator = 8
-code inBrace afterComma = cond inBrace 16 8
-code inBrace afterSeparator = 9
-code inBrace afterOther = 10
-code inBrace afterReturn = 11
-code inBrace afterHeadWord = 12
+code inBrace after_operator = 8
+code inBrace after_comma = cond inBrace 16 8
+code inBrace after_separator = 9
+code inBrace after_other = 10
+code inBrace after_return = 11
+code inBrace after_head_word = 12
 code inBrace after_head = 13
 code inBrace after_block = 14
-code inBrace afterDot = 15
+code inBrace after_dot = 15
 
 -- room for summaries in the code of a level
 abbrev pub summaries : ℕ

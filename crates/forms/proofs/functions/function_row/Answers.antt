@@ -4,9 +4,9 @@ use mathlib.Core.Path.{◌≡◌, refl}
 use mathlib.Core.Bool.{true}
 use mathlib.Core.List.{[], ◌∷◌}
 use Rattle.machine.specs.Tokens.{name, comma}
-use Rattle.machine.specs.Machinery.Machine.{keep, parameter_due, parameterNamed, fail, goto, on, look}
+use Rattle.machine.specs.Machinery.Machine.{keep, parameter_due, parameter_named, fail, goto, on, look}
 use Rattle.controls.specs.Machinery.Numbers.{control_by, effect_by, closing_by, inside_by}
-use Rattle.controls.specs.Machinery.Steps.{to_parameter, to_next_parameter, past_parameter, past_function}
+use Rattle.controls.specs.Machinery.Steps.{to-parameter, to_next_parameter, past_parameter, past_function}
 use Rattle.controls.proofs.EndLaws.{at_closers, besides_closers}
 use Rattle.forms.proofs.FormLaws.{parameter_closers}
 use Rattle.forms.proofs.functions.function_row.Goals as goal
@@ -16,8 +16,8 @@ unfolding control_by effect_by
 returns-in-33 c = λ h past newline.
     let a = c.args in
     rw c.in-33.is
-    (besides_closers (c.only.ensures _ tt to_parameter)
-    (at_closers (λ (k : ℕ). look k (on name (goto parameterNamed keep) ∷ []) ≡ fail) refl refl refl refl a.class)
+    (besides_closers (c.only.ensures _ tt to-parameter)
+    (at_closers (λ (k : ℕ). look k (on name (goto parameter_named keep) ∷ []) ≡ fail) refl refl refl refl a.class)
     (λ none. rw (parameter_closers a.flag none)))
 
 pub returns-in-34 : goal.returns-in-34

@@ -2,7 +2,7 @@
 use mathlib.Core.Path.{◌≡◌}
 use native.Mathlib.Omega.{arith}
 use Rattle.controls.specs.Machinery.Numbers.{must_by, start_kind, control_by, effect_by, closing_by, inside_by}
-use Rattle.controls.specs.Machinery.Steps.{to_variable, to_test, past_head, past_test, past_for, past_subject}
+use Rattle.controls.specs.Machinery.Steps.{to_variable, to-test, past_head, past_test, past_for, past_subject}
 use Rattle.forms.proofs.statements.word_form_row.Goals as goal
 
 pub returns-in-17 : goal.returns-in-17
@@ -15,7 +15,7 @@ returns-in-18 c = λ low high flag newline. rw c.in-18.is (c.only.ensures _ tt t
 
 pub returns-in-19 : goal.returns-in-19
 unfolding control_by effect_by
-returns-in-19 c = λ low high flag newline. rw c.in-19.is (c.only-in-19.ensures _ tt to_test)
+returns-in-19 c = λ low high flag newline. rw c.in-19.is (c.only-in-19.ensures _ tt to-test)
 
 pub returns-in-20 : goal.returns-in-20
 unfolding control_by closing_by inside_by

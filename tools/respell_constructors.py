@@ -1,0 +1,74 @@
+#!/usr/bin/env python3
+"""Spells in snake case the constructors that share a signature, which respell.py does not see.
+
+usage: respell_constructors.py [ROOT]    turns crates/ below ROOT, with the must-fail edits and the pages' code spans, in place
+
+A lemma or another constructor that has the new spelling already gets dashes, so that the two stay apart.
+"""
+
+import os
+import re
+import sys
+
+WORD = re.compile(r'[^\s(){}.;,@"«»]+')
+UNDOTTED = re.compile(r'(?<![^\s(){},;@"«»])[^\s(){}.;,@"«»]+')
+SEVERAL = re.compile(r"^ *((?:[^\s(){}.;,@\"«»:]+ )+): ")
+SPAN = re.compile(r"\x60[^\x60\n]*\x60")
+
+
+def files(root):
+    for folder, folders, names in os.walk(root):
+        folders[:] = sorted(f for f in folders if f not in ("out", "target", ".git"))
+        for name in sorted(names):
+            if name.endswith((".antt", ".rt", ".edit", ".md")):
+                yield os.path.join(folder, name)
+
+
+def snake(name):
+    return re.sub(r"(?<=[a-z0-9])[A-Z]", lambda m: "_" + m[0].lower(), name)
+
+
+def main(argv):
+    root = argv[1] if len(argv) > 1 else "."
+    texts = {}
+    for path in files(root):
+        with open(path, encoding="utf-8") as f:
+            texts[path] = f.read()
+    table = {}
+    for path, text in texts.items():
+        if path.endswith(".antt"):
+            for line in text.split("\n"):
+                m = SEVERAL.match(line)
+                if m and not line.lstrip().startswith("--"):
+                    for name in m[1].split():
+                        if re.match(r"[a-z][a-z0-9]*[A-Z]", name):
+                            table[name] = snake(name)
+    taken = set()
+    for path, text in texts.items():
+        if path.endswith(".antt"):
+            taken |= set(UNDOTTED.findall(re.sub(r"--[^\n]*", "", text)))
+    again = {new: new.replace("_", "-") for new in table.values() if new in taken}
+
+    def turned(path, text):
+        # A Rust function, and a step that goes by its name, may have the name of a lemma: that stays.
+        if not path.endswith(".rt") and "file: src/" not in text:
+            text = UNDOTTED.sub(lambda m: again.get(m[0], m[0]), text)
+        return WORD.sub(lambda m: table.get(m[0], m[0]), text)
+
+    for path, text in texts.items():
+        if path.endswith(".md"):
+            new = SPAN.sub(lambda s: "`" + turned(path, s[0][1:-1]) + "`", text)
+        else:
+            new = turned(path, text)
+        if new != text:
+            with open(path, "w", encoding="utf-8") as f:
+                f.write(new)
+    for old in sorted(table):
+        print(f"renamed: {old} {table[old]}")
+    for old in sorted(again):
+        print(f"again: {old} {again[old]}")
+    return 0
+
+
+if __name__ == "__main__":
+    raise SystemExit(main(sys.argv))
