@@ -1,5 +1,5 @@
-//! Elements, as document 01 states them, with the numbers and signs of document 02, U4: blanks and comments, then the element that stands there under a
-//! slash choice. A reserved word is cut as a word; what it is in its place (document 02, U1 and U2) is asked afterwards.
+//! Elements, with the numbers of ES5.1 section 7.8.3 and the signs of 7.7: blanks and comments, then the element that stands there under a
+//! slash choice. A reserved word is cut as a word; what it is in its place is asked afterwards.
 
 /// A refusal: number and place.
 pub type Fault = (u32, usize);

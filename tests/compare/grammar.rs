@@ -1,4 +1,4 @@
-//! The grammar as rules: document 01's, with the lists of document 02, U2, and the expressions of ES5.1 chapter 11 (U4) and statements of its chapter 12 (U6) as those
+//! The grammar as rules: the expressions of ES5.1 chapter 11 and the statements of its chapter 12 that README has, as those
 //! write them; and a recogniser that keeps every way in which the elements so far can be the beginning of a program (Earley's). So `first element with which the elements so far begin no program` is
 //! found by its definition.
 

@@ -1,4 +1,4 @@
-//! Compares the static library's calls, and the yardstick's, with an implementation of the documents of its own, cell by cell, over many
+//! Compares the static library's calls, and the yardstick's, with an implementation of its own of the elements, the prefix rule and the grammar, cell by cell, over many
 //! texts.
 
 mod elements;
@@ -417,7 +417,7 @@ impl Comparison {
         }
     }
 
-    /// The implementation here against the readings that document 01 gives, and document 02 for U1, U4 and U6.
+    /// The implementation here against readings whose answers are known.
     fn readings(&mut self) {
         type Case = (&'static str, Answer, Answer);
         let cases: &[Case] = &[
@@ -519,7 +519,7 @@ impl Comparison {
                 Err(fault) => Err(*fault),
             };
             if read.map(|reading| reading.trees.len()) != trees || parsed != records {
-                self.difference(text, "the comparison's own: a reading of the documents");
+                self.difference(text, "the comparison's own: a reading whose answer is known");
             }
             self.text(text, true);
         }

@@ -1,4 +1,4 @@
-//! Reading and respacing, as document 01 states them: the prefix rule, tree records, refusals 1 to 12 and 15. With document 02, U1, U2, U4 and U6.
+//! Reading and respacing: the prefix rule, tree records, refusals 1 to 12 and 15.
 
 use crate::elements::{element, gap, is_taken, Class, Element, Fault, VALUE_WORDS, WORD_OPERATORS};
 
