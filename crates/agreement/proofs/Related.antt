@@ -131,7 +131,7 @@ ending_kinds (by_item items) = item_kinds items
 
 abbrev role_kinds : Role → List ℕ
 role_kinds declared = statement_kinds
-role_kinds (operand_in ending target) = ending_kinds ending
+role_kinds (operand_in ending _) = ending_kinds ending
 
 abbrev pub kinds : Control → List ℕ
 kinds (statement_due must setting) = statement_kinds
@@ -164,11 +164,11 @@ kinds (body_done setting) = statement_kinds
 kinds (test_first setting) = statement_kinds
 kinds (semicolon_due setting) = statement_kinds
 kinds if_first = statement_kinds
-kinds (operand_due ending target) = ending_kinds ending
-kinds (member_due ending target) = ending_kinds ending
-kinds (operand_done ending target) = ending_kinds ending
+kinds (operand_due ending _) = ending_kinds ending
+kinds (member_due ending _) = ending_kinds ending
+kinds (operand_done ending _) = ending_kinds ending
 kinds (postfix_done ending) = ending_kinds ending
-kinds (dot_last ending target) = ending_kinds ending
+kinds (dot_last ending _) = ending_kinds ending
 kinds (function_first role) = role_kinds role
 kinds (function_named role) = role_kinds role
 kinds (parameter_past role) = role_kinds role
@@ -203,7 +203,7 @@ item_behind object_properties = nothing ∷ after_comma ∷ []
 -- whether a function is an operand
 abbrev is_operand : Role → Bool
 is_operand declared = false
-is_operand (operand_in ending target) = true
+is_operand (operand_in ending _) = true
 
 -- a statement has come before in a clause, or its `:`
 abbrev may_start : Setting → List Summary
@@ -243,11 +243,11 @@ summaries (body_done setting) = after_separator ∷ after_block ∷ []
 summaries (test_first setting) = after_head_word ∷ []
 summaries (semicolon_due setting) = operand ∷ after_other ∷ after_head ∷ []
 summaries if_first = after_head_word ∷ []
-summaries (operand_due ending target) = due_behind ending
-summaries (member_due ending target) = after_operator ∷ []
-summaries (operand_done ending target) = operand ∷ []
+summaries (operand_due ending _) = due_behind ending
+summaries (member_due ending _) = after_operator ∷ []
+summaries (operand_done ending _) = operand ∷ []
 summaries (postfix_done ending) = operand ∷ []
-summaries (dot_last ending target) = after_dot ∷ []
+summaries (dot_last ending _) = after_dot ∷ []
 summaries (function_first role) = after_function (is_operand role) ∷ []
 summaries (function_named role) = after_function_name (is_operand role) ∷ []
 summaries (parameter_past role) = after_function_parens (is_operand role) ∷ []

@@ -29,9 +29,9 @@ stops_more up (stops_at {kind = kind} less) = stops_at {kind = kind} (omega arit
 
 pub below_stops : {done base : Syntax} {nests : List machine.Open} {tail : List Pending} → Below done nests base tail → Stops 1 tail
 below_stops below_none = stops_none
-below_stops (below_nest {nest = nest} {setting = setting} one few beginnings within below) =
+below_stops (below_nest {nest = nest} {setting = setting} one few _ within below) =
     stops_at {kind = nest_in nest setting} (omega (arith, binding_nest (nest_in nest setting) (omega arith)))
-below_stops (below_asked {kind = kind} many operators beginnings within below) = stops_at {kind = kind} (omega (arith, binding_nest kind (omega (arith, many.0))))
+below_stops (below_asked {kind = kind} many _ _ within below) = stops_at {kind = kind} (omega (arith, binding_nest kind (omega (arith, many.0))))
 
 pub starts_stop : {starts tail : List Pending} → Beginnings starts → Stops 1 tail → Stops 2 (starts ++ tail)
 starts_stop no_beginnings stops = stops_more (omega arith) stops

@@ -177,8 +177,8 @@ module _ {classes : List ℕ} {past : Bool} where
 
 chain_begins : {calls : Bool} {before after : List Token} {value : Syntax} → Chain calls before after value → Begins target_starts (no_colon after) before
 chain_begins (chain_leaf leaf) = by_class (at_leaf (is_among target_starts) tt leaf) λ named next. next
-chain_begins (chain_array values) = begins_by tt tt
-chain_begins (chain_object values) = begins_by tt tt
+chain_begins (chain_array _) = begins_by tt tt
+chain_begins (chain_object _) = begins_by tt tt
 chain_begins (chain_parens value) = begins_by tt tt
 chain_begins (chain_function function) = begins_by tt tt
 chain_begins (chain_unnamed function) = begins_by tt tt
@@ -282,14 +282,14 @@ member_or_operand ending target class h =
 -- leaves are looked up where an operand is due
 pub look_leaf : {class : ℕ} (ending : Ending) (target : Target) → Leaf class
     → look class (operand ending target) ≡ goto (operand_done ending target) (take_leaf class)
-look_leaf ending target leaf_name = refl
-look_leaf ending target leaf_number = refl
-look_leaf ending target leaf_string = refl
-look_leaf ending target leaf_pattern = refl
-look_leaf ending target leaf_this = refl
-look_leaf ending target leaf_null = refl
-look_leaf ending target leaf_true = refl
-look_leaf ending target leaf_false = refl
+look_leaf ending _ leaf_name = refl
+look_leaf ending _ leaf_number = refl
+look_leaf ending _ leaf_string = refl
+look_leaf ending _ leaf_pattern = refl
+look_leaf ending _ leaf_this = refl
+look_leaf ending _ leaf_null = refl
+look_leaf ending _ leaf_true = refl
+look_leaf ending _ leaf_false = refl
 
 -- operators before an operand are looked up behind names, objects and functions
 pub look_prefix : (ending : Ending) (target : Target) (class : ℕ) → T (is_among prefix_operators class)

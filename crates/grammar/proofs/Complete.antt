@@ -182,7 +182,7 @@ behind_function (operand_in ending target) = operand_done ending target
 
 abbrev with_function : Role → Syntax → Syntax → List Pending → List Pending → Syntax → Frame
 with_function declared inside done starts waiting word = complete_statement done starts (node declaration_syntax (mark_of word) inside nil)
-with_function (operand_in ending target) inside done starts waiting word = frame done starts waiting (node function_syntax (mark_of word) inside nil)
+with_function (operand_in ending _) inside done starts waiting word = frame done starts waiting (node function_syntax (mark_of word) inside nil)
 
 leaf_taken : {class : ℕ} (stop spot : Spot) (after : List Token) (ending : Ending) (target : Target) (done : Syntax) (starts waiting : List Pending)
     (operand : Syntax) (around : List Open) → Leaf class
@@ -329,7 +329,7 @@ part_comma step_part = tt
 unnamed_taken : {before after : List Token} {value : Syntax} (stop : Spot) (ending : Ending) (target : Target) (f : Frame) (around : List Open)
     → Function before after value
     → ran stop (live (function_first (operand_in ending target)) f around) before ≡ ran stop (live (function_named (operand_in ending target)) f around) before
-unnamed_taken stop ending target f around (function_all parameters statements) = refl
+unnamed_taken stop ending _ f around (function_all _ _) = refl
 
 names_taken : {before after : List Token} (stop : Spot) (around : List Open) → Names before after
     → ran stop (live (parameter_due false) empty around) before ≡ ran stop (live parameter_named empty around) after
@@ -527,7 +527,7 @@ taken stop (function_all {opener = opener} {openBody = openBody} {inside = insid
     parameters_taken stop (parameter_past role) opener.mark (frame done starts waiting word) around parameters
     ∙ elim role as (λ (z : Role). ran stop (live (parameter_past z) (frame done starts waiting word) around) (token open_brace openBody ∷ inside)
     ≡ ran stop (live (behind_function z) (with_function z body_statements done starts waiting word) around) after)
-    [ declared ↦ taken stop statements _ _ on_level | operand_in ending target ↦ taken stop statements _ _ on_level ]
+    [ declared ↦ taken stop statements _ _ on_level | operand_in ending _ ↦ taken stop statements _ _ on_level ]
 taken stop (block_all {opener = opener} {inside = inside} statements) =
     λ control behind done starts around at. block_opened stop opener (frame done starts [] nil) around inside at ∙ taken stop statements _ _ on_level
 taken stop (statement_block inner) = λ must setting done starts around. taken stop inner _ _ done starts around in-statement

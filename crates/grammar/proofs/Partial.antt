@@ -531,7 +531,7 @@ module _ {all : List Token} where
   -- a group closes
   pub statements_close : {scope : Scope} {done : Syntax} {around : List Open} {closer : Spot} {here : List Token}
       → Reached all (statement_at (among scope)) done [] around (token close_brace closer ∷ here) → (place : ℕ) → PartialOf all (pop_to place done around) here
-  statements_close (in_program statements) place = tt
+  statements_close (in_program _) place = tt
   statements_close (in_block outer statements) place = with_block outer (block_all statements)
   statements_close (in_declaration outer parameters statements) place = at_statement (with_declaration outer (function_all parameters statements))
   statements_close (in_function outer waits head parameters statements) place =
@@ -629,9 +629,9 @@ module _ {all : List Token} where
   pub only_variable_ends : {place : Variables} {done value : Syntax} {starts : List Pending} {around : List Open} {sign : Spot} {here : List Token}
       → T (is_first place) → VariableAt all place done starts around (token in_word sign ∷ here) value
       → Partial all (operand_due by_object some_target) (complete_statement done starts value) around here
-  only_variable_ends first (variable-at (in_var outer variables) last) = absurd first
+  only_variable_ends first (variable-at (in_var outer _) last) = absurd first
   only_variable_ends first (variable-at (in_for_var outer) last) = at_expression (in_for_object outer (for_variable last))
-  only_variable_ends first (variable-at (in_for_vars outer variables) last) = absurd first
+  only_variable_ends first (variable-at (in_for_vars outer _) last) = absurd first
 
   -- the parts of the head of a `for` end
   pub head_closes : {kind : ℕ} {head : Syntax} {around : List Open} {first here : List Token} → Reached all head_at nil [] around first
@@ -679,5 +679,5 @@ module _ {all : List Token} where
   pub text_ends : {done : Syntax} {around : List Open} {end : Spot} {here : List Token}
       → Reached all (statement_at (among body)) done [] around (token end_of_text end ∷ here) → (place : ℕ) → PartialOf all (finish_in place (frame done [] [] nil) around) here
   text_ends (in_program statements) place = behind_end statements
-  text_ends (in_declaration outer parameters statements) place = tt
-  text_ends (in_function outer waits head parameters statements) place = tt
+  text_ends (in_declaration outer _ _) place = tt
+  text_ends (in_function outer waits head _ _) place = tt

@@ -358,7 +358,7 @@ module _ (all : List Token) (spot : Spot) (rest : List Token) (around : List Ope
   module _ (done : Syntax) (starts waiting : List Pending) (last : Syntax) where
     binary_entry : (ending : Ending) (class : ℕ) → T (is_among (binary_operators_by (allows_in ending)) class)
         → KeepsUnary ending done starts waiting last class (goto (operand_due ending no_target) (take_operator class))
-    binary_entry ending class op first target outer unary =
+    binary_entry ending class op first _ outer unary =
         let operator = binary_by (allows_in ending) class op in
         let from = binary_precedence class operator in
         let to = binary_under_prefix class operator in
@@ -377,7 +377,7 @@ module _ (all : List Token) (spot : Spot) (rest : List Token) (around : List Ope
         next a h = omega arith
 
     question_entry : (ending : Ending) → KeepsUnary ending done starts waiting last question (ask ending)
-    question_entry ending first target outer unary =
+    question_entry ending first _ outer unary =
         let r = unary_closes_tight ending done starts least_binary (loosest (whole-level ending)) (omega arith) unary in
         subst (λ (f : Frame). Partial all (operand_due by_colon some_target) empty (asking ending spot.mark f ∷ around) rest) (sym r.same)
         (at_expression (in_conditional outer r.waits (binary_level r.waits r.fits) (as_binary (omega arith) r.whole)))
@@ -386,7 +386,7 @@ module _ (all : List Token) (spot : Spot) (rest : List Token) (around : List Ope
         loosest h = omega arith
 
     comma_entry : (ending : Ending) → whole_level ending ≤ 1 → KeepsUnary ending done starts waiting last comma (comma_action ending)
-    comma_entry ending may first target outer unary =
+    comma_entry ending may first _ outer unary =
         let r = unary_closes_tight ending done starts 1 may (omega arith) unary in
         subst (λ (f : Frame). Partial all (operand_due ending some_target) (await comma spot.mark f) around rest) (sym r.same)
         (at_operand outer (operator_waits r.waits r.fits (comma_begun (as_expression r.whole))) (omega arith))
@@ -520,7 +520,7 @@ module _ (all : List Token) (spot : Spot) (rest : List Token) (around : List Ope
   module _ (ending : Ending) (done : Syntax) (starts waiting : List Pending) (last : Syntax) where
     assignment_entry : (target : Target) → T (is_target target) → (class : ℕ) → T (is_among assignment_operators class)
         → KeepsChain ending target done starts waiting last class (goto (operand_due ending some_target) (take_operator class))
-    assignment_entry target may class op first before level outer waits chain =
+    assignment_entry _ may class op first before level outer waits chain =
         let r = chain_closes ending done starts waits chain in
         let loose = target_level may r.waits r.fits in
         subst (λ (f : Frame). Partial all (operand_due ending some_target) (await class spot.mark f) around rest)
@@ -541,7 +541,7 @@ module _ (all : List Token) (spot : Spot) (rest : List Token) (around : List Ope
 
     postfix_entry : (target : Target) (class : ℕ) → T (is_among postfix_operators class) → T (not spot.newline)
         → KeepsChain ending target done starts waiting last class (goto (postfix_done ending) (take_postfix (postfix_kind class)))
-    postfix_entry target class op same first before level outer waits chain =
+    postfix_entry _ class op same first before level outer waits chain =
         let r = chain_closes ending done starts waits chain in
         let under = r.fits in
         subst (λ (f : Frame). Partial all (postfix_done ending) (postfixed (postfix_kind class) spot.mark f) around rest)

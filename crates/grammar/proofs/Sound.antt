@@ -130,8 +130,8 @@ module _ (all : List Token) (spot : Spot) (after : Control) (g : Frame) (outside
   finish_taken {done} (in_program statements) e =
       let same : frame done [] [] nil ≡ g = cc in
       record { at_end = cc; closed = cc; program = subst (λ (f : Frame). Program all (done_of f)) same statements }
-  finish_taken (in_declaration outer parameters statements) e = never e
-  finish_taken (in_function outer waits head parameters statements) e = never e
+  finish_taken (in_declaration outer _ _) e = never e
+  finish_taken (in_function outer waits head _ _) e = never e
 
   abbrev Takes : Control → Frame → List Open → Type 0
   Takes control f around = consume (live control f around) (token end_of_text spot) ≡ live after g outside
@@ -158,8 +158,8 @@ module _ (all : List Token) (spot : Spot) (after : Control) (g : Frame) (outside
   end_taken later (behind_head head place) e = never e
   end_taken later (behind_for place) e = never e
   end_taken later (at_start place) e = never e
-  end_taken later (at_for_test place start) e = never e
-  end_taken later (at_for_step place start condition) e = never e
+  end_taken later (at_for_test place _) e = never e
+  end_taken later (at_for_step place _ condition) e = never e
   end_taken later (behind_switch place) e = never e
   end_taken later (behind_subject place subject) e = never e
   end_taken later (at_clause {seen = true} place) e = never e
@@ -192,18 +192,18 @@ module _ (all : List Token) (spot : Spot) (after : Control) (g : Frame) (outside
   end_taken {f = f} {around = around} later (behind_postfix {ending = ending} outer waits fits unary) e = untaken f around (unary_at_end ending) e
   end_taken later (behind_dot outer waits chain) e = never e
   end_taken later (behind-function {role = declared} place) e = never e
-  end_taken later (behind-function {role = operand_in ending target} place) e = never e
+  end_taken later (behind-function {role = operand_in ending _} place) e = never e
   end_taken later (behind_function_name place head) e = never e
   end_taken later (at_parameters place head) e = never e
   end_taken later (behind_parameter place head names) e = never e
   end_taken later (at_parameter place head names) e = never e
-  end_taken later (at_function_body (declaration_at place) head parameters) e = never e
-  end_taken later (at_function_body (operand_at outer waits) head parameters) e = never e
+  end_taken later (at_function_body (declaration_at place) head _) e = never e
+  end_taken later (at_function_body (operand_at outer waits) head _) e = never e
   end_taken later (at_item {items = call_arguments} outer values list) e = never e
   end_taken later (at_item {items = array_elements} outer values list) e = never e
   end_taken later (at_item {items = object_properties} outer values list) e = never e
-  end_taken later (behind_property outer values identified) e = never e
-  end_taken later (behind_end statements) e = never e
+  end_taken later (behind_property outer values _) e = never e
+  end_taken later (behind_end _) e = never e
 
   each_end_taken : (around : List Open) (control : Control) (f : Frame) → Partial all control f around [] → Takes control f around
       → Ended all after g outside

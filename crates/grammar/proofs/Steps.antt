@@ -446,7 +446,7 @@ module _ (all : List Token) (spot : Spot) (rest : List Token) where
         go false same left = left tt
     step_keeps later (behind_else outer whole) = later class _ _ (with_statement outer whole)
     step_keeps later (behind_do outer inner) = later class _ _ (behind_body outer inner)
-    step_keeps later (behind_end statements) = tt
+    step_keeps later (behind_end _) = tt
 
   pub each_step_keeps : (around : List Open) (class : ℕ) (control : Control) (f : Frame) → Partial all control f around (token class spot ∷ rest)
       → PartialOf all (act (look class (row control spot.newline)) class spot f around) rest

@@ -336,27 +336,27 @@ Left (list_at items) around = Closed around
 
 left : {all : List Token} {place : Place} {done : Syntax} {starts : List Pending} {around : List Open} {here : List Token}
     → Reached all place done starts around here → Left place around
-left (in_program statements) = record { classes = []; spelled = none_spelled; ends = λ f stop. (f, refl) }
-left (in_block outer statements) = let c = left outer in through spelled_close_brace c λ f closer. c.ends _
-left (in_declaration outer parameters statements) = let c = left outer in through spelled_close_brace c λ f closer. c.ends _
-left (in_function {target = behind} outer waits head parameters statements) = let c = left outer _ (past_operand {target = behind}) in through spelled_close_brace c λ f closer. c.ends _
+left (in_program _) = record { classes = []; spelled = none_spelled; ends = λ f stop. (f, refl) }
+left (in_block outer _) = let c = left outer in through spelled_close_brace c λ f closer. c.ends _
+left (in_declaration outer _ _) = let c = left outer in through spelled_close_brace c λ f closer. c.ends _
+left (in_function {target = behind} outer waits head _ _) = let c = left outer _ (past_operand {target = behind}) in through spelled_close_brace c λ f closer. c.ends _
 left (after_if outer condition) = out_of_nest (statement-done if_nest) (left outer)
 left (after_else outer condition first) = out_of_nest (statement-done else_nest) (left outer)
 left (after_do {setting = setting} outer) = out_of_nest (statement-done do_nest) (body-done {setting = setting} (left outer))
 left (after_head head outer value) = left outer
 left (after_for outer head) = left outer
 left (after_label outer) = left outer
-left (after_case outer test statements) = clause_done (left outer)
-left (after_default outer statements) = clause_done (left outer)
+left (after_case outer test _) = clause_done (left outer)
+left (after_default outer _) = clause_done (left outer)
 left (block_statement outer) = left outer
 left (block_of_try outer) = catch-due (left outer)
 left (block_of_catch outer tried) = out_of_nest catch-done (left outer)
 left (block_of_finally outer tried) = out_of_nest try-done (left outer)
-left (in_switch outer subject clauses) = closed (left outer)
+left (in_switch outer subject _) = closed (left outer)
 left (in-for {setting = setting} outer) = closed (inner_statement {setting = setting} (left outer))
-left (in_var outer variables) = left outer
+left (in_var outer _) = left outer
 left (in_for_var outer) = condition_due (left outer)
-left (in_for_vars outer variables) = condition_due (left outer)
+left (in_for_vars outer _) = condition_due (left outer)
 left (in_expression allowed outer) = λ control done. let c = left outer in by_end done spelled_semicolon tt c.classes c.spelled λ f end. c.ends _
 left (in_return same outer) = λ control done. let c = left outer in by_end done spelled_semicolon tt c.classes c.spelled λ f end. c.ends _
 left (in_throw same outer) = λ control done. let c = left outer in by_end done spelled_semicolon tt c.classes c.spelled λ f end. c.ends _
@@ -513,16 +513,16 @@ completion (at_parameter place head names) more =
       spelled = more_spelled spelled_name (more_spelled spelled_close_paren c.spelled);
       ends = λ f parameter closer. c.ends _;
     }
-completion (at_function_body place head parameters) more = function_body place
+completion (at_function_body place head _) more = function_body place
 completion (at_item {items = items} outer values list) more = before_item items (left outer)
-completion (behind_property outer values identified) more =
+completion (behind_property outer values _) more =
     let c = behind_item object_properties (past_operand {target = some_target}) (left outer) in
     record {
       classes = colon ∷ name ∷ c.classes;
       spelled = more_spelled spelled_colon (more_spelled spelled_name c.spelled);
       ends = λ f sign called. c.ends _;
     }
-completion (behind_end statements) more = absurd (more refl)
+completion (behind_end _) more = absurd (more refl)
 
 -- tokens begin a program: those of some classes complete it, wherever they stand with no line end before them
 pub record Viable (all : List Token) : Type 0 where

@@ -93,7 +93,7 @@ module _ {table : List ℕ} {first : ℕ} {base last : Syntax} {l : Level} {stac
   new_waits : {waiting starts tail : List Pending} → Operators waiting → Beginnings starts → Stops 1 tail → Holds table first base (waiting ++ (starts ++ tail)) last l stack cells
       → l.floor < l.top → get_or stack ((l.top - 1) * width) 0 ≡ new_word → NewWaits stack l.top waiting
   new_waits no_operators beginnings stops h more is-new = absurd (none_newer (omega arith) (starts_stop beginnings stops) h more is-new)
-  new_waits (more_operators {kind = kind} {mark = mark} {ps = ps} tight alone others) beginnings stops h more is-new =
+  new_waits (more_operators {kind = kind} {mark = mark} {ps = ps} tight alone others) _ stops h more is-new =
       let u = uppermost h in
       let same : kind ≡ new_word = omega (arith, u.kind_is) in
       record { word = mark; rest = ps; is = rw (alone same, same); word_is = u.mark_is; some = u.some }

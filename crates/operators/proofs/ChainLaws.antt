@@ -26,7 +26,7 @@ pub behind-unary : {class : ℕ} {step : Step} (ending : Ending) (target : Targe
     → ((from : Control) → Ended from ending → Means from class step (look class (after_unary ending)))
     → Behind ending target chain class step newline
 behind-unary ending target newline true same m = rw (same refl) (m (operand_done ending target) ended_operand)
-behind-unary ending target newline false same m = m (postfix_done ending) ended_postfix
+behind-unary ending _ newline false same m = m (postfix_done ending) ended_postfix
 
 -- signs that make a chain no longer
 pub sign_next : (class : ℕ) (ending : Ending) (target : Target) (newline : Bool) → comma ≤ class
@@ -43,7 +43,7 @@ module _ (class ending setting : ℕ) (few : class < comma) where
   no_link : (target : Target) (newline : Bool)
       → look class (after_operand here target newline)
       ≡ look class (in_entry (takes_in here target) (assignment_row here target (postfix_row here newline (after_unary here))))
-  no_link target newline =
+  no_link _ newline =
       rw (ne_eqb class dot (λ e. omega arith), ne_eqb class open_paren (λ e. omega arith), ne_eqb class open_bracket (λ e. omega arith))
 
   pub assigns : {step : Step} (newline chain target : Bool) → Goes step (operand_due here some_target) 3

@@ -283,20 +283,20 @@ question_past {control = control} sign after f around ends =
 
 -- where an operand is due, none stands last
 no_operand : (ending : Ending) (target : Target) → is_last (operand_due ending target) operand ≡ false
-no_operand (by_statement setting) target = refl
-no_operand (by_return setting) target = refl
-no_operand (by_variable place) target = refl
-no_operand by_start target = refl
-no_operand by_test target = refl
-no_operand by_step target = refl
-no_operand by_object target = refl
-no_operand (by_case seen) target = refl
-no_operand by_paren target = refl
-no_operand by_bracket target = refl
-no_operand by_colon target = refl
-no_operand (by_item call_arguments) target = refl
-no_operand (by_item array_elements) target = refl
-no_operand (by_item object_properties) target = refl
+no_operand (by_statement setting) _ = refl
+no_operand (by_return setting) _ = refl
+no_operand (by_variable place) _ = refl
+no_operand by_start _ = refl
+no_operand by_test _ = refl
+no_operand by_step _ = refl
+no_operand by_object _ = refl
+no_operand (by_case seen) _ = refl
+no_operand by_paren _ = refl
+no_operand by_bracket _ = refl
+no_operand by_colon _ = refl
+no_operand (by_item call_arguments) _ = refl
+no_operand (by_item array_elements) _ = refl
+no_operand (by_item object_properties) _ = refl
 
 -- so `++` and `--` stand before it; the other operators there have no sense
 prefix_past : (class : ℕ) (sign : Spot) (after : List Token) (ending : Ending) (target : Target) (f : Frame) (around : List Open)
@@ -380,7 +380,7 @@ catch_left (token class spot ∷ after) alone =
 -- a function without a name goes on as one with a name
 unnamed_past : {before after : List Token} {value : Syntax} (ending : Ending) (target : Target) (f : Frame) (around : List Open) → Function before after value
     → senses_from (live (function_first (operand_in ending target)) f around) before ≡ senses_from (live (function_named (operand_in ending target)) f around) before
-unnamed_past ending target f around (function_all parameters statements) = refl
+unnamed_past ending _ f around (function_all _ _) = refl
 
 -- no parameter has a sense
 names_past : {before after : List Token} (f : Frame) (around : List Open) → Names before after
@@ -640,7 +640,7 @@ past (function_all {opener = opener} {openBody = openBody} {inside = inside} {af
     and_then (led_by refl (parameters_past empty (parameter_past role) opener.mark f around parameters)) λ u g.
     elim role as (λ (z : Role). PastTo (live (only (parameter_past z) u) g around) (token open_brace openBody ∷ inside) (block_at openBody.first ∷ senses_of statements) (only (behind_function z)) around after) [
       | declared ↦ sensed refl (and_on (past statements (among body) empty _ refl (λ same. refl)) λ u h. straight _ refl)
-      | operand_in ending target ↦ sensed refl (and_on (past statements (among body) empty _ refl (λ same. refl)) λ u h. straight _ refl)
+      | operand_in ending _ ↦ sensed refl (and_on (past statements (among body) empty _ refl (λ same. refl)) λ u h. straight _ refl)
     ]
 past (block_all {opener = opener} {inside = inside} statements) =
     λ control behind f around opens.

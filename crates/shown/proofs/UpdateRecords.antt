@@ -564,7 +564,7 @@ shown_at : {es : List Element} {cells : List ℕ} (low : ℕ) (s : Sense) → Re
     → get_or cells (tree_width * count_trees before) 0 ≡ kind_of s
 unfolding shown_in
 shown_at low s no_records r member before e after q c at = absurd (Memᴰ.not-nil member)
-shown_at low s (closer_none {e = f} k records) r member [] e after q c at = let same : f ≡ e = cc in absurd (false≢true (sym c ∙ ap is_closer (sym same) ∙ k))
+shown_at low s (closer_none {e = f} k _) r member [] e after q c at = let same : f ≡ e = cc in absurd (false≢true (sym c ∙ ap is_closer (sym same) ∙ k))
 shown_at low s (closer_none {e = f} k records) r member (b ∷ before) e after q c at =
     let closer : is_closer b ≡ true = let same : f ≡ b = cc in ap is_closer (sym same) ∙ k in
     rw (closer, zero-add (count_trees before)) (shown_at (f.first + 1) s records r.1 member before e after (cc) c at)

@@ -145,7 +145,7 @@ senses_of (catch_all inner) = senses_of inner
 senses_of (finally_all inner) = senses_of inner
 senses_of statement_debugger = []
 senses_of (statement_label inner) = senses_of inner
-senses_of (function_all {openBody = openBody} parameters statements) = block_at openBody.first ∷ senses_of statements
+senses_of (function_all {openBody = openBody} _ statements) = block_at openBody.first ∷ senses_of statements
 senses_of (expression_assign value) = senses_of value
 senses_of (expression_comma left right) = senses_of left ++ senses_of right
 senses_of (assign_binary binary) = senses_of binary

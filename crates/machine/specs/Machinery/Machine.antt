@@ -655,7 +655,7 @@ is_asked (by_item items) = false
 
 abbrev asked_in : Role → Bool
 asked_in declared = false
-asked_in (operand_in ending target) = is_asked ending
+asked_in (operand_in ending _) = is_asked ending
 
 abbrev pub asks : Control → Bool
 asks (statement_due must setting) = false
@@ -688,11 +688,11 @@ asks (body_done setting) = false
 asks (test_first setting) = false
 asks (semicolon_due setting) = false
 asks if_first = false
-asks (operand_due ending target) = is_asked ending
-asks (member_due ending target) = is_asked ending
-asks (operand_done ending target) = is_asked ending
+asks (operand_due ending _) = is_asked ending
+asks (member_due ending _) = is_asked ending
+asks (operand_done ending _) = is_asked ending
 asks (postfix_done ending) = is_asked ending
-asks (dot_last ending target) = is_asked ending
+asks (dot_last ending _) = is_asked ending
 asks (function_first role) = asked_in role
 asks (function_named role) = asked_in role
 asks (parameter_past role) = asked_in role
