@@ -31,9 +31,10 @@ struct Lent {
 }
 
 impl Lent {
-    fn filled(byte: u8) -> Self {
+    /// As many cells as ever serve, and some more behind the trees.
+    fn filled(byte: u8, more: usize) -> Self {
         let cell = u32::from_ne_bytes([byte; 4]);
-        Lent { trees: vec![cell; 5 * MOST_TREES], syntax: vec![cell; 3 * MOST_SYNTAX], output: vec![byte; 2 * MOST_BYTES + 1] }
+        Lent { trees: vec![cell; 5 * MOST_TREES + more], syntax: vec![cell; 3 * MOST_SYNTAX], output: vec![byte; 2 * MOST_BYTES + 1] }
     }
 }
 
@@ -96,7 +97,7 @@ fn compared(first: Call, second: Call, text: &[u8], lent: &mut Lent, rounds: usi
 
 /// The number of records, where library and yardstick accept a text with the same answer and cells.
 fn records(held: &Held, text: &[u8]) -> Option<u64> {
-    let (mut cells, mut own) = (Lent::filled(0x5a), Lent::filled(0x5a));
+    let (mut cells, mut own) = (Lent::filled(0x5a, 3), Lent::filled(0x5a, 3));
     let answer = (held.library)(text, &mut cells);
     (answer >> 32 == 0 && answer == (held.yardstick)(text, &mut own) && cells == own).then_some(answer)
 }
@@ -155,7 +156,7 @@ fn forms() -> Vec<(&'static str, Vec<u8>)> {
 
 /// The largest of the script's ratios.
 fn times(rounds: usize, script: &[u8], shorter: &[Vec<u8>]) -> Option<f64> {
-    let mut lent = Lent::filled(0);
+    let mut lent = Lent::filled(0, 0);
     if script.len() != SCRIPT_BYTES || records(&READING, script).is_none_or(|records| records <= SCRIPT_RECORDS) {
         eprintln!("bench/speed: the script is not of {SCRIPT_BYTES} bytes and more than {SCRIPT_RECORDS} records");
         return None;
