@@ -7,7 +7,7 @@ ghost use Rattle.answers.specs.Answers.{number_of, value_of};
 pub mod faults;
 
 // What a call answers: accepted with its count, or refused with the number of document 01's table and a place.
-#[derive(Drop)]
+#[derive(Clone, Copy)]
 pub enum Answer {
     Accepted(usize),
     Refused(u32, usize),
@@ -36,7 +36,7 @@ impl Answer {
 }
 
 // A number, string or regular expression, as it is cut: the offset past its last byte, or a fault's number and place.
-#[derive(Drop)]
+#[derive(Clone, Copy)]
 pub enum Literal {
     Ends(usize),
     Fault(u32, usize),

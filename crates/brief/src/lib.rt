@@ -17,7 +17,7 @@ use machine::tokens;
 use tables::TreeRecord;
 
 // What is found inside a group: nothing that makes a record; one operand, of a class; or what may need a level.
-#[derive(Drop)]
+#[derive(Clone, Copy)]
 pub enum Found {
     Nothing,
     Operand(u32),

@@ -3,7 +3,7 @@
 ghost use Rattle.std.specs.Prelude.{◌<◌};
 
 // The number, and the place after its blank.
-#[derive(Drop)]
+#[derive(Clone, Copy)]
 pub enum Number {
     Of(usize, usize),
     Bad,

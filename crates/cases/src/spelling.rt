@@ -6,7 +6,7 @@ use crate::number::Number;
 // The most bytes of a text: a longer one is a bad case.
 pub const MOST: usize = 262200;
 
-#[derive(Drop)]
+#[derive(Clone, Copy)]
 pub enum Size {
     Bytes(usize),
     Bad,
@@ -14,7 +14,7 @@ pub enum Size {
 
 // The place in the line, the size of the text so far, and where the open piece starts, with its number of copies; 0 where none
 // is open.
-#[derive(Drop)]
+#[derive(Clone, Copy)]
 struct Spelling {
     at: usize,
     size: usize,
@@ -22,7 +22,7 @@ struct Spelling {
     times: usize,
 }
 
-#[derive(Drop)]
+#[derive(Clone, Copy)]
 enum Stepped {
     On(Spelling),
     Bad,

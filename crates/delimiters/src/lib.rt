@@ -11,7 +11,7 @@ use elements::Element;
 use prefix::{BLOCK, BRACKETS, DEEP, OBJECT, PARENS, State, TREES_FULL, WRONG_CLOSER};
 
 // What a delimiter makes of the state: a group of a kind opened; a group closed, with the caller's tag for it; or a refusal.
-#[derive(Drop)]
+#[derive(Clone, Copy)]
 pub enum Advanced {
     Opened(u32, State),
     Closed(u32, State),

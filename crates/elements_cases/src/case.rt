@@ -11,7 +11,7 @@ use elements::Stated;
 const MOST_CUT: usize = 256;
 
 // The size of the text, and what is stated of each element.
-#[derive(Drop)]
+#[derive(Clone, Copy)]
 pub enum Case {
     One(usize, Stated),
     Prefixes(usize, Stated),

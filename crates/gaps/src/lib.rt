@@ -9,14 +9,14 @@ ghost use Rattle.gaps.specs.Machinery.Comments.{resumed, NotBefore};
 use answers::faults::{OPEN_COMMENT, STRAY};
 
 // Where a gap ends, and whether a line end lies in it; or the first fault in it.
-#[derive(Drop)]
+#[derive(Clone, Copy)]
 pub enum Gap {
     Ends(usize, bool),
     Fault(u32, usize),
 }
 
 // What stands at a slash: no comment; or where the comment there ends, and whether a line end lies in it; or its fault.
-#[derive(Drop)]
+#[derive(Clone, Copy)]
 pub enum Comment {
     Absent,
     Ends(usize, bool),

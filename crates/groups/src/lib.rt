@@ -17,7 +17,7 @@ use waiting::Level;
 
 // What a parser answers: the number of syntax records so far, and whether they are the head of a `for` with `in`; or the place of the
 // first element with which those so far begin no program.
-#[derive(Drop)]
+#[derive(Clone, Copy)]
 pub enum Parsed {
     Done(usize, bool),
     Bad(usize),

@@ -6,7 +6,7 @@ use cases::spelling::{MOST, Size};
 use cases::{number, spelling};
 
 // How much of the table or the output is lent, and the size of the text.
-#[derive(Drop)]
+#[derive(Clone, Copy)]
 pub enum Case {
     Read(usize, usize),
     Respace(usize, usize),

@@ -113,7 +113,7 @@ const SIGNS: [u8; 288] = [
 const WIDTH: usize = 6;
 
 // The longest sign at a place, by its number and length; or that none starts there.
-#[derive(Drop)]
+#[derive(Clone, Copy)]
 pub enum Longest {
     None,
     Sign(u32, usize),

@@ -7,7 +7,7 @@ use std::io;
 use std::io::Read;
 
 // How many bytes were read; or that they could not be.
-#[derive(Drop)]
+#[derive(Clone, Copy)]
 pub enum Input {
     Bytes(usize),
     Failed,

@@ -6,7 +6,7 @@ ghost use Rattle.tables.specs.Records.{room_for, syntax_room};
 
 // A tree record: its kind, its first byte, the byte after its last, the records in it with itself, and whether a line end
 // lies before it.
-#[derive(Drop)]
+#[derive(Clone, Copy)]
 pub struct TreeRecord {
     pub kind: u32,
     pub first: u32,
@@ -42,7 +42,7 @@ pub fn newline_cell(newline: bool) -> u32
 }
 
 // A syntax record: its kind, the index of the tree record that marks it, and the syntax records in it with itself.
-#[derive(Drop)]
+#[derive(Clone, Copy)]
 pub struct SyntaxRecord {
     pub kind: u32,
     pub mark: u32,

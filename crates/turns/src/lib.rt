@@ -17,14 +17,14 @@ pub const LONG: u32 = 1;
 pub const MOST_BYTES: usize = 262144;
 
 // What reading to the end comes to: the state there, with the count of bytes written; or a refusal.
-#[derive(Drop)]
+#[derive(Clone, Copy)]
 pub enum ReadOn {
     End(State, usize),
     Stop(u32, usize),
 }
 
 // What an element makes of the state, with the count of bytes written; or a refusal.
-#[derive(Drop)]
+#[derive(Clone, Copy)]
 enum Taken {
     More(State, usize),
     Stop(u32, usize),
