@@ -6,22 +6,15 @@ usage: respell_constructors.py [ROOT]    turns crates/ below ROOT, with the must
 A lemma or another constructor that has the new spelling already gets dashes, so that the two stay apart.
 """
 
-import os
+import pathlib
 import re
 import sys
 
-WORD = re.compile(r'[^\s(){}.;,@"«»]+')
-UNDOTTED = re.compile(r'(?<![^\s(){},;@"«»])[^\s(){}.;,@"«»]+')
+sys.dont_write_bytecode = True
+
+from respell import SPAN, UNDOTTED, WORD, files, pages
+
 SEVERAL = re.compile(r"^ *((?:[^\s(){}.;,@\"«»:]+ )+): ")
-SPAN = re.compile(r"\x60[^\x60\n]*\x60")
-
-
-def files(root):
-    for folder, folders, names in os.walk(root):
-        folders[:] = sorted(f for f in folders if f not in ("out", "target", ".git"))
-        for name in sorted(names):
-            if name.endswith((".antt", ".rt", ".edit", ".md")):
-                yield os.path.join(folder, name)
 
 
 def snake(name):
@@ -30,10 +23,7 @@ def snake(name):
 
 def main(argv):
     root = argv[1] if len(argv) > 1 else "."
-    texts = {}
-    for path in files(root):
-        with open(path, encoding="utf-8") as f:
-            texts[path] = f.read()
+    texts = {path: pathlib.Path(path).read_text(encoding="utf-8") for path in (*files(root), *pages(root))}
     table = {}
     for path, text in texts.items():
         if path.endswith(".antt"):
@@ -61,8 +51,7 @@ def main(argv):
         else:
             new = turned(path, text)
         if new != text:
-            with open(path, "w", encoding="utf-8") as f:
-                f.write(new)
+            pathlib.Path(path).write_text(new, encoding="utf-8")
     for old in sorted(table):
         print(f"renamed: {old} {table[old]}")
     for old in sorted(again):

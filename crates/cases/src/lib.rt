@@ -9,11 +9,6 @@ pub mod spelling;
 // Room for the input of a test program.
 pub const INPUT: usize = 65536;
 
-// The room, before it is read.
-pub fn no_input() -> [u8; INPUT] {
-    [0; INPUT]
-}
-
 // The line end from `at` on, or the end of the input.
 pub fn line_end(input: &[u8], at: usize) -> usize
     requires { at ≤ length input.now }

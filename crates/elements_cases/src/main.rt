@@ -12,7 +12,7 @@ use std::io;
 use streams::Input;
 
 fn main(rt: HostRuntime) -> io::Result<()> {
-    let mut input = cases::no_input();
+    let mut input = [0u8; cases::INPUT];
     let Input::Bytes(n) = streams::read_input(&rt, &mut input) else {
         return Ok(());
     };

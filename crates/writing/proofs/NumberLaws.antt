@@ -29,7 +29,7 @@ enough (suc k) (suc m) n h g =
     ap (λ (l : List ℕ). l ++ (digit_byte (n % 10) ∷ []))
     (higher (ltb n 10) (λ e. let t : 10 ≤ n = ltb-false n 10 e in enough k m (n / 10) (omega arith) (omega arith)))
 
--- a last digitByte, and those before it
+-- a last digit byte, and those before it
 pub decimal_more : (n : ℕ) → 10 ≤ n → decimal n ≡ decimal (n / 10) ++ (digit_byte (n % 10) ∷ [])
 unfolding decimal digits
 decimal_more n h = rw (le-ltb n 10 h, enough n (suc (n / 10)) (n / 10) (omega arith) (omega arith))
