@@ -1,4 +1,5 @@
 // Classes of tokens: those that make a part by themselves have the kind of that part, the others numbers from 128 up.
+// They are numbers and no enum, since a class is written as a record's kind into the syntax table that C is lent, and `kinds_marked` of `derivations` speaks of it.
 pub const NAME: u32 = 1;
 
 pub const NUMBER: u32 = 2;
