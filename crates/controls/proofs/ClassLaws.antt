@@ -1,14 +1,14 @@
--- Tests of classes by ranges, proved by one test that antt computes over a range, and past the last class of a list.
+-- Tests of classes, proved by one test that antt computes over a range, or over a list.
 use mathlib.Core.Path.{◌≡◌, refl, sym, ◌∙◌, ap, subst}
-use mathlib.Core.Bool.{Bool, true, false, not, cond, ◌&&◌, ◌||◌}
+use mathlib.Core.Bool.{Bool, true, false, cond, ◌&&◌, ◌||◌}
 use mathlib.Core.List.{List, [], ◌∷◌}
 use Prim.Native.Nat.{ℕ, zero, suc, ◌+◌, ◌≤◌, ◌<◌}
 use native.Mathlib.Omega.{arith}
-use borrow.Author.Tests.{ne_eqb, eqb-true, eqb-false, ltb-true, ltb-false, le-leb, lt-leb}
-use lib.Dec.{T, eqb, ltb, eqb→eq, ltb→lt}
+use borrow.Author.Tests.{ne_eqb, eqb-true, eqb-false, le-leb, lt-leb}
+use lib.Dec.{T, eqb, ltb, ltb→lt}
 use Rattle.text.proofs.Range.{and_left, and_right}
 use Rattle.text.proofs.Members.{all_in}
-use Rattle.machine.specs.Tokens.{name, divide, plus, assign, new_word, question}
+use Rattle.machine.specs.Tokens.{name, new_word, question}
 use Rattle.machine.specs.Operators.{Operator, operator, operators, precedence_among, precedence, is_among}
 use Rattle.machine.specs.Machinery.Machine.{tightness, values}
 use Rattle.machine.specs.Machinery.Classes.{is_leaf}
@@ -26,24 +26,6 @@ module _ (P : ℕ → Bool) where
       go : (b : Bool) → eqb k first ≡ b → (first + 1 ≤ k → k < first + 1 + n → T (P k)) → T (P k)
       go true e later = rw (eqb-true k first e) (and_left (P first) (each_from (first + 1) n) t)
       go false e later = let other = eqb-false k first e in later (omega (arith, other)) (omega arith)
-
--- two tests agree
-abbrev pub agree : Bool → Bool → Bool
-agree true b = b
-agree false b = not b
-
-agreed : (a b : Bool) → T (agree a b) → a ≡ b
-agreed true true t = refl
-agreed true false t = absurd t
-agreed false true t = absurd t
-agreed false false t = refl
-
-pub same_test : (f g : ℕ → Bool) (first n : ℕ) → T (each_from (λ k. agree (f k) (g k)) first n) → (k : ℕ) → first ≤ k → k < first + n → f k ≡ g k
-same_test f g first n t k low high = agreed (f k) (g k) (at_number (λ k. agree (f k) (g k)) first n t k low high)
-
--- two numbers are the same
-pub same_number : (f g : ℕ → ℕ) (first n : ℕ) → T (each_from (λ k. eqb (f k) (g k)) first n) → (k : ℕ) → first ≤ k → k < first + n → f k ≡ g k
-same_number f g first n t k low high = eqb→eq (f k) (g k) (at_number (λ k. eqb (f k) (g k)) first n t k low high)
 
 module _ (class : ℕ) where
   -- a class in a list passes a test that all of it pass, and is none that is not in it
@@ -65,17 +47,6 @@ not_among (x ∷ rest) past t k high =
     let less = ltb→lt x past (and_left (ltb x past) (all_in (λ x. ltb x past) rest) t) in
     rw (ne_eqb k x (λ e. omega (arith, less))) (not_among rest past (and_right (ltb x past) (all_in (λ x. ltb x past) rest) t) k high)
 
--- a test by ranges from a number on, of which all from a later one on fail
-pub test_from : (f : ℕ → Bool) (classes : List ℕ) (first n : ℕ) → T (each_from (λ k. agree (f k) (is_among classes k)) first n)
-    → T (all_in (λ x. ltb x (first + n)) classes) → (k : ℕ) → first ≤ k → (first + n ≤ k → f k ≡ false) → f k ≡ is_among classes k
-test_from f classes first n t l k low fails = go (ltb k (first + n)) refl
-  where
-    go : (b : Bool) → ltb k (first + n) ≡ b → f k ≡ is_among classes k
-    go true e = same_test f (is_among classes) first n t k low (ltb→lt k (first + n) (rw e tt))
-    go false e =
-        let high = ltb-false k (first + n) e in
-        rw (fails high, not_among classes (first + n) l k high)
-
 -- nor does it bind
 below : ℕ → Operator → Bool
 below past (operator class tight) = ltb class past
@@ -91,22 +62,8 @@ pub no_precedence : (k : ℕ) → 74 ≤ k → precedence k ≡ 0
 unfolding below
 no_precedence k high = binds_not operators 74 tt k high
 
--- what has no precedence before `*`, and what has no tightness before `delete`; from `*` on, `?` alone has another tightness
+-- from `*` on, `?` alone has another tightness than its precedence
 module _ (k : ℕ) where
-  pub no_early_precedence : k < 40 → (k ≡ divide → ⊥) → (k ≡ plus → ⊥) → (k ≡ assign → ⊥) → precedence k ≡ 0
-  no_early_precedence less a b c = go (ltb k 10) refl
-    where
-      go : (t : Bool) → ltb k 10 ≡ t → precedence k ≡ 0
-      go true e = same_number precedence (λ k. 0) 0 10 tt k (omega arith) (ltb-true k 10 e)
-      go false e = let some = ltb-false k 10 e in same_number precedence (λ k. 0) 13 27 tt k (omega (arith, a, b, c, some)) (omega arith)
-
-  pub no_tightness : 13 ≤ k → k < 31 → (k ≡ new_word → ⊥) → tightness k ≡ 0
-  no_tightness some less other = go (ltb k 28) refl
-    where
-      go : (t : Bool) → ltb k 28 ≡ t → tightness k ≡ 0
-      go true e = same_number tightness (λ k. 0) 13 15 tt k (omega arith) (ltb-true k 28 e)
-      go false e = let past = ltb-false k 28 e in same_number tightness (λ k. 0) 29 2 tt k (omega (arith, other, past)) (omega arith)
-
   pub late_tightness : 40 ≤ k → (k ≡ question → ⊥) → tightness k ≡ precedence k
   late_tightness past other =
       rw (ne_eqb k new_word (λ e. omega arith), le-leb 31 k (omega arith), lt-leb k 39 (omega arith), ne_eqb k question other)

@@ -6,9 +6,9 @@ ghost use Rattle.machine.specs.Machinery.Classes.{is_end};
 ghost use Rattle.controls.specs.Machinery.Steps.{Ended, Settled, Ends};
 
 use crate::{
-    BLOCK, BODY, BY_ARGUMENT, BY_BRACKET, BY_ELEMENT, BY_PAREN, BY_STEP, CATCH_NAMED, CLAUSE_DUE,
-    Control, ITEM_DUE, OPERAND_DONE, PARAMETER_DUE, PARAMETER_NAMED, POSTFIX_DONE, STATEMENT_DUE,
-    STEP_DUE,
+    BLOCK, BODY, BY_ARGUMENT, BY_BRACKET, BY_ELEMENT, BY_OBJECT, BY_PAREN, BY_STEP, CATCH_NAMED,
+    CLAUSE_DUE, Control, ITEM_DUE, OPERAND_DONE, PARAMETER_DUE, PARAMETER_NAMED, POSTFIX_DONE,
+    STATEMENT_DUE, STEP_DUE,
 };
 use machine::tokens;
 
@@ -31,56 +31,40 @@ pub fn ends(at: Control, closer: u32) -> bool
 fn statements_end(setting: u32, must: bool, closer: u32) -> bool
     ensures { T (is_end closer) → Ends closer (statement_due (must_by must setting) (setting_by setting)) result (look closer (row (statement_due (must_by must setting) (setting_by setting)) false)) }
 {
-    if must {
-        return false;
-    }
-    if setting == BODY {
-        return closer == tokens::CLOSE_BRACE || closer == tokens::END_OF_TEXT;
-    }
-    if setting == BLOCK {
-        return closer == tokens::CLOSE_BRACE;
-    }
-    false
+    !must
+        && match setting {
+            BODY => closer == tokens::CLOSE_BRACE || closer == tokens::END_OF_TEXT,
+            BLOCK => closer == tokens::CLOSE_BRACE,
+            _ => false,
+        }
 }
 
 // The closer of a list.
 fn list_closer(ending: u32) -> u32
     ensures { result ≡ list_closer (items_by ending) }
 {
-    if ending == BY_ARGUMENT {
-        return tokens::CLOSE_PAREN;
+    match ending {
+        BY_ARGUMENT => tokens::CLOSE_PAREN,
+        BY_ELEMENT => tokens::CLOSE_BRACKET,
+        _ => tokens::CLOSE_BRACE,
     }
-    if ending == BY_ELEMENT {
-        return tokens::CLOSE_BRACKET;
-    }
-    tokens::CLOSE_BRACE
 }
 
 // No parameter needs to come.
 fn parameters_end(must: bool, closer: u32) -> bool
     ensures { T (is_end closer) → Ends closer (parameter_due must) result (look closer (row (parameter_due must) false)) }
 {
-    if must {
-        return false;
-    }
-    closer == tokens::CLOSE_PAREN
+    !must && closer == tokens::CLOSE_PAREN
 }
 
 // A `?` that is not answered ends no level.
 fn expression_ends(ending: u32, setting: u32, closer: u32) -> bool
     ensures { (from : Rattle.machine.specs.Machinery.Machine.Control) → Ended from (ending_by ending setting) → T (is_end closer) → Ends closer from result (look closer (row from false)) }
 {
-    if ending < BY_STEP {
-        return false;
+    match ending {
+        BY_STEP | BY_OBJECT | BY_PAREN => closer == tokens::CLOSE_PAREN,
+        BY_BRACKET => closer == tokens::CLOSE_BRACKET,
+        BY_ARGUMENT.. => closer == list_closer(ending),
+        _ => false,
     }
-    if ending <= BY_PAREN {
-        return closer == tokens::CLOSE_PAREN;
-    }
-    if ending == BY_BRACKET {
-        return closer == tokens::CLOSE_BRACKET;
-    }
-    if BY_ARGUMENT <= ending {
-        return closer == list_closer(ending);
-    }
-    false
 }

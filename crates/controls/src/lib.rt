@@ -1,6 +1,6 @@
 // Where the token machine stands, and what it does: places and effects are named after those of machine/specs/Machinery/Machine.antt
 // where there is one, so that the two can be laid side by side; specs/Machinery/Numbers.antt ties them.
-#![tactic(auto)]
+#![tactic(auto, unfolding(crate::specs::Machinery::Numbers::setting_by, crate::specs::Machinery::Numbers::items_by, crate::specs::Machinery::Numbers::ending_by, crate::specs::Machinery::Numbers::target_by, crate::specs::Machinery::Numbers::must_by, crate::specs::Machinery::Numbers::control_by, crate::specs::Machinery::Numbers::control_of, crate::specs::Machinery::Numbers::start_kind, crate::specs::Machinery::Numbers::inside_by, crate::specs::Machinery::Numbers::entered_by))]
 
 ghost use Rattle.std.specs.Prelude.{◌≡◌, false, ℕ, ◌≤◌};
 ghost use Rattle.machine.specs.Machinery.Machine.{behind_statement, statement_due};
@@ -266,10 +266,10 @@ pub fn stand(place: u32, ending: u32, setting: u32, flag: bool) -> Control
     ensures { control_of result ≡ control_by place ending setting flag }
 {
     Control {
-        place: place,
-        ending: ending,
-        setting: setting,
-        flag: flag,
+        place,
+        ending,
+        setting,
+        flag,
     }
 }
 
@@ -289,13 +289,11 @@ pub fn copied(at: Control) -> Control
 pub fn behind_statement(setting: u32) -> Control
     ensures { control_of result ≡ behind_statement (setting_by setting) }
 {
-    if setting <= BLOCK {
-        return stand(STATEMENT_DUE, BY_STATEMENT, setting, false);
+    match setting {
+        BODY | BLOCK => stand(STATEMENT_DUE, BY_STATEMENT, setting, false),
+        CLAUSE => stand(CLAUSE_STATEMENT, BY_STATEMENT, CLAUSE, false),
+        _ => stand(STATEMENT_DONE, BY_STATEMENT, setting, false),
     }
-    if setting == CLAUSE {
-        return stand(CLAUSE_STATEMENT, BY_STATEMENT, CLAUSE, false);
-    }
-    stand(STATEMENT_DONE, BY_STATEMENT, setting, false)
 }
 
 // Where the inside of a group starts.
@@ -322,10 +320,10 @@ pub fn inside_of(closing: u32) -> Control
 pub fn group_of(scope: u32) -> u32
     ensures { scope ≤ 1 → inside_by result ≡ statement_due false (setting_by scope) }
 {
-    if scope == BODY {
-        return TO_FUNCTION;
+    match scope {
+        BODY => TO_FUNCTION,
+        _ => TO_BLOCK,
     }
-    TO_BLOCK
 }
 
 // Where the inside of a nest starts.
@@ -344,37 +342,29 @@ pub fn entered(nest: u32) -> Control
 pub fn past_start(ending: u32) -> u32
     ensures { (result ≡ 5 → ⊥) × ((setting : ℕ) → ending_by result setting ≡ ending_by ending setting) }
 {
-    if ending == BY_LONE_START {
-        return BY_START;
+    match ending {
+        BY_LONE_START => BY_START,
+        _ => ending,
     }
-    ending
 }
 
 // The kind of what starts with a token of a class.
 pub fn start_kind(class: u32) -> u32
     ensures { result ≡ start_kind class }
 {
-    if class == tokens::NAME {
-        return records::VARIABLE;
+    match class {
+        tokens::NAME => records::VARIABLE,
+        tokens::RETURN => records::FULL_RETURN,
+        _ => class,
     }
-    if class == tokens::RETURN {
-        return records::FULL_RETURN;
-    }
-    class
 }
 
 // Whether a token of a class is a part by itself: a name, number, string or regular expression, or a value word.
 pub fn is_leaf(class: u32) -> bool
     ensures { result ≡ is_leaf class }
 {
-    if class == 0 {
-        return false;
-    }
-    if class <= tokens::PATTERN {
-        return true;
-    }
-    if class < tokens::THIS {
-        return false;
-    }
-    class <= tokens::FALSE
+    matches!(
+        class,
+        tokens::NAME..=tokens::PATTERN | tokens::THIS..=tokens::FALSE
+    )
 }

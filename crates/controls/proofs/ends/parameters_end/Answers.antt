@@ -8,10 +8,11 @@ use Rattle.controls.proofs.EndLaws.{at_closers}
 use Rattle.controls.proofs.LevelEnds.{EndsAt, no_closer_at}
 use Rattle.controls.proofs.ends.parameters_end.Goals as goal
 
-pub returns-then-must : goal.returns-then-must
-returns-then-must c = λ end. rw c.if-must.true (no_closer_at c.args.closer end (parameter_due true) refl refl refl refl)
+pub returns-then-not-must : goal.returns-then-not-must
+returns-then-not-must c = λ end. let a = c.args in
+    rw c.if-not-must.true
+    (at_closers (EndsAt (parameter_due false) close_paren) ends_no_parameter goes_on goes_on goes_on a.closer end)
 
-pub returns : goal.returns
-returns c = λ end.
-    rw c.if-must.false
-    (at_closers (EndsAt (parameter_due false) close_paren) ends_no_parameter goes_on goes_on goes_on c.args.closer end)
+pub returns-else-not-must : goal.returns-else-not-must
+returns-else-not-must c = λ end. let a = c.args in
+    rw c.if-not-must.false (no_closer_at a.closer end (parameter_due true) refl refl refl refl)

@@ -27,20 +27,14 @@ at_none setting closer end n0 n1 = go (eqb setting 2) refl
         rw (e, nest_setting setting (omega (arith, n0, n1, eqb-false setting 2 e)))
         (no_closer_at closer end (statement_due false (in_nest (nest_by setting))) refl refl refl refl)
 
-pub returns-then-must : goal.returns-then-must
-unfolding must_by
-returns-then-must c = λ end.
-    let a = c.args in
-    rw c.if-must.true (no_closer_at a.closer end (statement_due true (setting_by a.setting)) refl refl refl refl)
-
 pub returns-then-closer-eq-CLOSE_BRACE : goal.returns-then-closer-eq-CLOSE_BRACE
 unfolding setting_by must_by
-returns-then-closer-eq-CLOSE_BRACE c = λ end. rw (c.if-must.false, c.if-setting-eq-BODY.true, c.if-closer-eq-CLOSE_BRACE.true) ends_statements
+returns-then-closer-eq-CLOSE_BRACE c = λ end. rw (c.if-not-must.true, c.in-0.is, c.if-closer-eq-CLOSE_BRACE.true) ends_statements
 
 pub returns-else-closer-eq-CLOSE_BRACE : goal.returns-else-closer-eq-CLOSE_BRACE
 unfolding setting_by must_by
 returns-else-closer-eq-CLOSE_BRACE c = λ end.
-    rw (c.if-must.false, c.if-setting-eq-BODY.true)
+    rw (c.if-not-must.true, c.in-0.is)
     (at_closers
     (λ (k : ℕ). (k ≡ close_brace → ⊥) → Ends k (statement_due false (among body)) (eqb k end_of_text) (look k (row (statement_due false (among body)) false)))
     (λ other. goes_on)
@@ -51,13 +45,17 @@ returns-else-closer-eq-CLOSE_BRACE c = λ end.
     end
     c.if-closer-eq-CLOSE_BRACE.false)
 
-pub returns-then-setting-eq-BLOCK : goal.returns-then-setting-eq-BLOCK
+pub returns-in-1 : goal.returns-in-1
 unfolding setting_by must_by
-returns-then-setting-eq-BLOCK c = λ end.
-    rw (c.if-must.false, c.if-setting-eq-BLOCK.true)
-    (at_closers (EndsAt (statement_due false (among block)) close_brace) goes_on ends_statements goes_on goes_on c.args.closer end)
+returns-in-1 c = λ end. let a = c.args in
+    rw (c.if-not-must.true, c.in-1.is)
+    (at_closers (EndsAt (statement_due false (among block)) close_brace) goes_on ends_statements goes_on goes_on a.closer end)
 
-pub returns : goal.returns
-returns c = λ end.
-    let a = c.args in
-    rw c.if-must.false (at_none a.setting a.closer end c.if-setting-eq-BODY.false c.if-setting-eq-BLOCK.false)
+pub returns-in_default : goal.returns-in_default
+returns-in_default c = λ end. let a = c.args in
+    rw (c.if-not-must.true) (at_none a.setting a.closer end (λ e. omega (arith, e)) (λ e. omega (arith, e)))
+
+pub returns-else-not-must : goal.returns-else-not-must
+unfolding must_by
+returns-else-not-must c = λ end. let a = c.args in
+    rw (c.if-not-must.false) (no_closer_at a.closer end (statement_due true (setting_by a.setting)) refl refl refl refl)
