@@ -1,13 +1,13 @@
 -- The classes that end a level are four; at any other class the entries for closers are passed over.
 use mathlib.Core.Path.{◌≡◌, refl, sym, subst}
 use mathlib.Core.Bool.{Bool, true, false, ◌||◌}
+use Rattle.std.specs.Prelude.{Option, None}
 use Prim.Native.Nat.{ℕ}
 use borrow.Author.Tests.{eqb-true}
 use lib.Dec.{T, eqb}
 use Rattle.machine.specs.Tokens.{close_paren, close_brace, close_bracket}
 use Rattle.machine.specs.Machinery.Machine.{end_of_text, Control, Action, fail}
 use Rattle.controls.specs.declared.Step.{Step}
-use Rattle.controls.specs.declared.Step.TheVariants.{Fail}
 use Rattle.machine.specs.Machinery.Classes.{is_end}
 use Rattle.controls.specs.Machinery.Steps.{Means, means_end, means_fail}
 
@@ -44,13 +44,13 @@ no_closer class none =
     go false false false false e f g h none = record { no_paren = e; no_brace = f; no_bracket = g; no_text = h }
 
 -- a step that does nothing says nothing of a closer
-says_nothing : {from : Control} {class : ℕ} {step : Step} {other : Action} → T (is_end class) → Means from class step fail
+says_nothing : {from : Control} {class : ℕ} {step : Option Step} {other : Action} → T (is_end class) → Means from class step fail
     → Means from class step other
 says_nothing end (means_end _) = means_end end
 says_nothing end means_fail = means_end end
 
 -- a step means each action that differs from its own at closers only, where its own is none
-pub besides_closers : {from : Control} {class : ℕ} {step : Step} {action other : Action} → Means from class step action
+pub besides_closers : {from : Control} {class : ℕ} {step : Option Step} {action other : Action} → Means from class step action
     → (T (is_end class) → action ≡ fail) → (NoCloser class → other ≡ action) → Means from class step other
 besides_closers {from} {class} {step} {action} {other} m at_end beside = go (is_end class) refl
   where
@@ -59,5 +59,5 @@ besides_closers {from} {class} {step} {action} {other} m at_end beside = go (is_
     go false e = rw (beside (no_closer class e)) m
 
 -- so a row whose entries for a class are those of closers alone does nothing
-pub only_closers : {from : Control} {class : ℕ} {action : Action} → (NoCloser class → action ≡ fail) → Means from class Fail action
+pub only_closers : {from : Control} {class : ℕ} {action : Action} → (NoCloser class → action ≡ fail) → Means from class None action
 only_closers beside = besides_closers means_fail (λ end. refl) beside

@@ -5,9 +5,12 @@ use Prim.Native.Nat.{ℕ, ◌≤◌, ◌<◌}
 use native.Mathlib.Omega.{arith}
 use borrow.Author.Tests.{eqb-true, eqb-false}
 use lib.Dec.{T, eqb}
+use Rattle.std.specs.Prelude.{Some}
 use Rattle.machine.specs.Machinery.Machine.{in_clause, Control, statement_due, goto, push}
 use Rattle.controls.specs.Machinery.Numbers.{ending_by, control_by, control_of, effect_by, closing_by, inside_by}
 use Rattle.controls.specs.declared.Control as code
+use Rattle.controls.specs.declared.Effect as effects
+use Rattle.controls.specs.declared.Closing as closings
 use Rattle.controls.specs.declared.Step.TheVariants.{Goto, Push}
 use Rattle.machine.specs.Machinery.Classes.{is_single, is_opener}
 use Rattle.controls.proofs.NumberLaws.{at_clause}
@@ -24,15 +27,15 @@ in-clause at h = at_clause at.place at.ending at.setting at.flag h
 
 -- what a step means that leads to a control known so, or to it past a group
 module _ {from : Control} {class : ℕ} {to : code.Control} {behind : Control} (e : control_of to ≡ behind) where
-  pub goes : {effect : ℕ} → T (is_single class) → Leads (effect_by effect class) from behind
-      → Means from class (Goto to effect) (goto behind (effect_by effect class))
+  pub goes : {effect : effects.Effect} → T (is_single class) → Leads (effect_by effect class) from behind
+      → Means from class (Some (Goto to effect)) (goto behind (effect_by effect class))
   goes {effect} single leads =
-      subst (λ (x : Control). Leads (effect_by effect class) from x → Means from class (Goto to effect) (goto x (effect_by effect class))) e (means_goto single) leads
+      subst (λ (x : Control). Leads (effect_by effect class) from x → Means from class (Some (Goto to effect)) (goto x (effect_by effect class))) e (means_goto single) leads
 
-  pub opens-group : {closing : ℕ} → T (is_opener class) → Spans (closing_by closing) from behind
-      → Means from class (Push to closing) (push (inside_by closing) behind (closing_by closing))
+  pub opens-group : {closing : closings.Closing} → T (is_opener class) → Spans (closing_by closing) from behind
+      → Means from class (Some (Push to closing)) (push (inside_by closing) behind (closing_by closing))
   opens-group {closing} opener spans =
-      subst (λ (x : Control). Spans (closing_by closing) from x → Means from class (Push to closing) (push (inside_by closing) x (closing_by closing))) e (means_push opener) spans
+      subst (λ (x : Control). Spans (closing_by closing) from x → Means from class (Some (Push to closing)) (push (inside_by closing) x (closing_by closing))) e (means_push opener) spans
 
 -- a Unary has ended at two places
 pub after-unary : {P : Control → Type 0} (at : code.Control) → 3 ≤ at.place → at.place < 5

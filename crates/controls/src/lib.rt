@@ -1,11 +1,11 @@
 // Where the token machine stands, and what it does: places and effects are named after those of machine/specs/Machinery/Machine.antt
 // where there is one, so that the two can be laid side by side; specs/Machinery/Numbers.antt ties them.
-#![tactic(auto, unfolding(crate::specs::Machinery::Numbers::setting_by, crate::specs::Machinery::Numbers::items_by, crate::specs::Machinery::Numbers::ending_by, crate::specs::Machinery::Numbers::target_by, crate::specs::Machinery::Numbers::must_by, crate::specs::Machinery::Numbers::control_by, crate::specs::Machinery::Numbers::control_of, crate::specs::Machinery::Numbers::start_kind, crate::specs::Machinery::Numbers::inside_by, crate::specs::Machinery::Numbers::entered_by))]
+#![tactic(auto, unfolding(crate::specs::Machinery::Numbers::setting_by, crate::specs::Machinery::Numbers::items_by, crate::specs::Machinery::Numbers::ending_by, crate::specs::Machinery::Numbers::target_by, crate::specs::Machinery::Numbers::must_by, crate::specs::Machinery::Numbers::control_by, crate::specs::Machinery::Numbers::control_of, crate::specs::Machinery::Numbers::start_kind))]
 
 ghost use Rattle.std.specs.Prelude.{◌≡◌, false, ℕ, ◌≤◌};
 ghost use Rattle.machine.specs.Machinery.Machine.{behind_statement, statement_due};
 ghost use Rattle.machine.specs.Machinery.Classes.{is_leaf};
-ghost use Rattle.controls.specs.Machinery.Numbers.{setting_by, ending_by, control_by, control_of, start_kind, inside_by, entered_by};
+ghost use Rattle.controls.specs.Machinery.Numbers.{setting_by, ending_by, control_by, control_of, start_kind, inside_by, entered_by, nest_number};
 
 pub mod bindings;
 pub mod ends;
@@ -170,94 +170,89 @@ pub const BY_ELEMENT: u32 = 16;
 pub const BY_PROPERTY: u32 = 17;
 
 // What a token does to the level.
-pub const KEEP: u32 = 0;
-
-pub const TAKE_LEAF: u32 = 1;
-
-pub const TAKE_MEMBER: u32 = 2;
-
-pub const TAKE_OPERATOR: u32 = 3;
-
-pub const TAKE_LABEL: u32 = 4;
-
-pub const HOLD_WORD: u32 = 5;
-
-// A name that a statement starts with is held too: it is a label or an operand.
-pub const HOLD_NAME: u32 = 6;
-
-// Behind the word of a statement its parts are due, and behind the name of a variable its initialiser.
-pub const START_STATEMENT: u32 = 7;
-
-pub const END_EXPRESSION: u32 = 8;
-
-pub const END_VALUE: u32 = 9;
-
-pub const END_BARE: u32 = 10;
-
-pub const TAKE_PREFIX: u32 = 11;
-
-pub const TAKE_POSTFIX: u32 = 12;
-
-pub const END_EMPTY: u32 = 13;
-
-pub const END_VARIABLE: u32 = 14;
-
-pub const TAKE_ELSE: u32 = 15;
+#[derive(Clone, Copy)]
+pub enum Effect {
+    Keep,
+    TakeLeaf,
+    TakeMember,
+    TakeOperator,
+    TakeLabel,
+    HoldWord,
+    // A name that a statement starts with is held too: it is a label or an operand.
+    HoldName,
+    // Behind the word of a statement its parts are due, and behind the name of a variable its initialiser.
+    StartStatement,
+    EndExpression,
+    EndValue,
+    EndBare,
+    TakePrefix,
+    TakePostfix,
+    EndEmpty,
+    EndVariable,
+    TakeElse,
+}
 
 // What a group is, and does to the level around it when it closes.
-pub const TO_PARENS: u32 = 0;
-
-pub const TO_CALL: u32 = 1;
-
-pub const TO_OBJECT: u32 = 2;
-
-pub const TO_CONDITION: u32 = 3;
-
-pub const TO_PARAMETER: u32 = 4;
-
-pub const TO_BLOCK: u32 = 5;
-
-pub const TO_DECLARATION: u32 = 6;
-
-pub const TO_FUNCTION: u32 = 7;
-
-pub const TO_ARRAY: u32 = 8;
-
-pub const TO_INDEX: u32 = 9;
-
-pub const TO_HEAD: u32 = 10;
-
-pub const TO_TEST: u32 = 11;
-
-pub const TO_FOR: u32 = 12;
-
-pub const TO_CLAUSES: u32 = 13;
-
-pub const TO_CATCH: u32 = 14;
-
-// The head of a `for` with `in`.
-pub const TO_FOR_IN: u32 = 15;
+#[derive(Clone, Copy)]
+pub enum Closing {
+    Parens,
+    Call,
+    Object,
+    Condition,
+    Parameter,
+    Block,
+    Declaration,
+    Function,
+    Array,
+    Index,
+    Head,
+    Test,
+    For,
+    Clauses,
+    Catch,
+    // The head of a `for` with `in`.
+    ForIn,
+}
 
 // What a nest is: that of an `if`, of its `else` too; that of the statement of a `do`; a `try`; or the statements of a clause, behind
 // which a `default` may come or not.
-pub const OF_IF: u32 = 0;
+#[derive(Clone, Copy)]
+pub enum Nest {
+    If,
+    Do,
+    Try,
+    Clause,
+    LastClause,
+}
 
-pub const OF_DO: u32 = 1;
+impl Nest {
+    // The number that stands for it on the lent stack, and back: no other number than one of these is written there.
+    pub fn number(self) -> u32
+        ensures { result ≡ nest_number self }
+    {
+        self as u32
+    }
 
-pub const OF_TRY: u32 = 2;
+    pub fn numbered(number: u32) -> Nest
+        ensures { (nest : Nest) → number ≡ nest_number nest → result ≡ nest }
+    {
+        match number {
+            0 => Nest::If,
+            1 => Nest::Do,
+            2 => Nest::Try,
+            3 => Nest::Clause,
+            _ => Nest::LastClause,
+        }
+    }
+}
 
-pub const OF_CLAUSE: u32 = 3;
-
-pub const OF_LAST_CLAUSE: u32 = 4;
-
-// What to do: nothing more; go on, with an effect; open a group, with where to stand behind it; open a nest, with what it is and the
-// setting around it; ask, at `?`, and be answered, at its `:`.
+// What a token does where it may come: it goes on, with an effect; opens a group, with where to stand behind it; opens a nest, with what it
+// is and the setting around it; or is a `?`, or the `:` that answers one.
 #[derive(Clone, Copy)]
 pub enum Step {
-    Fail,
-    Goto(Control, u32),
-    Push(Control, u32),
-    Enter(u32, u32),
+    Goto(Control, Effect),
+    Push(Control, Closing),
+    Enter(Nest, u32),
     Ask,
     Turn,
 }
@@ -297,44 +292,45 @@ pub fn behind_statement(setting: u32) -> Control
 }
 
 // Where the inside of a group starts.
-pub fn inside_of(closing: u32) -> Control
+pub fn inside_of(closing: Closing) -> Control
     ensures { control_of result ≡ inside_by closing }
 {
     match closing {
-        TO_CALL => stand(ITEM_DUE, BY_ARGUMENT, BODY, true),
-        TO_OBJECT => stand(ITEM_DUE, BY_PROPERTY, BODY, true),
-        TO_PARAMETER => stand(PARAMETER_DUE, BY_PAREN, BODY, false),
-        TO_BLOCK => stand(STATEMENT_DUE, BY_STATEMENT, BLOCK, false),
-        TO_DECLARATION => stand(STATEMENT_DUE, BY_STATEMENT, BODY, false),
-        TO_FUNCTION => stand(STATEMENT_DUE, BY_STATEMENT, BODY, false),
-        TO_ARRAY => stand(ITEM_DUE, BY_ELEMENT, BODY, true),
-        TO_INDEX => stand(OPERAND_DUE, BY_BRACKET, BODY, true),
-        TO_FOR => stand(START_DUE, BY_LONE_START, BODY, true),
-        TO_CLAUSES => stand(CLAUSE_DUE, BY_CASE, CLAUSE, false),
-        TO_CATCH => stand(CATCH_DUE, BY_PAREN, BODY, true),
-        _ => stand(OPERAND_DUE, BY_PAREN, BODY, true),
+        Closing::Call => stand(ITEM_DUE, BY_ARGUMENT, BODY, true),
+        Closing::Object => stand(ITEM_DUE, BY_PROPERTY, BODY, true),
+        Closing::Parameter => stand(PARAMETER_DUE, BY_PAREN, BODY, false),
+        Closing::Block => stand(STATEMENT_DUE, BY_STATEMENT, BLOCK, false),
+        Closing::Declaration => stand(STATEMENT_DUE, BY_STATEMENT, BODY, false),
+        Closing::Function => stand(STATEMENT_DUE, BY_STATEMENT, BODY, false),
+        Closing::Array => stand(ITEM_DUE, BY_ELEMENT, BODY, true),
+        Closing::Index => stand(OPERAND_DUE, BY_BRACKET, BODY, true),
+        Closing::For => stand(START_DUE, BY_LONE_START, BODY, true),
+        Closing::Clauses => stand(CLAUSE_DUE, BY_CASE, CLAUSE, false),
+        Closing::Catch => stand(CATCH_DUE, BY_PAREN, BODY, true),
+        Closing::Parens | Closing::Condition | Closing::Head | Closing::Test | Closing::ForIn =>
+            stand(OPERAND_DUE, BY_PAREN, BODY, true),
     }
 }
 
 // A group whose inside has the statements of a scope, a body's or a block's.
-pub fn group_of(scope: u32) -> u32
+pub fn group_of(scope: u32) -> Closing
     ensures { scope ≤ 1 → inside_by result ≡ statement_due false (setting_by scope) }
 {
     match scope {
-        BODY => TO_FUNCTION,
-        _ => TO_BLOCK,
+        BODY => Closing::Function,
+        _ => Closing::Block,
     }
 }
 
 // Where the inside of a nest starts.
-pub fn entered(nest: u32) -> Control
+pub fn entered(nest: Nest) -> Control
     ensures { control_of result ≡ entered_by nest }
 {
     match nest {
-        OF_IF => stand(IF_FIRST, BY_STATEMENT, IF_NEST, true),
-        OF_DO => stand(STATEMENT_DUE, BY_STATEMENT, DO_NEST, true),
-        OF_TRY => stand(TRY_FIRST, BY_STATEMENT, BODY, true),
-        _ => stand(CLAUSE_STATEMENT, BY_STATEMENT, CLAUSE, false),
+        Nest::If => stand(IF_FIRST, BY_STATEMENT, IF_NEST, true),
+        Nest::Do => stand(STATEMENT_DUE, BY_STATEMENT, DO_NEST, true),
+        Nest::Try => stand(TRY_FIRST, BY_STATEMENT, BODY, true),
+        Nest::Clause | Nest::LastClause => stand(CLAUSE_STATEMENT, BY_STATEMENT, CLAUSE, false),
     }
 }
 

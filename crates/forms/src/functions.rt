@@ -4,16 +4,16 @@ ghost use Rattle.machine.specs.Machinery.Machine.{operand_in, function_first, lo
 ghost use Rattle.controls.specs.Machinery.Numbers.{ending_by, target_by, control_by};
 ghost use Rattle.controls.specs.Machinery.Steps.{Means};
 
-use crate::{goto, only, opens};
+use crate::{goto, only, opens, push};
 use controls::{
-    BODY, BY_PAREN, BY_STATEMENT, DECLARED_FIRST, DECLARED_NAMED, DECLARED_PAST, FUNCTION_FIRST,
-    FUNCTION_NAMED, KEEP, OPERAND_DONE, PARAMETER_DUE, PARAMETER_NAMED, PARAMETER_PAST,
-    STATEMENT_DUE, Step, TO_DECLARATION, TO_FUNCTION, TO_PARAMETER,
+    BODY, BY_PAREN, BY_STATEMENT, Closing, DECLARED_FIRST, DECLARED_NAMED, DECLARED_PAST, Effect,
+    FUNCTION_FIRST, FUNCTION_NAMED, OPERAND_DONE, PARAMETER_DUE, PARAMETER_NAMED, PARAMETER_PAST,
+    STATEMENT_DUE, Step,
 };
 use machine::tokens;
 
 // The places of a function's parameters, and of a function that is an operand.
-pub fn function_row(place: u32, ending: u32, setting: u32, flag: bool, class: u32) -> Step
+pub fn function_row(place: u32, ending: u32, setting: u32, flag: bool, class: u32) -> Option<Step>
     ensures { 33 ≤ place → place < 41 → (newline : Bool) → Means (control_by place ending setting flag) class result (look class (row (control_by place ending setting flag) newline)) }
 {
     match place {
@@ -24,7 +24,7 @@ pub fn function_row(place: u32, ending: u32, setting: u32, flag: bool, class: u3
             BY_PAREN,
             BODY,
             true,
-            KEEP,
+            Effect::Keep,
         ),
         PARAMETER_NAMED => only(
             class,
@@ -33,7 +33,7 @@ pub fn function_row(place: u32, ending: u32, setting: u32, flag: bool, class: u3
             BY_PAREN,
             BODY,
             true,
-            KEEP,
+            Effect::Keep,
         ),
         FUNCTION_FIRST => unnamed_row(ending, setting, flag, class),
         FUNCTION_NAMED => opens(
@@ -43,7 +43,7 @@ pub fn function_row(place: u32, ending: u32, setting: u32, flag: bool, class: u3
             ending,
             setting,
             flag,
-            TO_PARAMETER,
+            Closing::Parameter,
         ),
         PARAMETER_PAST => opens(
             class,
@@ -52,32 +52,25 @@ pub fn function_row(place: u32, ending: u32, setting: u32, flag: bool, class: u3
             ending,
             setting,
             flag,
-            TO_FUNCTION,
+            Closing::Function,
         ),
         _ => declared_row(place, class),
     }
 }
 
 // Behind `function` in an expression, which needs no name.
-fn unnamed_row(ending: u32, setting: u32, flag: bool, class: u32) -> Step
+fn unnamed_row(ending: u32, setting: u32, flag: bool, class: u32) -> Option<Step>
     ensures { Means (function_first (operand_in (ending_by ending setting) (target_by ending flag))) class result (look class (row (function_first (operand_in (ending_by ending setting) (target_by ending flag))) false)) }
 {
-    if class == tokens::NAME {
-        return goto(FUNCTION_NAMED, ending, setting, flag, KEEP);
+    match class {
+        tokens::NAME => goto(FUNCTION_NAMED, ending, setting, flag, Effect::Keep),
+        tokens::OPEN_PAREN => push(PARAMETER_PAST, ending, setting, flag, Closing::Parameter),
+        _ => None,
     }
-    opens(
-        class,
-        tokens::OPEN_PAREN,
-        PARAMETER_PAST,
-        ending,
-        setting,
-        flag,
-        TO_PARAMETER,
-    )
 }
 
 // The places of a function that is declared.
-fn declared_row(place: u32, class: u32) -> Step
+fn declared_row(place: u32, class: u32) -> Option<Step>
     ensures { 38 ≤ place → place < 41 → (ending setting : ℕ) (flag newline : Bool) → Means (control_by place ending setting flag) class result (look class (row (control_by place ending setting flag) newline)) }
 {
     match place {
@@ -88,7 +81,7 @@ fn declared_row(place: u32, class: u32) -> Step
             BY_STATEMENT,
             BODY,
             false,
-            KEEP,
+            Effect::Keep,
         ),
         DECLARED_NAMED => opens(
             class,
@@ -97,7 +90,7 @@ fn declared_row(place: u32, class: u32) -> Step
             BY_STATEMENT,
             BODY,
             false,
-            TO_PARAMETER,
+            Closing::Parameter,
         ),
         _ => opens(
             class,
@@ -106,7 +99,7 @@ fn declared_row(place: u32, class: u32) -> Step
             BY_STATEMENT,
             BODY,
             false,
-            TO_DECLARATION,
+            Closing::Declaration,
         ),
     }
 }

@@ -13,64 +13,55 @@ mod functions;
 mod statements;
 
 use controls::{
-    BODY, BY_ARGUMENT, BY_ELEMENT, BY_PROPERTY, BY_STATEMENT, CATCH_DONE, DOT_LAST, ELSE_NEST,
-    FINALLY_FIRST, FUNCTION_FIRST, HOLD_WORD, IF_FIRST, IF_NEST, ITEM_DUE, KEEP, MEMBER_DUE,
-    NAME_FIRST, OPERAND_DONE, OPERAND_DUE, PROPERTY_NAMED, START_STATEMENT, STATEMENT_DONE,
-    STATEMENT_DUE, SWITCH_PAST, Step, TAKE_ELSE, TAKE_LABEL, TAKE_LEAF, TAKE_MEMBER, TAKE_PREFIX,
-    TO_ARRAY, TO_CONDITION, TO_OBJECT, TO_PARENS, TRY_ENDED, bindings, stand,
+    BODY, BY_ARGUMENT, BY_ELEMENT, BY_PROPERTY, BY_STATEMENT, CATCH_DONE, Closing, DOT_LAST,
+    ELSE_NEST, Effect, FINALLY_FIRST, FUNCTION_FIRST, IF_FIRST, IF_NEST, ITEM_DUE, MEMBER_DUE,
+    NAME_FIRST, OPERAND_DONE, OPERAND_DUE, PROPERTY_NAMED, STATEMENT_DONE, STATEMENT_DUE,
+    SWITCH_PAST, Step, TRY_ENDED, bindings, stand,
 };
 use machine::tokens;
 
 // Goes on to where the parts say.
-pub fn goto(place: u32, ending: u32, setting: u32, flag: bool, effect: u32) -> Step
+pub fn goto(place: u32, ending: u32, setting: u32, flag: bool, effect: Effect) -> Option<Step>
     ensures { Goes result (control_by place ending setting flag) effect }
 {
-    Step::Goto(stand(place, ending, setting, flag), effect)
+    Some(Step::Goto(stand(place, ending, setting, flag), effect))
 }
 
 // Opens a group, behind which the machine stands where the parts say.
-pub fn push(place: u32, ending: u32, setting: u32, flag: bool, closing: u32) -> Step
+pub fn push(place: u32, ending: u32, setting: u32, flag: bool, closing: Closing) -> Option<Step>
     ensures { Opens result (control_by place ending setting flag) closing }
 {
-    Step::Push(stand(place, ending, setting, flag), closing)
+    Some(Step::Push(stand(place, ending, setting, flag), closing))
 }
 
 // Where an operand is due, and may be assigned to or not: an operator before one, or what `member_row` takes.
-pub fn operand_row(class: u32, ending: u32, setting: u32, target: bool) -> Step
+pub fn operand_row(class: u32, ending: u32, setting: u32, target: bool) -> Option<Step>
     ensures { (from : Rattle.machine.specs.Machinery.Machine.Control) (due : Due from (ending_by ending setting) (target_by ending target)) → T (takes_prefix due) → Means from class result (look class (operand (ending_by ending setting) (target_by ending target))) }
 {
     if class == tokens::NAME {
-        return goto(OPERAND_DONE, ending, setting, target, TAKE_LEAF);
+        return goto(OPERAND_DONE, ending, setting, target, Effect::TakeLeaf);
     }
     if bindings::is_prefix(class) {
-        return goto(OPERAND_DUE, ending, setting, false, TAKE_PREFIX);
+        return goto(OPERAND_DUE, ending, setting, false, Effect::TakePrefix);
     }
     member_row(class, ending, setting, target)
 }
 
 // Behind `new`, where no operator may come.
-fn member_row(class: u32, ending: u32, setting: u32, target: bool) -> Step
+fn member_row(class: u32, ending: u32, setting: u32, target: bool) -> Option<Step>
     ensures { (from : Rattle.machine.specs.Machinery.Machine.Control) → Due from (ending_by ending setting) (target_by ending target) → Means from class result (look class (member (ending_by ending setting) (target_by ending target))) }
 {
     if controls::is_leaf(class) {
-        return goto(OPERAND_DONE, ending, setting, target, TAKE_LEAF);
+        return goto(OPERAND_DONE, ending, setting, target, Effect::TakeLeaf);
     }
-    if class == tokens::OPEN_PAREN {
-        return push(OPERAND_DONE, ending, setting, target, TO_PARENS);
+    match class {
+        tokens::OPEN_PAREN => push(OPERAND_DONE, ending, setting, target, Closing::Parens),
+        tokens::OPEN_BRACE => push(OPERAND_DONE, ending, setting, target, Closing::Object),
+        tokens::OPEN_BRACKET => push(OPERAND_DONE, ending, setting, target, Closing::Array),
+        tokens::FUNCTION => goto(FUNCTION_FIRST, ending, setting, target, Effect::HoldWord),
+        tokens::NEW => goto(MEMBER_DUE, ending, setting, target, Effect::TakePrefix),
+        _ => None,
     }
-    if class == tokens::OPEN_BRACE {
-        return push(OPERAND_DONE, ending, setting, target, TO_OBJECT);
-    }
-    if class == tokens::OPEN_BRACKET {
-        return push(OPERAND_DONE, ending, setting, target, TO_ARRAY);
-    }
-    if class == tokens::FUNCTION {
-        return goto(FUNCTION_FIRST, ending, setting, target, HOLD_WORD);
-    }
-    if class == tokens::NEW {
-        return goto(MEMBER_DUE, ending, setting, target, TAKE_PREFIX);
-    }
-    Step::Fail
 }
 
 // One class goes on, and no other.
@@ -81,27 +72,32 @@ fn only(
     ending: u32,
     setting: u32,
     flag: bool,
-    effect: u32,
-) -> Step
+    effect: Effect,
+) -> Option<Step>
     ensures { (from : Rattle.machine.specs.Machinery.Machine.Control) → T (is_single one) → Leads (effect_by effect one) from (control_by place ending setting flag) → Means from class result (look class (on one (goto (control_by place ending setting flag) (effect_by effect one)) ∷ [])) }
 {
     if class == one {
-        return goto(place, ending, setting, flag, effect);
+        goto(place, ending, setting, flag, effect)
+    } else {
+        None
     }
-    Step::Fail
 }
 
 // A name goes on, and so does a reserved word that is taken as one; no other class does.
-fn only_names(class: u32, place: u32, ending: u32, setting: u32, flag: bool, effect: u32) -> Step
+fn only_names(
+    class: u32,
+    place: u32,
+    ending: u32,
+    setting: u32,
+    flag: bool,
+    effect: Effect,
+) -> Option<Step>
     ensures { (from : Rattle.machine.specs.Machinery.Machine.Control) → Leads (effect_by effect class) from (control_by place ending setting flag) → Means from class result (look class (names (goto (control_by place ending setting flag) (effect_by effect class)) [])) }
 {
-    if class == tokens::NAME {
-        return goto(place, ending, setting, flag, effect);
+    match class {
+        tokens::NAME | tokens::WORD_NAME => goto(place, ending, setting, flag, effect),
+        _ => None,
     }
-    if class == tokens::WORD_NAME {
-        return goto(place, ending, setting, flag, effect);
-    }
-    Step::Fail
 }
 
 // One class opens a group, and no other does anything.
@@ -112,18 +108,19 @@ fn opens(
     ending: u32,
     setting: u32,
     flag: bool,
-    closing: u32,
-) -> Step
+    closing: Closing,
+) -> Option<Step>
     ensures { (from : Rattle.machine.specs.Machinery.Machine.Control) → T (is_opener one) → Spans (closing_by closing) from (control_by place ending setting flag) → Means from class result (look class (on one (push (inside_by closing) (control_by place ending setting flag) (closing_by closing)) ∷ [])) }
 {
     if class == one {
-        return push(place, ending, setting, flag, closing);
+        push(place, ending, setting, flag, closing)
+    } else {
+        None
     }
-    Step::Fail
 }
 
 // A head in parentheses, behind which the machine stands at a place.
-fn head_row(class: u32, place: u32, setting: u32, closing: u32) -> Step
+fn head_row(class: u32, place: u32, setting: u32, closing: Closing) -> Option<Step>
     ensures { (from : Rattle.machine.specs.Machinery.Machine.Control) → Spans (closing_by closing) from (control_by place 0 setting true) → Means from class result (look class (on open_paren (push (inside_by closing) (control_by place 0 setting true) (closing_by closing)) ∷ [])) }
 {
     opens(
@@ -138,34 +135,39 @@ fn head_row(class: u32, place: u32, setting: u32, closing: u32) -> Step
 }
 
 // An element of an array, or the `,` of a hole.
-fn element_row(class: u32) -> Step
+fn element_row(class: u32) -> Option<Step>
     ensures { Means (item_due array_elements) class result (look class (item_row array_elements)) }
 {
-    if class == tokens::COMMA {
-        return goto(ITEM_DUE, BY_ELEMENT, BODY, true, KEEP);
+    match class {
+        tokens::COMMA => goto(ITEM_DUE, BY_ELEMENT, BODY, true, Effect::Keep),
+        _ => operand_row(class, BY_ELEMENT, BODY, true),
     }
-    operand_row(class, BY_ELEMENT, BODY, true)
 }
 
 // Where an item of a list is due.
-fn item_row(class: u32, ending: u32) -> Step
+fn item_row(class: u32, ending: u32) -> Option<Step>
     ensures { Means (item_due (items_by ending)) class result (look class (item_row (items_by ending))) }
 {
-    if ending == BY_ARGUMENT {
-        return operand_row(class, BY_ARGUMENT, BODY, true);
+    match ending {
+        BY_ARGUMENT => operand_row(class, BY_ARGUMENT, BODY, true),
+        BY_ELEMENT => element_row(class),
+        _ => only_names(class, PROPERTY_NAMED, BY_PROPERTY, BODY, true, Effect::Keep),
     }
-    if ending == BY_ELEMENT {
-        return element_row(class);
-    }
-    only_names(class, PROPERTY_NAMED, BY_PROPERTY, BODY, true, KEEP)
 }
 
 // The places inside a form whose next token is settled, from `MEMBER_DUE` on.
-pub fn form_row(place: u32, ending: u32, setting: u32, flag: bool, class: u32) -> Step
+pub fn form_row(place: u32, ending: u32, setting: u32, flag: bool, class: u32) -> Option<Step>
     ensures { 12 ≤ place → place < 45 → SettledAt place setting class → (newline : Bool) → Means (control_by place ending setting flag) class result (look class (row (control_by place ending setting flag) newline)) }
 {
     match place {
-        DOT_LAST => only_names(class, OPERAND_DONE, ending, setting, flag, TAKE_MEMBER),
+        DOT_LAST => only_names(
+            class,
+            OPERAND_DONE,
+            ending,
+            setting,
+            flag,
+            Effect::TakeMember,
+        ),
         NAME_FIRST => only(
             class,
             tokens::COLON,
@@ -173,9 +175,9 @@ pub fn form_row(place: u32, ending: u32, setting: u32, flag: bool, class: u32) -
             BY_STATEMENT,
             setting,
             true,
-            TAKE_LABEL,
+            Effect::TakeLabel,
         ),
-        IF_FIRST => head_row(class, STATEMENT_DUE, IF_NEST, TO_CONDITION),
+        IF_FIRST => head_row(class, STATEMENT_DUE, IF_NEST, Closing::Condition),
         ITEM_DUE => item_row(class, ending),
         MEMBER_DUE => member_row(class, ending, setting, flag),
         PROPERTY_NAMED => only(
@@ -185,17 +187,29 @@ pub fn form_row(place: u32, ending: u32, setting: u32, flag: bool, class: u32) -
             BY_PROPERTY,
             BODY,
             true,
-            KEEP,
+            Effect::Keep,
         ),
-        STATEMENT_DONE => goto(STATEMENT_DUE, BY_STATEMENT, ELSE_NEST, true, TAKE_ELSE),
-        CATCH_DONE => goto(FINALLY_FIRST, BY_STATEMENT, BODY, true, START_STATEMENT),
-        TRY_ENDED => Step::Fail,
+        STATEMENT_DONE => goto(
+            STATEMENT_DUE,
+            BY_STATEMENT,
+            ELSE_NEST,
+            true,
+            Effect::TakeElse,
+        ),
+        CATCH_DONE => goto(
+            FINALLY_FIRST,
+            BY_STATEMENT,
+            BODY,
+            true,
+            Effect::StartStatement,
+        ),
+        TRY_ENDED => None,
         _ => later_row(place, ending, setting, flag, class),
     }
 }
 
 // The places of statements that start with a word, and of functions.
-fn later_row(place: u32, ending: u32, setting: u32, flag: bool, class: u32) -> Step
+fn later_row(place: u32, ending: u32, setting: u32, flag: bool, class: u32) -> Option<Step>
     ensures { 17 ≤ place → place < 41 → (newline : Bool) → Means (control_by place ending setting flag) class result (look class (row (control_by place ending setting flag) newline)) }
 {
     if place <= SWITCH_PAST {

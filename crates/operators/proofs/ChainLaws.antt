@@ -9,19 +9,21 @@ use lib.Dec.{T, eqb}
 use Rattle.machine.specs.Tokens.{in_word, comma, dot, open_paren, open_bracket}
 use Rattle.machine.specs.Operators.{assignment_operators, postfix_operators, is_among}
 use Rattle.machine.specs.Machinery.Machine.{Target, some_target, takes_in, Ending, by_object, Control, operand_due, operand_done, postfix_done, Entry, look, in_entry, after_unary, assignment_row, postfix_row, after_operand, row}
+use Rattle.std.specs.Prelude.{Option}
 use Rattle.controls.specs.declared.Step.{Step}
-use Rattle.controls.specs.Machinery.Numbers.{ending_by, target_by, effect_by}
+use Rattle.controls.specs.declared.Effect.TheVariants.{TakeOperator, TakePostfix, EndValue}
+use Rattle.controls.specs.Machinery.Numbers.{ending_by, target_by}
 use Rattle.controls.specs.Machinery.Steps.{Ended, ended_operand, ended_postfix, before_target, to_assign, to-object, to_postfix, Goes, Means}
 use Rattle.controls.proofs.ClassLaws.{among_all}
 use Rattle.operators.proofs.EndingLaws.{some-target, is-target, no_in_entry, postfix_next, no_postfix, assignment_next, no_assignment, neither_next}
 
 -- what the machine does there, by whether it is a chain
-abbrev Behind : Ending → Target → Bool → ℕ → Step → Bool → Type 0
+abbrev Behind : Ending → Target → Bool → ℕ → Option Step → Bool → Type 0
 Behind ending target chain class step newline =
     Means (cond chain (operand_done ending target) (postfix_done ending)) class step (look class (row (cond chain (operand_done ending target) (postfix_done ending)) newline))
 
 -- a token that a chain does not take first is taken behind a Unary
-pub behind-unary : {class : ℕ} {step : Step} (ending : Ending) (target : Target) (newline chain : Bool)
+pub behind-unary : {class : ℕ} {step : Option Step} (ending : Ending) (target : Target) (newline chain : Bool)
     → (chain ≡ true → look class (after_operand ending target newline) ≡ look class (after_unary ending))
     → ((from : Control) → Ended from ending → Means from class step (look class (after_unary ending)))
     → Behind ending target chain class step newline
@@ -46,9 +48,8 @@ module _ (class ending setting : ℕ) (few : class < comma) where
   no_link _ newline =
       rw (ne_eqb class dot (λ e. omega arith), ne_eqb class open_paren (λ e. omega arith), ne_eqb class open_bracket (λ e. omega arith))
 
-  pub assigns : {step : Step} (newline chain target : Bool) → Goes step (operand_due here some_target) 3
+  pub assigns : {step : Option Step} (newline chain target : Bool) → Goes step (operand_due here some_target) TakeOperator
       → (chain && (target && is_among assignment_operators class)) ≡ true → Behind here (target_by ending target) chain class step newline
-  unfolding effect_by
   assigns newline false target goes is = absurd (false≢true is)
   assigns newline true false goes is = absurd (false≢true is)
   assigns newline true true goes is =
@@ -58,9 +59,9 @@ module _ (class ending setting : ℕ) (few : class < comma) where
       rw (no_link target newline, no_in_entry class (λ e. false≢true (rw e at is)) (takes_in here target) (assignment_row here target rest), o.0)
       (goes _ _ o.1 (to_assign (is-target ending) (subst T (sym is) tt)))
 
-  pub heads : {step : Step} (newline chain target : Bool) → Goes step (operand_due by_object some_target) 9
+  pub heads : {step : Option Step} (newline chain target : Bool) → Goes step (operand_due by_object some_target) EndValue
       → (chain && (target && (eqb class in_word && eqb ending 5))) ≡ true → Behind here (target_by ending target) chain class step newline
-  unfolding ending_by target_by effect_by
+  unfolding ending_by target_by
   heads newline false target goes is = absurd (false≢true is)
   heads newline true false goes is = absurd (false≢true is)
   heads {step} newline true true goes is = go (eqb class in_word) (eqb ending 5) refl refl is
@@ -72,9 +73,8 @@ module _ (class ending setting : ℕ) (few : class < comma) where
           subst (λ c. Behind here (target_by ending true) true c step newline) (sym (eqb-true class in_word e))
           (subst (λ n. Behind (ending_by n setting) (target_by n true) true in_word step newline) (sym (eqb-true ending 5 f)) (goes _ _ tt (to-object (before_target tt))))
 
-  pub increments : {step : Step} (newline chain target : Bool) → Goes step (postfix_done here) 12
+  pub increments : {step : Option Step} (newline chain target : Bool) → Goes step (postfix_done here) TakePostfix
       → (chain && (not newline && is_among postfix_operators class)) ≡ true → Behind here (target_by ending target) chain class step newline
-  unfolding effect_by
   increments newline false target goes is = absurd (false≢true is)
   increments true true target goes is = absurd (false≢true is)
   increments false true flag goes is =

@@ -8,8 +8,8 @@ use lib.Dec.{T, eqb, ltb}
 use Rattle.machine.specs.Tokens.{semicolon, var_word}
 use Rattle.machine.specs.Operators.{is_among}
 use Rattle.machine.specs.Machinery.Machine.{some_target, by_step, Control, return_first, throw_first, start_due, test_due, step_due, Entry, fail, look, operand, unless_line, row}
+use Rattle.std.specs.Prelude.{Option, None}
 use Rattle.controls.specs.declared.Step.{Step}
-use Rattle.controls.specs.declared.Step.TheVariants.{Fail}
 use Rattle.controls.specs.Machinery.Numbers.{setting_by, ending_by, target_by, control_by}
 use Rattle.controls.specs.Machinery.Steps.{Due, due_value, due_thrown, due_start, due_test, due_step, takes_prefix, Means, means_fail}
 use Rattle.controls.proofs.EndLaws.{besides_closers}
@@ -44,14 +44,14 @@ abbrev ending_at : ℕ → ℕ
 ending_at place = cond (eqb place 9) 5 (cond (eqb place 10) 7 (cond (eqb place 11) 10 1))
 
 module _ {class : ℕ} (ending setting : ℕ) (flag newline : Bool) (no-semicolon : class ≡ semicolon → ⊥) where
-  abbrev At : Step → ℕ → Type 0
+  abbrev At : Option Step → ℕ → Type 0
   At step place = Means (control_by place ending setting flag) class step (look class (row (control_by place ending setting flag) newline))
 
   -- on the next line nothing comes behind `return` or `throw`
-  pub barred : (place : ℕ) → T (is_among (1 ∷ 5 ∷ 9 ∷ 10 ∷ 11 ∷ []) place) → (ltb place 9 && newline) ≡ true → At Fail place
+  pub barred : (place : ℕ) → T (is_among (1 ∷ 5 ∷ 9 ∷ 10 ∷ 11 ∷ []) place) → (ltb place 9 && newline) ≡ true → At None place
   unfolding control_by
   barred =
-      at_due (λ place. (ltb place 9 && newline) ≡ true → At Fail place)
+      at_due (λ place. (ltb place 9 && newline) ≡ true → At None place)
       (λ b. rw (b, ne_eqb class semicolon no-semicolon) means_fail)
       (λ b. rw b means_fail)
       (λ b. absurd (false≢true b))
@@ -59,7 +59,7 @@ module _ {class : ℕ} (ending setting : ℕ) (flag newline : Bool) (no-semicolo
       (λ b. absurd (false≢true b))
 
   -- else an operand does
-  pub operand-due : {step : Step} → (class ≡ var_word → ⊥) → (place : ℕ) → T (is_among (1 ∷ 5 ∷ 9 ∷ 10 ∷ 11 ∷ []) place) → (ltb place 9 && newline) ≡ false
+  pub operand-due : {step : Option Step} → (class ≡ var_word → ⊥) → (place : ℕ) → T (is_among (1 ∷ 5 ∷ 9 ∷ 10 ∷ 11 ∷ []) place) → (ltb place 9 && newline) ≡ false
       → ((from : Control) (due : Due from (ending_by (ending_at place) setting) (target_by (ending_at place) true)) → T (takes_prefix due) → Means from class step (look class (operand (ending_by (ending_at place) setting) (target_by (ending_at place) true))))
       → At step place
   unfolding ending_by target_by control_by

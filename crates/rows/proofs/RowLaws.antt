@@ -10,6 +10,7 @@ use Rattle.machine.specs.Tokens.{name, semicolon, comma, open_paren, open_brace,
 use Rattle.machine.specs.Operators.{prefix_operators, prefix_kind}
 use Rattle.machine.specs.Scopes.{array_elements, body, block}
 use Rattle.machine.specs.Machinery.Machine.{end_of_text, Nest, Setting, among, in_clause, in_nest, no_target, some_target, Ending, by_statement, by_paren, declared, Control, statement_due, function_first, operand_due, member_due, operand_done, item_due, hold_word, take_leaf, take_prefix, to_parens, to_array, Entry, on, fail, goto, push, look, primaries, values, word_row, beginnings, operand, no_statement, row}
+use Rattle.std.specs.Prelude.{Option}
 use Rattle.controls.specs.declared.Step.{Step}
 use Rattle.controls.specs.Machinery.Numbers.{setting_by, nest_by, must_by}
 use Rattle.controls.specs.Machinery.Steps.{Means}
@@ -72,7 +73,7 @@ no_word_class class none word low high same =
 -- a class that starts no statement of its own starts an operand, or ends the level
 pub statement_operand : {class : ℕ} → (class ≡ name → ⊥) → (class ≡ if_word → ⊥) → (class ≡ return_word → ⊥) → (class ≡ open_brace → ⊥)
     → (class ≡ function_word → ⊥) → (class ≡ semicolon → ⊥) → ((word : ℕ) → comma < word → word ≤ debugger_word → class ≡ word → ⊥)
-    → {from : Control} {step : Step} (must : Bool) (setting : Setting) (newline : Bool)
+    → {from : Control} {step : Option Step} (must : Bool) (setting : Setting) (newline : Bool)
     → (NoCloser class → look class (no_statement must setting) ≡ fail)
     → Means from class step (look class (operand (by_statement setting) some_target))
     → Means from class step (look class (row (statement_due must setting) newline))
@@ -131,7 +132,7 @@ pub clause_goes_on : (class : ℕ) → (class ≡ case_word → ⊥) → (class 
 clause_goes_on class a b c = rw (ne_eqb class case_word a, ne_eqb class default_word b, ne_eqb class close_brace c)
 
 -- a function is declared where no statement must come
-pub declares : {step : Step} → Means (statement_due false (among body)) function_word step (goto (function_first declared) hold_word) → (must : Bool)
+pub declares : {step : Option Step} → Means (statement_due false (among body)) function_word step (goto (function_first declared) hold_word) → (must : Bool)
     → look function_word (no_statement must (among body)) ≡ goto (function_first declared) hold_word
     → Means (statement_due must (among body)) function_word step (look function_word (no_statement must (among body)))
 declares m true e =

@@ -11,11 +11,10 @@ ghost use Rattle.controls.specs.Machinery.Steps.{Leads, Means, Settled};
 
 use controls::{
     BODY, BY_FIRST_VARIABLE, BY_LATER_VARIABLE, BY_LONE_START, BY_RETURN, BY_STATEMENT, BY_STEP,
-    BY_TEST, BY_VARIABLE, CLAUSE, CLAUSE_STATEMENT, Control, DECLARED_FIRST, DO_NEST, END_BARE,
-    END_EMPTY, END_VALUE, FOR_FIRST, HEAD_FIRST, HOLD_NAME, HOLD_WORD, JUMP_FIRST, KEEP,
-    MEMBER_DUE, NAME_FIRST, OF_DO, OF_IF, OF_TRY, OPERAND_DONE, OPERAND_DUE, POSTFIX_DONE,
-    RETURN_FIRST, SEMICOLON_DUE, START_DUE, START_STATEMENT, STATEMENT_DUE, STEP_DUE, SWITCH_FIRST,
-    Step, TEST_DUE, THROW_FIRST, TO_BLOCK, VARIABLE_DUE, VARIABLE_NAMED, behind_statement,
+    BY_TEST, BY_VARIABLE, CLAUSE, CLAUSE_STATEMENT, Closing, Control, DECLARED_FIRST, DO_NEST,
+    Effect, FOR_FIRST, HEAD_FIRST, JUMP_FIRST, MEMBER_DUE, NAME_FIRST, Nest, OPERAND_DONE,
+    OPERAND_DUE, POSTFIX_DONE, RETURN_FIRST, SEMICOLON_DUE, START_DUE, STATEMENT_DUE, STEP_DUE,
+    SWITCH_FIRST, Step, TEST_DUE, THROW_FIRST, VARIABLE_DUE, VARIABLE_NAMED, behind_statement,
 };
 use forms::{form_row, goto, operand_row};
 use machine::tokens;
@@ -32,98 +31,149 @@ fn setting_number(setting: u32) -> u32
 }
 
 // `function` where a statement is due: a declaration, in a body where none must come.
-fn declaration_row(setting: u32, must: bool) -> Step
+fn declaration_row(setting: u32, must: bool) -> Option<Step>
     ensures { (must' : Bool) → look function_word (no_statement must' (setting_by setting)) ≡ look function_word (no_statement (must_by must setting) (setting_by setting)) → Means (statement_due must' (setting_by setting)) function_word result (look function_word (no_statement must' (setting_by setting))) }
 {
     if must {
-        return Step::Fail;
+        return None;
     }
     if setting == BODY {
-        return goto(DECLARED_FIRST, BY_STATEMENT, BODY, false, HOLD_WORD);
+        return goto(DECLARED_FIRST, BY_STATEMENT, BODY, false, Effect::HoldWord);
     }
-    Step::Fail
+    None
 }
 
 // The words of statements follow the operators, but for `if`, `return` and `function`, which stand among the signs.
 fn is_statement_word(class: u32) -> bool
     ensures { result ≡ (ltb comma class && leb class debugger_word) }
 {
-    if class <= tokens::COMMA {
-        return false;
-    }
-    class <= tokens::DEBUGGER
+    matches!(class, tokens::VAR..=tokens::DEBUGGER)
 }
 
 // Where a statement is due, or another may come and no token ends the statements there.
-fn statement_row(class: u32, setting: u32, must: bool) -> Step
+fn statement_row(class: u32, setting: u32, must: bool) -> Option<Step>
     ensures { (must' newline : Bool) → look class (no_statement must' (setting_by setting)) ≡ look class (no_statement (must_by must setting) (setting_by setting)) → Means (statement_due must' (setting_by setting)) class result (look class (row (statement_due must' (setting_by setting)) newline)) }
 {
     if class == tokens::NAME {
-        return goto(NAME_FIRST, BY_STATEMENT, setting, true, HOLD_NAME);
+        return goto(NAME_FIRST, BY_STATEMENT, setting, true, Effect::HoldName);
     }
     if is_statement_word(class) {
         return word_row(class, setting);
     }
     if class == tokens::IF {
-        return Step::Enter(OF_IF, setting_number(setting));
+        return Some(Step::Enter(Nest::If, setting_number(setting)));
     }
     if class == tokens::RETURN {
-        return goto(RETURN_FIRST, BY_RETURN, setting, true, START_STATEMENT);
+        return goto(
+            RETURN_FIRST,
+            BY_RETURN,
+            setting,
+            true,
+            Effect::StartStatement,
+        );
     }
     if class == tokens::OPEN_BRACE {
-        return Step::Push(behind_statement(setting), TO_BLOCK);
+        return Some(Step::Push(behind_statement(setting), Closing::Block));
     }
     if class == tokens::FUNCTION {
         return declaration_row(setting, must);
     }
     if class == tokens::SEMICOLON {
-        return end_statement(setting, END_EMPTY);
+        return end_statement(setting, Effect::EndEmpty);
     }
     operand_row(class, BY_STATEMENT, setting, true)
 }
 
 // The statements that start with a word, but for `if` and `return`.
-fn word_row(class: u32, setting: u32) -> Step
+fn word_row(class: u32, setting: u32) -> Option<Step>
     ensures { (must : Bool) → (class ≡ semicolon → ⊥) → Means (statement_due must (setting_by setting)) class result (look class (word_row (setting_by setting) [])) }
 {
     match class {
-        tokens::VAR => goto(VARIABLE_DUE, BY_VARIABLE, setting, true, START_STATEMENT),
-        tokens::DO => Step::Enter(OF_DO, setting_number(setting)),
-        tokens::TRY => Step::Enter(OF_TRY, setting_number(setting)),
-        tokens::FOR => goto(FOR_FIRST, BY_STATEMENT, setting, true, START_STATEMENT),
-        tokens::SWITCH => goto(SWITCH_FIRST, BY_STATEMENT, setting, true, START_STATEMENT),
+        tokens::VAR => goto(
+            VARIABLE_DUE,
+            BY_VARIABLE,
+            setting,
+            true,
+            Effect::StartStatement,
+        ),
+        tokens::DO => Some(Step::Enter(Nest::Do, setting_number(setting))),
+        tokens::TRY => Some(Step::Enter(Nest::Try, setting_number(setting))),
+        tokens::FOR => goto(
+            FOR_FIRST,
+            BY_STATEMENT,
+            setting,
+            true,
+            Effect::StartStatement,
+        ),
+        tokens::SWITCH => goto(
+            SWITCH_FIRST,
+            BY_STATEMENT,
+            setting,
+            true,
+            Effect::StartStatement,
+        ),
         tokens::WHILE | tokens::WITH => {
-            goto(HEAD_FIRST, BY_STATEMENT, setting, true, START_STATEMENT)
+            goto(
+                HEAD_FIRST,
+                BY_STATEMENT,
+                setting,
+                true,
+                Effect::StartStatement,
+            )
         }
         tokens::CONTINUE | tokens::BREAK => {
-            goto(JUMP_FIRST, BY_STATEMENT, setting, true, START_STATEMENT)
+            goto(
+                JUMP_FIRST,
+                BY_STATEMENT,
+                setting,
+                true,
+                Effect::StartStatement,
+            )
         }
-        tokens::THROW => goto(THROW_FIRST, BY_RETURN, setting, true, START_STATEMENT),
-        tokens::DEBUGGER => goto(SEMICOLON_DUE, BY_STATEMENT, setting, true, START_STATEMENT),
-        _ => Step::Fail,
+        tokens::THROW => goto(
+            THROW_FIRST,
+            BY_RETURN,
+            setting,
+            true,
+            Effect::StartStatement,
+        ),
+        tokens::DEBUGGER => goto(
+            SEMICOLON_DUE,
+            BY_STATEMENT,
+            setting,
+            true,
+            Effect::StartStatement,
+        ),
+        _ => None,
     }
 }
 
 // `;` where an expression is due: behind `return` and in the head of a `for` it may be left out.
-fn left_out_row(place: u32, setting: u32) -> Step
+fn left_out_row(place: u32, setting: u32) -> Option<Step>
     ensures { (ending : ℕ) (flag newline : Bool) → T (is_among (1 ∷ 5 ∷ 9 ∷ 10 ∷ 11 ∷ []) place) → Means (control_by place ending setting flag) semicolon result (look semicolon (row (control_by place ending setting flag) newline)) }
 {
     match place {
-        RETURN_FIRST => end_statement(setting, END_BARE),
-        START_DUE => goto(TEST_DUE, BY_TEST, BODY, true, END_VALUE),
-        TEST_DUE => goto(STEP_DUE, BY_STEP, BODY, true, END_VALUE),
-        _ => Step::Fail,
+        RETURN_FIRST => end_statement(setting, Effect::EndBare),
+        START_DUE => goto(TEST_DUE, BY_TEST, BODY, true, Effect::EndValue),
+        TEST_DUE => goto(STEP_DUE, BY_STEP, BODY, true, Effect::EndValue),
+        _ => None,
     }
 }
 
 // `var` there: the head of a `for` may start with it.
-fn head_variable_row(place: u32) -> Step
+fn head_variable_row(place: u32) -> Option<Step>
     ensures { (ending setting : ℕ) (flag newline : Bool) → T (is_among (1 ∷ 5 ∷ 9 ∷ 10 ∷ 11 ∷ []) place) → Means (control_by place ending setting flag) var_word result (look var_word (row (control_by place ending setting flag) newline)) }
 {
     if place == START_DUE {
-        return goto(VARIABLE_DUE, BY_FIRST_VARIABLE, BODY, true, START_STATEMENT);
+        return goto(
+            VARIABLE_DUE,
+            BY_FIRST_VARIABLE,
+            BODY,
+            true,
+            Effect::StartStatement,
+        );
     }
-    Step::Fail
+    None
 }
 
 // What ends the expression that is due.
@@ -149,7 +199,7 @@ fn bars_line(place: u32, newline: bool) -> bool
 }
 
 // Behind `return` or `throw`, and in the head of a `for`: one row, with one call of `operand_row`.
-fn due_row(place: u32, class: u32, setting: u32, newline: bool) -> Step
+fn due_row(place: u32, class: u32, setting: u32, newline: bool) -> Option<Step>
     ensures { (ending : ℕ) (flag : Bool) → T (is_among (1 ∷ 5 ∷ 9 ∷ 10 ∷ 11 ∷ []) place) → Means (control_by place ending setting flag) class result (look class (row (control_by place ending setting flag) newline)) }
 {
     if class == tokens::SEMICOLON {
@@ -159,33 +209,39 @@ fn due_row(place: u32, class: u32, setting: u32, newline: bool) -> Step
         return head_variable_row(place);
     }
     if bars_line(place, newline) {
-        return Step::Fail;
+        return None;
     }
     operand_row(class, due_ending(place), setting, true)
 }
 
 // Behind `continue` or `break`.
-fn jump_row(class: u32, setting: u32, newline: bool) -> Step
+fn jump_row(class: u32, setting: u32, newline: bool) -> Option<Step>
     ensures { Means (jump_first (setting_by setting)) class result (look class (row (jump_first (setting_by setting)) newline)) }
 {
     if class == tokens::SEMICOLON {
-        return end_statement(setting, END_BARE);
+        return end_statement(setting, Effect::EndBare);
     }
     if newline {
-        return Step::Fail;
+        return None;
     }
     if class == tokens::NAME {
-        return goto(SEMICOLON_DUE, BY_STATEMENT, setting, true, KEEP);
+        return goto(SEMICOLON_DUE, BY_STATEMENT, setting, true, Effect::Keep);
     }
-    Step::Fail
+    None
 }
 
 // Behind the name of a variable.
-fn variable_row(class: u32, ending: u32, setting: u32) -> Step
+fn variable_row(class: u32, ending: u32, setting: u32) -> Option<Step>
     ensures { Means (variable_named (variables_by ending setting)) class result (look class (row (variable_named (variables_by ending setting)) false)) }
 {
     if class == tokens::ASSIGN {
-        return goto(OPERAND_DUE, variable_ending(ending), setting, true, KEEP);
+        return goto(
+            OPERAND_DUE,
+            variable_ending(ending),
+            setting,
+            true,
+            Effect::Keep,
+        );
     }
     if class == tokens::COMMA {
         return next_variable(ending, setting);
@@ -194,12 +250,12 @@ fn variable_row(class: u32, ending: u32, setting: u32) -> Step
         return variables_end(variable_ending(ending), setting);
     }
     if class != tokens::IN {
-        return Step::Fail;
+        return None;
     }
     if ending == BY_FIRST_VARIABLE {
         return in_row();
     }
-    Step::Fail
+    None
 }
 
 // What ends a variable, by where it stands: any number but those of a head is that of a statement.
@@ -216,13 +272,13 @@ fn variable_ending(ending: u32) -> u32
 }
 
 // Only `;` may come, with which a statement ends.
-fn semicolon_due(class: u32, setting: u32) -> Step
+fn semicolon_due(class: u32, setting: u32) -> Option<Step>
     ensures { (from : Rattle.machine.specs.Machinery.Machine.Control) → Leads end_value from (behind_statement (setting_by setting)) → Means from class result (look class (on semicolon (goto (behind_statement (setting_by setting)) end_value) ∷ [])) }
 {
     if class == tokens::SEMICOLON {
-        return end_statement(setting, END_VALUE);
+        return end_statement(setting, Effect::EndValue);
     }
-    Step::Fail
+    None
 }
 
 // The setting of a statement that is due.
@@ -246,7 +302,7 @@ fn is_in_form(place: u32) -> bool
 }
 
 // The machine's table, for a token that a record makes.
-pub fn row(at: Control, class: u32, newline: bool) -> Step
+pub fn row(at: Control, class: u32, newline: bool) -> Option<Step>
     ensures { Settled at class → Means (control_of at) class result (look class (row (control_of at) newline)) }
 {
     let place = at.place;

@@ -1,5 +1,5 @@
--- The machine's controls, effects and groups as the code numbers them. Machinery.
-use Rattle.std.specs.Prelude.{ℕ, Bool, true, false, cond, ◌||◌, eqb, ltb, leb}
+-- The machine's controls, effects, groups and nests as the code has them. Machinery.
+use Rattle.std.specs.Prelude.{ℕ, Bool, true, false, cond, ◌||◌, eqb, leb}
 use Rattle.machine.specs.Tokens.{name, return_word}
 use Rattle.machine.specs.Operators.{prefix_kind, postfix_kind}
 use Rattle.machine.specs.Syntax.{full_return_syntax, variable_syntax}
@@ -118,6 +118,12 @@ use Rattle.machine.specs.Machinery.Machine.{
   finished,
 }
 use Rattle.controls.specs.declared.Control as code
+use Rattle.controls.specs.declared.Effect as effects
+use Rattle.controls.specs.declared.Effect.TheVariants as does
+use Rattle.controls.specs.declared.Closing as closings
+use Rattle.controls.specs.declared.Closing.TheVariants as group
+use Rattle.controls.specs.declared.Nest as nests
+use Rattle.controls.specs.declared.Nest.TheVariants as kind
 
 -- settings of statements, nests, lists by what ends their items, variables and what ends an expression
 unfoldable pub setting_by : ℕ → Setting
@@ -224,75 +230,102 @@ unfoldable pub start_kind : ℕ → ℕ
 start_kind class = cond (eqb class return_word) full_return_syntax (cond (eqb class name) variable_syntax class)
 
 -- effects, of a token of a class
-unfoldable pub effect_by : ℕ → ℕ → Effect
-effect_by number class =
-    cond (eqb number 1) (take_leaf class)
-    (cond (eqb number 2) take_member
-    (cond (eqb number 3) (take_operator class)
-    (cond (eqb number 4) take_label
-    (cond (eqb number 5) hold_word
-    (cond (eqb number 6) take_name
-    (cond (eqb number 7) (start_statement (start_kind class))
-    (cond (eqb number 8) end_expression
-    (cond (eqb number 9) end_value
-    (cond (eqb number 10) end_bare
-    (cond (eqb number 11) (take_prefix (prefix_kind class))
-    (cond (eqb number 12) (take_postfix (postfix_kind class))
-    (cond (eqb number 13) end_empty
-    (cond (eqb number 14) end_variable
-    (cond (eqb number 15) take_else
-    keep))))))))))))))
+abbrev pub effect_by : effects.Effect → ℕ → Effect
+effect_by does.Keep class = keep
+effect_by does.TakeLeaf class = take_leaf class
+effect_by does.TakeMember class = take_member
+effect_by does.TakeOperator class = take_operator class
+effect_by does.TakeLabel class = take_label
+effect_by does.HoldWord class = hold_word
+effect_by does.HoldName class = take_name
+effect_by does.StartStatement class = start_statement (start_kind class)
+effect_by does.EndExpression class = end_expression
+effect_by does.EndValue class = end_value
+effect_by does.EndBare class = end_bare
+effect_by does.TakePrefix class = take_prefix (prefix_kind class)
+effect_by does.TakePostfix class = take_postfix (postfix_kind class)
+effect_by does.EndEmpty class = end_empty
+effect_by does.EndVariable class = end_variable
+effect_by does.TakeElse class = take_else
 
 -- groups, by what they do when they close; and where the inside of each starts
-unfoldable pub closing_by : ℕ → Closing
-closing_by number =
-    cond (eqb number 0) to_parens
-    (cond (eqb number 1) to_call
-    (cond (eqb number 2) to_object
-    (cond (eqb number 3) to_condition
-    (cond (eqb number 4) to_parameter
-    (cond (eqb number 5) to_block
-    (cond (eqb number 6) to_declaration
-    (cond (eqb number 7) to_function
-    (cond (eqb number 8) to_array
-    (cond (eqb number 10) to_head
-    (cond (eqb number 11) to_test
-    (cond (eqb number 12) to_for
-    (cond (eqb number 13) to_statement
-    (cond (eqb number 14) to_parameter
-    (cond (eqb number 15) to_for_in
-    to_index))))))))))))))
+abbrev pub closing_by : closings.Closing → Closing
+closing_by group.Parens = to_parens
+closing_by group.Call = to_call
+closing_by group.Object = to_object
+closing_by group.Condition = to_condition
+closing_by group.Parameter = to_parameter
+closing_by group.Block = to_block
+closing_by group.Declaration = to_declaration
+closing_by group.Function = to_function
+closing_by group.Array = to_array
+closing_by group.Index = to_index
+closing_by group.Head = to_head
+closing_by group.Test = to_test
+closing_by group.For = to_for
+closing_by group.Clauses = to_statement
+closing_by group.Catch = to_parameter
+closing_by group.ForIn = to_for_in
 
-unfoldable pub inside_by : ℕ → Control
-inside_by number =
-    cond (eqb number 1) (item_due call_arguments)
-    (cond (eqb number 2) (item_due object_properties)
-    (cond (eqb number 4) (parameter_due false)
-    (cond (eqb number 5) (statement_due false (among block))
-    (cond (eqb number 6) (statement_due false (among body))
-    (cond (eqb number 7) (statement_due false (among body))
-    (cond (eqb number 8) (item_due array_elements)
-    (cond (eqb number 9) (operand_due by_bracket some_target)
-    (cond (eqb number 12) start_due
-    (cond (eqb number 13) (clause_due false)
-    (cond (eqb number 14) catch_due
-    (operand_due by_paren some_target)))))))))))
+abbrev pub inside_by : closings.Closing → Control
+inside_by group.Parens = operand_due by_paren some_target
+inside_by group.Call = item_due call_arguments
+inside_by group.Object = item_due object_properties
+inside_by group.Condition = operand_due by_paren some_target
+inside_by group.Parameter = parameter_due false
+inside_by group.Block = statement_due false (among block)
+inside_by group.Declaration = statement_due false (among body)
+inside_by group.Function = statement_due false (among body)
+inside_by group.Array = item_due array_elements
+inside_by group.Index = operand_due by_bracket some_target
+inside_by group.Head = operand_due by_paren some_target
+inside_by group.Test = operand_due by_paren some_target
+inside_by group.For = start_due
+inside_by group.Clauses = clause_due false
+inside_by group.Catch = catch_due
+inside_by group.ForIn = operand_due by_paren some_target
 
 -- nests, by what they are: where the inside of each starts, what its token does there and around it, where the machine stands behind it, with what value
 -- it is left, and what it does then
-unfoldable pub entered_by : ℕ → Control
-entered_by nest =
-    cond (eqb nest 0) if_first (cond (eqb nest 1) (statement_due true (in_nest do_nest)) (cond (eqb nest 2) try_first (statement_due false in_clause)))
+abbrev pub entered_by : nests.Nest → Control
+entered_by kind.If = if_first
+entered_by kind.Do = statement_due true (in_nest do_nest)
+entered_by kind.Try = try_first
+entered_by kind.Clause = statement_due false in_clause
+entered_by kind.LastClause = statement_due false in_clause
 
-unfoldable pub worded_by : ℕ → Effect
-worded_by nest = cond (eqb nest 0) hold_word keep
+abbrev pub worded_by : nests.Nest → Effect
+worded_by kind.If = hold_word
+worded_by kind.Do = keep
+worded_by kind.Try = keep
+worded_by kind.Clause = keep
+worded_by kind.LastClause = keep
 
-unfoldable pub outside_by : ℕ → Effect
-outside_by nest = cond (ltb nest 3) keep end_head
+abbrev pub outside_by : nests.Nest → Effect
+outside_by kind.If = keep
+outside_by kind.Do = keep
+outside_by kind.Try = keep
+outside_by kind.Clause = end_head
+outside_by kind.LastClause = end_head
 
-unfoldable pub behind_by : ℕ → Setting → Control
-behind_by nest setting =
-    cond (eqb nest 1) (body_done setting) (cond (ltb nest 3) (behind_statement setting) (clause_due (eqb nest 4)))
+abbrev pub behind_by : nests.Nest → Setting → Control
+behind_by kind.If setting = behind_statement setting
+behind_by kind.Do setting = body_done setting
+behind_by kind.Try setting = behind_statement setting
+behind_by kind.Clause setting = clause_due false
+behind_by kind.LastClause setting = clause_due true
 
-unfoldable pub left_by : ℕ → Closing
-left_by nest = cond (eqb nest 1) to_body (cond (eqb nest 2) to_try to_statement)
+abbrev pub left_by : nests.Nest → Closing
+left_by kind.If = to_statement
+left_by kind.Do = to_body
+left_by kind.Try = to_try
+left_by kind.Clause = to_statement
+left_by kind.LastClause = to_statement
+
+-- the number of a nest on the lent stack
+abbrev pub nest_number : nests.Nest → ℕ
+nest_number kind.If = 0
+nest_number kind.Do = 1
+nest_number kind.Try = 2
+nest_number kind.Clause = 3
+nest_number kind.LastClause = 4

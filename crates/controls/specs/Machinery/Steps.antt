@@ -1,5 +1,5 @@
 -- What a step of the code means: the entry of the machine's table, and between which controls it leads. Machinery.
-use Rattle.std.specs.Prelude.{ℕ, ◌≤◌, ◌≡◌, Bool, true, false, T}
+use Rattle.std.specs.Prelude.{ℕ, ◌≤◌, ◌≡◌, Bool, true, false, T, Option, Some, None}
 use Rattle.machine.specs.Tokens.{new_word, comma, colon, var_word, else_word, for_word, switch_word, case_word, default_word, throw_word, catch_word, finally_word, debugger_word, close_brace}
 use Rattle.machine.specs.Syntax.{full_return_syntax, variable_syntax}
 use Rattle.machine.specs.Operators.{assignment_operators, binary_operators_by, prefix_operators, prefix_kind, postfix_operators, postfix_kind, is_among}
@@ -8,8 +8,12 @@ use Rattle.machine.specs.Machinery.Machine.{end_of_text, if_nest, else_nest, Set
 use Rattle.machine.specs.Machinery.Classes.{is_opener, is_end, is_single}
 use Rattle.controls.specs.Machinery.Numbers.{setting_by, control_of, effect_by, closing_by, inside_by, entered_by, worded_by, outside_by, behind_by, left_by}
 use Rattle.controls.specs.declared.Control as code
+use Rattle.controls.specs.declared.Effect as effects
+use Rattle.controls.specs.declared.Closing as closings
+use Rattle.controls.specs.declared.Nest as nests
+use Rattle.controls.specs.declared.Nest.TheVariants as kind
 use Rattle.controls.specs.declared.Step.{Step}
-use Rattle.controls.specs.declared.Step.TheVariants.{Fail, Goto, Push, Enter, Ask, Turn}
+use Rattle.controls.specs.declared.Step.TheVariants.{Goto, Push, Enter, Ask, Turn}
 
 -- where a primary may start, what ends its expression, and whether it may be assigned to; a property's does not start with the item, and
 -- no row takes it there
@@ -162,33 +166,33 @@ pub data Spans : Closing → Control → Control → Type 0 where
   past_function : {ending : Ending} {target : Target} → Spans to_function (parameter_past (operand_in ending target)) (operand_done ending target)
 
 -- where a nest may be opened: where a statement is due, or behind the head of a clause
-pub data Enters : ℕ → Setting → Control → Type 0 where
-  enters_if : {must : Bool} {setting : Setting} → Enters 0 setting (statement_due must setting)
-  enters_do : {must : Bool} {setting : Setting} → Enters 1 setting (statement_due must setting)
-  enters_try : {must : Bool} {setting : Setting} → Enters 2 setting (statement_due must setting)
-  enters_case : {setting : Setting} {from : Control} → Ended from (by_case false) → Enters 3 setting from
-  enters_last_case : {setting : Setting} {from : Control} → Ended from (by_case true) → Enters 4 setting from
-  enters_default : {setting : Setting} → Enters 4 setting default_first
+pub data Enters : nests.Nest → Setting → Control → Type 0 where
+  enters_if : {must : Bool} {setting : Setting} → Enters kind.If setting (statement_due must setting)
+  enters_do : {must : Bool} {setting : Setting} → Enters kind.Do setting (statement_due must setting)
+  enters_try : {must : Bool} {setting : Setting} → Enters kind.Try setting (statement_due must setting)
+  enters_case : {setting : Setting} {from : Control} → Ended from (by_case false) → Enters kind.Clause setting from
+  enters_last_case : {setting : Setting} {from : Control} → Ended from (by_case true) → Enters kind.LastClause setting from
+  enters_default : {setting : Setting} → Enters kind.LastClause setting default_first
 
--- what a step says of the action for a token of a class; of a class that ends a level it says nothing
-pub data Means (from : Control) (class : ℕ) : Step → Action → Type 0 where
-  means_end : {action : Action} → T (is_end class) → Means from class Fail action
-  means_fail : Means from class Fail fail
-  means_goto : {to : code.Control} {effect : ℕ} → T (is_single class) → Leads (effect_by effect class) from (control_of to)
-      → Means from class (Goto to effect) (goto (control_of to) (effect_by effect class))
-  means_push : {to : code.Control} {closing : ℕ} → T (is_opener class) → Spans (closing_by closing) from (control_of to)
-      → Means from class (Push to closing) (push (inside_by closing) (control_of to) (closing_by closing))
-  means_enter : {nest number : ℕ} → T (is_single class) → nest ≤ 4 → number ≤ 5 → Enters nest (setting_by number) from
-      → Means from class (Enter nest number) (enter (entered_by nest) (worded_by nest) (outside_by nest) (behind_by nest (setting_by number)) (left_by nest))
-  means_ask : {ending : Ending} → T (is_single class) → Ended from ending → Means from class Ask (ask ending)
-  means_turn : T (is_single class) → Ended from by_colon → Means from class Turn turn
+-- what a step, or that there is none, says of the action for a token of a class; of a class that ends a level it says nothing
+pub data Means (from : Control) (class : ℕ) : Option Step → Action → Type 0 where
+  means_end : {action : Action} → T (is_end class) → Means from class None action
+  means_fail : Means from class None fail
+  means_goto : {to : code.Control} {effect : effects.Effect} → T (is_single class) → Leads (effect_by effect class) from (control_of to)
+      → Means from class (Some (Goto to effect)) (goto (control_of to) (effect_by effect class))
+  means_push : {to : code.Control} {closing : closings.Closing} → T (is_opener class) → Spans (closing_by closing) from (control_of to)
+      → Means from class (Some (Push to closing)) (push (inside_by closing) (control_of to) (closing_by closing))
+  means_enter : {nest : nests.Nest} {number : ℕ} → T (is_single class) → number ≤ 5 → Enters nest (setting_by number) from
+      → Means from class (Some (Enter nest number)) (enter (entered_by nest) (worded_by nest) (outside_by nest) (behind_by nest (setting_by number)) (left_by nest))
+  means_ask : {ending : Ending} → T (is_single class) → Ended from ending → Means from class (Some Ask) (ask ending)
+  means_turn : T (is_single class) → Ended from by_colon → Means from class (Some Turn) turn
 
 -- what a step that goes on, or opens a group, means of each class, from wherever it leads
-abbrev pub Goes : Step → Control → ℕ → Type 0
+abbrev pub Goes : Option Step → Control → effects.Effect → Type 0
 Goes step to effect = (from : Control) (class : ℕ) → T (is_single class) → Leads (effect_by effect class) from to
     → Means from class step (goto to (effect_by effect class))
 
-abbrev pub Opens : Step → Control → ℕ → Type 0
+abbrev pub Opens : Option Step → Control → closings.Closing → Type 0
 Opens step behind closing = (from : Control) (class : ℕ) → T (is_opener class) → Spans (closing_by closing) from behind
     → Means from class step (push (inside_by closing) behind (closing_by closing))
 

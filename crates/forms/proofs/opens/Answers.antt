@@ -9,5 +9,5 @@ returns-then-class-one c = λ from opener spans.
     let one = c.args.one in
     rw (c.if-class-one.true, eq-eqb one one refl) (c.push.ensures from one opener spans)
 
-pub returns : goal.returns
-returns c = λ from opener spans. rw (ne_eqb c.args.class c.args.one c.if-class-one.false) means_fail
+pub returns-else-class-one : goal.returns-else-class-one
+returns-else-class-one c = λ from opener spans. rw (ne_eqb c.args.class c.args.one c.if-class-one.false) means_fail

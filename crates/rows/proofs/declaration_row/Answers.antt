@@ -2,7 +2,7 @@
 use mathlib.Core.Path.{◌≡◌, refl}
 use Rattle.machine.specs.Tokens.{function_word}
 use Rattle.machine.specs.Machinery.Machine.{fail, look, no_statement}
-use Rattle.controls.specs.Machinery.Numbers.{setting_by, must_by, control_by, effect_by}
+use Rattle.controls.specs.Machinery.Numbers.{setting_by, must_by, control_by}
 use Rattle.controls.specs.Machinery.Steps.{to-declaration, means_fail}
 use Rattle.rows.proofs.RowLaws.{below_body, declares}
 use Rattle.rows.proofs.declaration_row.Goals as goal
@@ -14,7 +14,7 @@ returns-then-must c = λ must' same.
     rw none means_fail
 
 pub returns-then-setting-eq-BODY : goal.returns-then-setting-eq-BODY
-unfolding setting_by must_by control_by effect_by
+unfolding setting_by must_by control_by
 returns-then-setting-eq-BODY c = λ must' same.
     rw c.if-setting-eq-BODY.true
     (declares (c.goto.ensures _ _ tt to-declaration) must' (rw (c.if-must.false, c.if-setting-eq-BODY.true) at same))

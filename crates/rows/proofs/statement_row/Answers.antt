@@ -2,14 +2,14 @@
 use mathlib.Core.Path.{sym, ◌∙◌}
 use native.Mathlib.Omega.{arith}
 use Rattle.machine.specs.Machinery.Machine.{statement_due}
-use Rattle.controls.specs.Machinery.Numbers.{setting_by, ending_by, target_by, control_by, start_kind, effect_by, closing_by, inside_by, entered_by, worded_by, outside_by, behind_by, left_by}
+use Rattle.controls.specs.Machinery.Numbers.{setting_by, ending_by, target_by, control_by, start_kind}
 use Rattle.controls.specs.Machinery.Steps.{due_statement, started_return, to_name, to_start, to_empty, past_block, enters_if, means_enter}
 use Rattle.controls.proofs.StepLaws.{opens-group}
 use Rattle.rows.proofs.RowLaws.{word-class, no_word_class, nothing_else, statement_operand, statement_word}
 use Rattle.rows.proofs.statement_row.Goals as goal
 
 pub returns-then-class-eq-NAME : goal.returns-then-class-eq-NAME
-unfolding control_by effect_by
+unfolding control_by
 returns-then-class-eq-NAME c = λ must' newline same. rw c.if-class-eq-NAME.true (c.goto.ensures _ _ tt to_name)
 
 pub returns-then-is_statement_word : goal.returns-then-is_statement_word
@@ -21,20 +21,17 @@ returns-then-is_statement_word c = λ must' newline same.
     (c.word_row.ensures must' (λ e. omega (arith, few)))
 
 pub returns-then-class-eq-IF : goal.returns-then-class-eq-IF
-unfolding entered_by worded_by outside_by behind_by left_by
 returns-then-class-eq-IF c = λ must' newline same.
-    rw (c.if-class-eq-IF.true, ← c.setting_number.ensures.1) (means_enter {nest = 0} tt (omega arith) c.setting_number.ensures.0 enters_if)
+    rw (c.if-class-eq-IF.true, ← c.setting_number.ensures.1) (means_enter tt c.setting_number.ensures.0 enters_if)
 
 pub returns-then-class-eq-RETURN : goal.returns-then-class-eq-RETURN
-unfolding control_by effect_by start_kind
+unfolding control_by start_kind
 returns-then-class-eq-RETURN c = λ must' newline same. rw c.if-class-eq-RETURN.true (c.goto-then-class-eq-RETURN.ensures _ _ tt (to_start started_return))
 
 pub returns-then-class-eq-OPEN_BRACE : goal.returns-then-class-eq-OPEN_BRACE
-unfolding closing_by inside_by
 returns-then-class-eq-OPEN_BRACE c = λ must' newline same. rw c.if-class-eq-OPEN_BRACE.true (opens-group c.behind_statement.ensures tt past_block)
 
 pub returns-then-class-eq-SEMICOLON : goal.returns-then-class-eq-SEMICOLON
-unfolding effect_by
 returns-then-class-eq-SEMICOLON c = λ must' newline same. rw c.if-class-eq-SEMICOLON.true (c.end_statement.ensures _ _ tt to_empty)
 
 pub returns : goal.returns

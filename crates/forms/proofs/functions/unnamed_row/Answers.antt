@@ -1,14 +1,18 @@
 -- `unnamed_row` is the machine's row behind `function` in an expression.
+use native.Mathlib.Omega.{arith}
 use borrow.Author.Tests.{ne_eqb}
-use Rattle.machine.specs.Tokens.{name}
-use Rattle.controls.specs.Machinery.Numbers.{control_by, effect_by, closing_by, inside_by}
-use Rattle.controls.specs.Machinery.Steps.{to_function_name, past_unnamed}
+use Rattle.machine.specs.Tokens.{name, open_paren}
+use Rattle.controls.specs.Machinery.Numbers.{control_by}
+use Rattle.controls.specs.Machinery.Steps.{to_function_name, past_unnamed, means_fail}
 use Rattle.forms.proofs.functions.unnamed_row.Goals as goal
 
-pub returns-then-class-eq-NAME : goal.returns-then-class-eq-NAME
-unfolding control_by effect_by
-returns-then-class-eq-NAME c = rw c.if-class-eq-NAME.true (c.goto.ensures _ _ tt to_function_name)
+pub returns-in-1 : goal.returns-in-1
+unfolding control_by
+returns-in-1 c = rw c.in-1.is (c.goto.ensures _ _ tt to_function_name)
 
-pub returns : goal.returns
-unfolding control_by closing_by inside_by
-returns c = rw (ne_eqb c.args.class name c.if-class-eq-NAME.false) (c.opens.ensures _ tt past_unnamed)
+pub returns-in-132 : goal.returns-in-132
+unfolding control_by
+returns-in-132 c = rw c.in-132.is (c.push.ensures _ _ tt past_unnamed)
+
+pub returns-in_default : goal.returns-in_default
+returns-in_default c = let class = c.args.class in rw (ne_eqb class name (omega arith), ne_eqb class open_paren (omega arith)) means_fail

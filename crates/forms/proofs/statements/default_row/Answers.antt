@@ -2,13 +2,11 @@
 use native.Mathlib.Omega.{arith}
 use borrow.Author.Tests.{ne_eqb}
 use Rattle.machine.specs.Tokens.{colon}
-use Rattle.controls.specs.Machinery.Numbers.{entered_by, worded_by, outside_by, behind_by, left_by}
 use Rattle.controls.specs.Machinery.Steps.{enters_default, means_enter, means_fail}
 use Rattle.forms.proofs.statements.default_row.Goals as goal
 
-pub returns-then-class-eq-COLON : goal.returns-then-class-eq-COLON
-unfolding entered_by worded_by outside_by behind_by left_by
-returns-then-class-eq-COLON c = rw c.if-class-eq-COLON.true (means_enter {nest = 4} {number = 0} tt (omega arith) (omega arith) enters_default)
+pub returns-in-129 : goal.returns-in-129
+returns-in-129 c = rw c.in-129.is (means_enter {number = 0} tt (omega arith) enters_default)
 
-pub returns : goal.returns
-returns c = rw (ne_eqb c.args.class colon c.if-class-eq-COLON.false) means_fail
+pub returns-in_default : goal.returns-in_default
+returns-in_default c = rw (ne_eqb c.args.class colon (omega arith)) means_fail

@@ -1,7 +1,7 @@
 -- `try_row` is the machine's rows of clauses and of `try`, place by place.
 use mathlib.Core.Path.{◌≡◌}
 use native.Mathlib.Omega.{arith}
-use Rattle.controls.specs.Machinery.Numbers.{control_by, effect_by, closing_by, inside_by}
+use Rattle.controls.specs.Machinery.Numbers.{control_by}
 use Rattle.controls.specs.Machinery.Steps.{to_caught, past_tried, past_caught, past_handled, past_finally}
 use Rattle.controls.proofs.EndLaws.{only_closers}
 use Rattle.forms.proofs.statements.try_row.Goals as goal
@@ -23,11 +23,11 @@ unfolding control_by
 returns-in-27 c = λ low high ending setting newline. rw c.in-27.is c.handler_row.ensures
 
 pub returns-in-28 : goal.returns-in-28
-unfolding control_by closing_by inside_by
+unfolding control_by
 returns-in-28 c = λ low high ending setting newline. rw c.in-28.is (c.head_row.ensures _ past_caught)
 
 pub returns-in-29 : goal.returns-in-29
-unfolding control_by effect_by
+unfolding control_by
 returns-in-29 c = λ low high ending setting newline. rw c.in-29.is (c.only.ensures _ tt to_caught)
 
 pub returns-in-31 : goal.returns-in-31
