@@ -1,115 +1,43 @@
 -- Where a level ends at one closer, and where at none.
 use mathlib.Core.Path.{◌≡◌, refl, ◌∙◌}
-use mathlib.Core.Bool.{Bool, true, false, cond}
+use mathlib.Core.Bool.{Bool, true, false}
 use mathlib.Core.List.{List, ◌∷◌}
 use mathlib.Core.Logic.{◌⊎◌, inl, inr}
-use Prim.Native.Nat.{ℕ, ◌≤◌, ◌<◌}
-use native.Mathlib.Omega.{arith}
-use borrow.Author.Tests.{ne_eqb, eqb-true, eqb-false, leb-true}
-use lib.Dec.{T, eqb, leb}
+use Prim.Native.Nat.{ℕ}
+use borrow.Author.Tests.{both_ways}
+use lib.Dec.{T, eqb}
 use Rattle.machine.specs.Tokens.{question, dot, open_paren, close_paren, close_brace, open_bracket, close_bracket}
 use Rattle.machine.specs.Operators.{binary_operators_by}
 use Rattle.machine.specs.Scopes.{Items, call_arguments, array_elements, object_properties}
-use Rattle.machine.specs.Machinery.Machine.{
-  end_of_text,
-  in_clause,
-  Variables,
-  in_statement,
-  in_head,
-  Target,
-  no_target,
-  some_target,
-  lone_target,
-  keep,
-  take_operator,
-  to_call,
-  to_index,
-  Ending,
-  by_statement,
-  by_return,
-  by_variable,
-  by_start,
-  by_test,
-  by_step,
-  by_object,
-  by_case,
-  by_paren,
-  by_bracket,
-  by_colon,
-  by_item,
-  declared,
-  operand_in,
-  Control,
-  statement_due,
-  return_first,
-  throw_first,
-  jump_first,
-  head_first,
-  variable_due,
-  variable_named,
-  body_done,
-  test_first,
-  semicolon_due,
-  for_first,
-  start_due,
-  test_due,
-  step_due,
-  switch_first,
-  switch_past,
-  clause_due,
-  default_first,
-  try_first,
-  try_done,
-  catch_first,
-  catch_due,
-  catch_named,
-  catch_past,
-  finally_first,
-  if_first,
-  operand_due,
-  member_due,
-  operand_done,
-  dot_last,
-  function_first,
-  function_named,
-  parameter_past,
-  property_named,
-  parameter_named,
-  item_due,
-  finished,
-  Action,
-  fail,
-  goto,
-  push,
-  ask,
-  Entry,
-  on,
-  for_each,
-  list_closer,
-  in_entry,
-  takes_in,
-  allows_in,
-  assignment_row,
-  postfix_row,
-  after_unary,
-  ending_row,
-  look,
-  row,
-}
-use Rattle.controls.specs.Machinery.Numbers.{setting_by, variables_by, ending_by, target_by, control_by}
+use Rattle.machine.specs.Machinery.Machine.{end_of_text, in_clause, Variables, in_statement, in_head, Target, no_target, some_target, lone_target, keep, take_operator, to_call, to_index, Ending, by_statement, by_return, by_variable, by_start, by_test, by_step, by_object, by_case, by_paren, by_bracket, by_colon, by_item, Control, statement_due, variable_named, step_due, clause_due, catch_named, operand_due, operand_done, dot_last, parameter_named, item_due, Action, fail, goto, push, ask, Entry, on, for_each, list_closer, in_entry, takes_in, allows_in, assignment_row, postfix_row, after_unary, ending_row, look, row}
+use Rattle.controls.specs.declared.Place as places
+use Rattle.controls.specs.declared.Place.TheVariants as stand
+use Rattle.controls.specs.declared.Setting as settings
+use Rattle.controls.specs.declared.Ending as endings
+use Rattle.controls.specs.declared.Ending.TheVariants as by
+use Rattle.controls.specs.Machinery.Numbers.{variables_by, ending_by, control_by}
 use Rattle.machine.specs.Machinery.Classes.{is_end}
 use Rattle.controls.specs.Machinery.Steps.{Ended, ended_operand, ended_postfix, SettledAt, Ends, ends_expression, ends_item, ends_items, ends_parameter, ends_head, ends_object, ends_no_step, ends_clauses, ends_caught, goes_on}
 use Rattle.controls.proofs.EndLaws.{at_closers}
+
+-- the places where a level may end
+abbrev pub may_end : places.Place → Bool
+may_end stand.StatementDue = true
+may_end stand.OperandDone = true
+may_end stand.PostfixDone = true
+may_end stand.StepDue = true
+may_end stand.ItemDue = true
+may_end stand.ClauseDue = true
+may_end stand.CatchNamed = true
+may_end stand.ParameterDue = true
+may_end stand.ParameterNamed = true
+may_end _ = false
 
 abbrev pub EndsAt : Control → ℕ → ℕ → Type 0
 EndsAt control one closer = Ends closer control (eqb closer one) (look closer (row control false))
 
 abbrev pub GoesOn : ℕ → Control → Type 0
 GoesOn closer control = Ends closer control false (look closer (row control false))
-
-one_of : {closer : ℕ} (b : Bool) {x y : Control} → GoesOn closer x → GoesOn closer y → GoesOn closer (cond b x y)
-one_of true first second = first
-one_of false first second = second
 
 -- an expression whose end is no closer
 abbrev pub spares : Ending → Bool
@@ -144,9 +72,8 @@ module _ (closer : ℕ) (end : T (is_end closer)) where
   clauses_end false = at_closers (EndsAt (clause_due false) close_brace) goes_on ends_clauses goes_on goes_on closer end
 
   -- behind a parameter, and where the last part of a `for`'s head is due, a group ends at `)`
-  pub past_last : (place ending setting : ℕ) (flag : Bool) → (place ≡ 11) ⊎ ((place ≡ 30) ⊎ (place ≡ 34))
-      → EndsAt (control_by place ending setting flag) close_paren closer
-  unfolding control_by
+  pub past_last : (place : places.Place) (ending : endings.Ending) (setting : settings.Setting) (flag : Bool)
+      → (place ≡ stand.StepDue) ⊎ ((place ≡ stand.CatchNamed) ⊎ (place ≡ stand.ParameterNamed)) → EndsAt (control_by place ending setting flag) close_paren closer
   past_last place ending setting flag (inl e) = rw e (at_closers (EndsAt step_due close_paren) ends_no_step goes_on goes_on goes_on closer end)
   past_last place ending setting flag (inr (inl e)) = rw e (at_closers (EndsAt catch_named close_paren) ends_caught goes_on goes_on goes_on closer end)
   past_last place ending setting flag (inr (inr e)) = rw e (at_closers (EndsAt parameter_named close_paren) ends_parameter goes_on goes_on goes_on closer end)
@@ -187,21 +114,22 @@ module _ (closer : ℕ) (end : T (is_end closer)) where
   ended (ended_postfix {ending}) = unary_ended ending
 
   -- an expression that ends at `)`: behind the parts of a `for`'s head, or all of a group
-  pub parens_end : {from : Control} (ending setting : ℕ) → 10 ≤ ending → ending ≤ 12 → Ended from (ending_by ending setting) → EndsAt from close_paren closer
-  unfolding ending_by
-  parens_end {from} ending setting low high e = go (eqb ending 10) (eqb ending 11) refl refl
-    where
-      go : (a b : Bool) → eqb ending 10 ≡ a → eqb ending 11 ≡ b → EndsAt from close_paren closer
-      go true b f g =
-          let step : Ended from by_step = rw (eqb-true ending 10 f) at e in
-          rw (ended step) (at_closers (λ (k : ℕ). Ends k from (eqb k close_paren) (look k (ending_row by_step))) (ends_head step) goes_on goes_on goes_on closer end)
-      go false true f g =
-          let object : Ended from by_object = rw (eqb-true ending 11 g) at e in
-          rw (ended object) (at_closers (λ (k : ℕ). Ends k from (eqb k close_paren) (look k (ending_row by_object))) (ends_object object) goes_on goes_on goes_on closer end)
-      go false false f g =
-          let last : ending ≡ 12 = omega (arith, eqb-false ending 10 f, eqb-false ending 11 g) in
-          let paren : Ended from by_paren = rw last at e in
-          rw (ended paren) (at_closers (λ (k : ℕ). Ends k from (eqb k close_paren) (look k (ending_row by_paren))) (ends_expression tt paren) goes_on goes_on goes_on closer end)
+  step_ends : {from : Control} → Ended from by_step → EndsAt from close_paren closer
+  step_ends {from} e = rw (ended e) (at_closers (λ (k : ℕ). Ends k from (eqb k close_paren) (look k (ending_row by_step))) (ends_head e) goes_on goes_on goes_on closer end)
+
+  object_ends : {from : Control} → Ended from by_object → EndsAt from close_paren closer
+  object_ends {from} e =
+      rw (ended e) (at_closers (λ (k : ℕ). Ends k from (eqb k close_paren) (look k (ending_row by_object))) (ends_object e) goes_on goes_on goes_on closer end)
+
+  paren_ends : {from : Control} → Ended from by_paren → EndsAt from close_paren closer
+  paren_ends {from} e =
+      rw (ended e) (at_closers (λ (k : ℕ). Ends k from (eqb k close_paren) (look k (ending_row by_paren))) (ends_expression tt e) goes_on goes_on goes_on closer end)
+
+  pub parens_end : {from : Control} (ending : endings.Ending) (setting : settings.Setting)
+      → (ending ≡ by.Step) ⊎ ((ending ≡ by.Object) ⊎ (ending ≡ by.Paren)) → Ended from (ending_by ending setting) → EndsAt from close_paren closer
+  parens_end ending setting (inl e) m = step_ends (rw e at m)
+  parens_end ending setting (inr (inl e)) m = object_ends (rw e at m)
+  parens_end ending setting (inr (inr e)) m = paren_ends (rw e at m)
 
   pub bracket_ends : {from : Control} → Ended from by_bracket → EndsAt from close_bracket closer
   bracket_ends {from} e =
@@ -240,69 +168,28 @@ module _ (closer : ℕ) (end : T (is_end closer)) where
   pub none_ends : {from : Control} {ending : Ending} → Ended from ending → T (spares ending) → GoesOn closer from
   none_ends {ending} e t = rw (ended e, spared ending t) goes_on
 
-  -- each settled place but those nine where a level may end
-  pub elsewhere : (place ending setting : ℕ) (flag : Bool) → SettledAt place setting closer → (place ≡ 0 → ⊥) → (3 ≤ place → place < 5 → ⊥)
-      → (place ≡ 11 → ⊥) → (place ≡ 15 → ⊥) → (place ≡ 24 → ⊥) → (place ≡ 30 → ⊥) → (place ≡ 33 → ⊥) → (place ≡ 34 → ⊥)
+  named_goes_on : (variables : Variables) → GoesOn closer (variable_named variables)
+  named_goes_on (in_statement s) = no_closer_at (variable_named (in_statement s)) refl refl refl refl
+  named_goes_on (in_head true) = no_closer_at (variable_named (in_head true)) refl refl refl refl
+  named_goes_on (in_head false) = no_closer_at (variable_named (in_head false)) refl refl refl refl
+
+  -- each settled place but the nine where a level may end
+  pub elsewhere : (place : places.Place) (ending : endings.Ending) (setting : settings.Setting) (flag : Bool) → SettledAt place setting closer → may_end place ≡ false
       → GoesOn closer (control_by place ending setting flag)
-  unfolding control_by
-  elsewhere place ending setting flag settled n0 unary n11 n15 n24 n30 n33 n34 =
-      let n3 : place ≡ 3 → ⊥ = λ e. unary (omega arith) (omega arith) in
-      let n4 : place ≡ 4 → ⊥ = λ e. unary (omega arith) (omega arith) in
-      let n41 : place ≡ 41 → ⊥ = λ e. rw (settled.no_nest e).1 at end in
-      let n42 : place ≡ 42 → ⊥ = λ e. rw (settled.no_name e) at end in
-      let n43 : place ≡ 43 → ⊥ = λ e. rw (settled.no_catch e) at end in
-      simp (ne_eqb place 0 n0, ne_eqb place 3 n3, ne_eqb place 4 n4, ne_eqb place 11 n11, ne_eqb place 15 n15, ne_eqb place 24 n24, ne_eqb place 30 n30, ne_eqb place 33 n33, ne_eqb place 34 n34, ne_eqb place 41 n41, ne_eqb place 42 n42, ne_eqb place 43 n43, ne_eqb place 44 settled.no_try)
-      (at 1 (return_first (setting_by setting)) refl refl refl refl
-      (at 2 (operand_due expression target) refl refl refl refl
-      (at 5 (throw_first (setting_by setting)) refl refl refl refl
-      (at 6 (jump_first (setting_by setting)) refl refl refl refl
-      (one_of (eqb place 7) (named_goes_on (variables_by ending setting))
-      (at 8 (semicolon_due (setting_by setting)) refl refl refl refl
-      (at 9 start_due refl refl refl refl
-      (at 10 test_due refl refl refl refl
-      (at 12 (member_due expression target) refl refl refl refl
-      (at 13 if_first refl refl refl refl
-      (at 14 (dot_last expression target) refl refl refl refl
-      (at 16 property_named refl refl refl refl
-      (at 17 (head_first (setting_by setting)) refl refl refl refl
-      (at 18 (variable_due (variables_by ending setting)) refl refl refl refl
-      (at 19 (body_done (setting_by setting)) refl refl refl refl
-      (at 20 (test_first (setting_by setting)) refl refl refl refl
-      (at 21 (for_first (setting_by setting)) refl refl refl refl
-      (at 22 (switch_first (setting_by setting)) refl refl refl refl
-      (at 23 (switch_past (setting_by setting)) refl refl refl refl
-      (at 25 default_first refl refl refl refl
-      (at 26 try_first refl refl refl refl
-      (at 27 try_done refl refl refl refl
-      (at 28 catch_first refl refl refl refl
-      (at 29 catch_due refl refl refl refl
-      (at 31 catch_past refl refl refl refl
-      (at 32 finally_first refl refl refl refl
-      (at 35 (function_first (operand_in expression target)) refl refl refl refl
-      (at 36 (function_named (operand_in expression target)) refl refl refl refl
-      (at 37 (parameter_past (operand_in expression target)) refl refl refl refl
-      (at 38 (function_first declared) refl refl refl refl
-      (at 39 (function_named declared) refl refl refl refl
-      (at 40 (parameter_past declared) refl refl refl refl
-      (clause_goes_on (leb 45 place) refl)))))))))))))))))))))))))))))))))
-    where
-      expression : Ending
-      expression = ending_by ending setting
-
-      target : Target
-      target = target_by ending flag
-
-      at : (k : ℕ) (x : Control) → look close_paren (row x false) ≡ fail → look close_brace (row x false) ≡ fail → look close_bracket (row x false) ≡ fail
-          → look end_of_text (row x false) ≡ fail → {y : Control} → GoesOn closer y → GoesOn closer (cond (eqb place k) x y)
-      at k x paren brace bracket text later = one_of (eqb place k) (no_closer_at x paren brace bracket text) later
-
-      named_goes_on : (variables : Variables) → GoesOn closer (variable_named variables)
-      named_goes_on (in_statement s) = no_closer_at (variable_named (in_statement s)) refl refl refl refl
-      named_goes_on (in_head true) = no_closer_at (variable_named (in_head true)) refl refl refl refl
-      named_goes_on (in_head false) = no_closer_at (variable_named (in_head false)) refl refl refl refl
-
-      -- no `}` comes here
-      clause_goes_on : (b : Bool) → leb 45 place ≡ b → GoesOn closer (cond b (statement_due false in_clause) finished)
-      clause_goes_on true e =
-          at_closers (λ (k : ℕ). (k ≡ close_brace → ⊥) → GoesOn k (statement_due false in_clause)) (λ other. goes_on) (λ other. absurd (other refl)) (λ other. goes_on) (λ other. goes_on) closer end (settled.no_clause (leb-true 45 place e)).2
-      clause_goes_on false e = no_closer_at finished refl refl refl refl
+  elsewhere stand.StatementDue ending setting flag settled none = absurd (both_ways true none refl)
+  elsewhere stand.OperandDone ending setting flag settled none = absurd (both_ways true none refl)
+  elsewhere stand.PostfixDone ending setting flag settled none = absurd (both_ways true none refl)
+  elsewhere stand.VariableNamed ending setting flag settled none = named_goes_on (variables_by ending setting)
+  elsewhere stand.StepDue ending setting flag settled none = absurd (both_ways true none refl)
+  elsewhere stand.ItemDue ending setting flag settled none = absurd (both_ways true none refl)
+  elsewhere stand.ClauseDue ending setting flag settled none = absurd (both_ways true none refl)
+  elsewhere stand.CatchNamed ending setting flag settled none = absurd (both_ways true none refl)
+  elsewhere stand.ParameterDue ending setting flag settled none = absurd (both_ways true none refl)
+  elsewhere stand.ParameterNamed ending setting flag settled none = absurd (both_ways true none refl)
+  elsewhere stand.StatementDone ending setting flag settled none = absurd (rw (settled.no_nest refl).1 at end)
+  elsewhere stand.NameFirst ending setting flag settled none = absurd (rw (settled.no_name refl) at end)
+  elsewhere stand.CatchDone ending setting flag settled none = absurd (rw (settled.no_catch refl) at end)
+  elsewhere stand.TryEnded ending setting flag settled none = absurd (settled.no_try refl)
+  elsewhere stand.ClauseStatement ending setting flag settled none =
+      at_closers (λ (k : ℕ). (k ≡ close_brace → ⊥) → GoesOn k (statement_due false in_clause)) (λ other. goes_on) (λ other. absurd (other refl)) (λ other. goes_on) (λ other. goes_on) closer end (settled.no_clause refl).2
+  elsewhere place ending setting flag settled none = no_closer_at (control_by place ending setting flag) refl refl refl refl

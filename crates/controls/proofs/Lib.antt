@@ -1,6 +1,5 @@
 pub mod EndLaws
 pub mod StepLaws
-pub mod NumberLaws
 pub mod LevelEnds
 pub mod KeptLength
 pub mod ClassLaws

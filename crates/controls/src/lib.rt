@@ -1,11 +1,12 @@
 // Where the token machine stands, and what it does: places and effects are named after those of machine/specs/Machinery/Machine.antt
 // where there is one, so that the two can be laid side by side; specs/Machinery/Numbers.antt ties them.
-#![tactic(auto, unfolding(crate::specs::Machinery::Numbers::setting_by, crate::specs::Machinery::Numbers::items_by, crate::specs::Machinery::Numbers::ending_by, crate::specs::Machinery::Numbers::target_by, crate::specs::Machinery::Numbers::must_by, crate::specs::Machinery::Numbers::control_by, crate::specs::Machinery::Numbers::control_of, crate::specs::Machinery::Numbers::start_kind))]
+#![tactic(auto)]
 
 ghost use Rattle.std.specs.Prelude.{◌≡◌, false, ℕ, ◌≤◌};
 ghost use Rattle.machine.specs.Machinery.Machine.{behind_statement, statement_due};
 ghost use Rattle.machine.specs.Machinery.Classes.{is_leaf};
-ghost use Rattle.controls.specs.Machinery.Numbers.{setting_by, ending_by, control_by, control_of, start_kind, inside_by, entered_by, nest_number};
+ghost use Rattle.controls.specs.declared.Ending.TheVariants.{LoneStart};
+ghost use Rattle.controls.specs.Machinery.Numbers.{setting_by, ending_by, control_by, control_of, start_kind, inside_by, entered_by, IsScope, nest_number, setting_number, ending_number};
 
 pub mod bindings;
 pub mod ends;
@@ -17,157 +18,154 @@ use machine::tokens;
 // be assigned to, or whether a statement or a parameter must come.
 #[derive(Clone, Copy)]
 pub struct Control {
-    pub place: u32,
-    pub ending: u32,
-    pub setting: u32,
+    pub place: Place,
+    pub ending: Ending,
+    pub setting: Setting,
     pub flag: bool,
 }
 
-// Places.
-pub const STATEMENT_DUE: u32 = 0;
+#[derive(Clone, Copy)]
+pub enum Place {
+    StatementDue,
+    ReturnFirst,
+    OperandDue,
+    OperandDone,
+    PostfixDone,
+    ThrowFirst,
+    JumpFirst,
+    VariableNamed,
+    SemicolonDue,
+    StartDue,
+    TestDue,
+    StepDue,
+    MemberDue,
+    IfFirst,
+    DotLast,
+    ItemDue,
+    PropertyNamed,
+    HeadFirst,
+    VariableDue,
+    BodyDone,
+    TestFirst,
+    ForFirst,
+    SwitchFirst,
+    SwitchPast,
+    ClauseDue,
+    DefaultFirst,
+    TryFirst,
+    TryDone,
+    CatchFirst,
+    CatchDue,
+    CatchNamed,
+    CatchPast,
+    FinallyFirst,
+    ParameterDue,
+    ParameterNamed,
+    FunctionFirst,
+    FunctionNamed,
+    ParameterPast,
+    DeclaredFirst,
+    DeclaredNamed,
+    DeclaredPast,
+    // At the last five something may be done before a token, as `frames::ready` does it. The last is that where another statement of a
+    // clause may come.
+    StatementDone,
+    NameFirst,
+    CatchDone,
+    TryEnded,
+    ClauseStatement,
+}
 
-pub const RETURN_FIRST: u32 = 1;
+// The setting of a statement: among those of a body, a block or a clause, or in a nest.
+#[derive(Clone, Copy)]
+pub enum Setting {
+    Body,
+    Block,
+    Clause,
+    IfNest,
+    ElseNest,
+    DoNest,
+}
 
-pub const OPERAND_DUE: u32 = 2;
+impl Setting {
+    // The number that stands for it on the lent stack, and back: no other number than one of these is written there.
+    pub fn number(self) -> u32
+        ensures { result ≡ setting_number self }
+    {
+        self as u32
+    }
 
-pub const OPERAND_DONE: u32 = 3;
-
-pub const POSTFIX_DONE: u32 = 4;
-
-pub const THROW_FIRST: u32 = 5;
-
-pub const JUMP_FIRST: u32 = 6;
-
-pub const VARIABLE_NAMED: u32 = 7;
-
-pub const SEMICOLON_DUE: u32 = 8;
-
-pub const START_DUE: u32 = 9;
-
-pub const TEST_DUE: u32 = 10;
-
-pub const STEP_DUE: u32 = 11;
-
-pub const MEMBER_DUE: u32 = 12;
-
-pub const IF_FIRST: u32 = 13;
-
-pub const DOT_LAST: u32 = 14;
-
-pub const ITEM_DUE: u32 = 15;
-
-pub const PROPERTY_NAMED: u32 = 16;
-
-pub const HEAD_FIRST: u32 = 17;
-
-pub const VARIABLE_DUE: u32 = 18;
-
-pub const BODY_DONE: u32 = 19;
-
-pub const TEST_FIRST: u32 = 20;
-
-pub const FOR_FIRST: u32 = 21;
-
-pub const SWITCH_FIRST: u32 = 22;
-
-pub const SWITCH_PAST: u32 = 23;
-
-pub const CLAUSE_DUE: u32 = 24;
-
-pub const DEFAULT_FIRST: u32 = 25;
-
-pub const TRY_FIRST: u32 = 26;
-
-pub const TRY_DONE: u32 = 27;
-
-pub const CATCH_FIRST: u32 = 28;
-
-pub const CATCH_DUE: u32 = 29;
-
-pub const CATCH_NAMED: u32 = 30;
-
-pub const CATCH_PAST: u32 = 31;
-
-pub const FINALLY_FIRST: u32 = 32;
-
-pub const PARAMETER_DUE: u32 = 33;
-
-pub const PARAMETER_NAMED: u32 = 34;
-
-pub const FUNCTION_FIRST: u32 = 35;
-
-pub const FUNCTION_NAMED: u32 = 36;
-
-pub const PARAMETER_PAST: u32 = 37;
-
-pub const DECLARED_FIRST: u32 = 38;
-
-pub const DECLARED_NAMED: u32 = 39;
-
-pub const DECLARED_PAST: u32 = 40;
-
-// At the last five something may be done before a token: `frames::ready` passes all below by one test. The last is that where another
-// statement of a clause may come.
-pub const STATEMENT_DONE: u32 = 41;
-
-pub const NAME_FIRST: u32 = 42;
-
-pub const CATCH_DONE: u32 = 43;
-
-pub const TRY_ENDED: u32 = 44;
-
-pub const CLAUSE_STATEMENT: u32 = 45;
-
-// Settings of a statement: among those of a body, a block or a clause, or in a nest.
-pub const BODY: u32 = 0;
-
-pub const BLOCK: u32 = 1;
-
-pub const CLAUSE: u32 = 2;
-
-pub const IF_NEST: u32 = 3;
-
-pub const ELSE_NEST: u32 = 4;
-
-pub const DO_NEST: u32 = 5;
+    pub fn numbered(number: u32) -> Setting
+        ensures { (setting : Setting) → number ≡ setting_number setting → result ≡ setting }
+    {
+        match number {
+            0 => Setting::Body,
+            1 => Setting::Block,
+            2 => Setting::Clause,
+            3 => Setting::IfNest,
+            4 => Setting::ElseNest,
+            _ => Setting::DoNest,
+        }
+    }
+}
 
 // What ends an expression; what ends a variable tells where it stands, and what ends an item the list. The start of a `for`'s head is
 // alone as long as it is no more than a chain.
-pub const BY_STATEMENT: u32 = 0;
+#[derive(Clone, Copy)]
+pub enum Ending {
+    Statement,
+    Return,
+    Variable,
+    FirstVariable,
+    LaterVariable,
+    LoneStart,
+    Start,
+    Test,
+    Case,
+    LastCase,
+    Step,
+    Object,
+    Paren,
+    Bracket,
+    Colon,
+    Argument,
+    Element,
+    Property,
+}
 
-pub const BY_RETURN: u32 = 1;
+impl Ending {
+    // The number that stands for it on the lent stack, and back: no other number than one of these is written there.
+    pub fn number(self) -> u32
+        ensures { result ≡ ending_number self }
+    {
+        self as u32
+    }
 
-pub const BY_VARIABLE: u32 = 2;
-
-pub const BY_FIRST_VARIABLE: u32 = 3;
-
-pub const BY_LATER_VARIABLE: u32 = 4;
-
-pub const BY_LONE_START: u32 = 5;
-
-pub const BY_START: u32 = 6;
-
-pub const BY_TEST: u32 = 7;
-
-pub const BY_CASE: u32 = 8;
-
-pub const BY_LAST_CASE: u32 = 9;
-
-pub const BY_STEP: u32 = 10;
-
-pub const BY_OBJECT: u32 = 11;
-
-pub const BY_PAREN: u32 = 12;
-
-pub const BY_BRACKET: u32 = 13;
-
-pub const BY_COLON: u32 = 14;
-
-pub const BY_ARGUMENT: u32 = 15;
-
-pub const BY_ELEMENT: u32 = 16;
-
-pub const BY_PROPERTY: u32 = 17;
+    pub fn numbered(number: u32) -> Ending
+        ensures { (ending : Ending) → number ≡ ending_number ending → result ≡ ending }
+    {
+        match number {
+            0 => Ending::Statement,
+            1 => Ending::Return,
+            2 => Ending::Variable,
+            3 => Ending::FirstVariable,
+            4 => Ending::LaterVariable,
+            5 => Ending::LoneStart,
+            6 => Ending::Start,
+            7 => Ending::Test,
+            8 => Ending::Case,
+            9 => Ending::LastCase,
+            10 => Ending::Step,
+            11 => Ending::Object,
+            12 => Ending::Paren,
+            13 => Ending::Bracket,
+            14 => Ending::Colon,
+            15 => Ending::Argument,
+            16 => Ending::Element,
+            _ => Ending::Property,
+        }
+    }
+}
 
 // What a token does to the level.
 #[derive(Clone, Copy)]
@@ -252,12 +250,12 @@ impl Nest {
 pub enum Step {
     Goto(Control, Effect),
     Push(Control, Closing),
-    Enter(Nest, u32),
+    Enter(Nest, Setting),
     Ask,
     Turn,
 }
 
-pub fn stand(place: u32, ending: u32, setting: u32, flag: bool) -> Control
+pub fn stand(place: Place, ending: Ending, setting: Setting, flag: bool) -> Control
     ensures { control_of result ≡ control_by place ending setting flag }
 {
     Control {
@@ -281,13 +279,13 @@ pub fn copied(at: Control) -> Control
 }
 
 // Behind a statement: another may come, or its nest is done.
-pub fn behind_statement(setting: u32) -> Control
+pub fn behind_statement(setting: Setting) -> Control
     ensures { control_of result ≡ behind_statement (setting_by setting) }
 {
     match setting {
-        BODY | BLOCK => stand(STATEMENT_DUE, BY_STATEMENT, setting, false),
-        CLAUSE => stand(CLAUSE_STATEMENT, BY_STATEMENT, CLAUSE, false),
-        _ => stand(STATEMENT_DONE, BY_STATEMENT, setting, false),
+        Setting::Body | Setting::Block => stand(Place::StatementDue, Ending::Statement, setting, false),
+        Setting::Clause => stand(Place::ClauseStatement, Ending::Statement, Setting::Clause, false),
+        _ => stand(Place::StatementDone, Ending::Statement, setting, false),
     }
 }
 
@@ -296,28 +294,28 @@ pub fn inside_of(closing: Closing) -> Control
     ensures { control_of result ≡ inside_by closing }
 {
     match closing {
-        Closing::Call => stand(ITEM_DUE, BY_ARGUMENT, BODY, true),
-        Closing::Object => stand(ITEM_DUE, BY_PROPERTY, BODY, true),
-        Closing::Parameter => stand(PARAMETER_DUE, BY_PAREN, BODY, false),
-        Closing::Block => stand(STATEMENT_DUE, BY_STATEMENT, BLOCK, false),
-        Closing::Declaration => stand(STATEMENT_DUE, BY_STATEMENT, BODY, false),
-        Closing::Function => stand(STATEMENT_DUE, BY_STATEMENT, BODY, false),
-        Closing::Array => stand(ITEM_DUE, BY_ELEMENT, BODY, true),
-        Closing::Index => stand(OPERAND_DUE, BY_BRACKET, BODY, true),
-        Closing::For => stand(START_DUE, BY_LONE_START, BODY, true),
-        Closing::Clauses => stand(CLAUSE_DUE, BY_CASE, CLAUSE, false),
-        Closing::Catch => stand(CATCH_DUE, BY_PAREN, BODY, true),
+        Closing::Call => stand(Place::ItemDue, Ending::Argument, Setting::Body, true),
+        Closing::Object => stand(Place::ItemDue, Ending::Property, Setting::Body, true),
+        Closing::Parameter => stand(Place::ParameterDue, Ending::Paren, Setting::Body, false),
+        Closing::Block => stand(Place::StatementDue, Ending::Statement, Setting::Block, false),
+        Closing::Declaration => stand(Place::StatementDue, Ending::Statement, Setting::Body, false),
+        Closing::Function => stand(Place::StatementDue, Ending::Statement, Setting::Body, false),
+        Closing::Array => stand(Place::ItemDue, Ending::Element, Setting::Body, true),
+        Closing::Index => stand(Place::OperandDue, Ending::Bracket, Setting::Body, true),
+        Closing::For => stand(Place::StartDue, Ending::LoneStart, Setting::Body, true),
+        Closing::Clauses => stand(Place::ClauseDue, Ending::Case, Setting::Clause, false),
+        Closing::Catch => stand(Place::CatchDue, Ending::Paren, Setting::Body, true),
         Closing::Parens | Closing::Condition | Closing::Head | Closing::Test | Closing::ForIn =>
-            stand(OPERAND_DUE, BY_PAREN, BODY, true),
+            stand(Place::OperandDue, Ending::Paren, Setting::Body, true),
     }
 }
 
 // A group whose inside has the statements of a scope, a body's or a block's.
-pub fn group_of(scope: u32) -> Closing
-    ensures { scope ≤ 1 → inside_by result ≡ statement_due false (setting_by scope) }
+pub fn group_of(scope: Setting) -> Closing
+    ensures { IsScope scope → inside_by result ≡ statement_due false (setting_by scope) }
 {
     match scope {
-        BODY => Closing::Function,
+        Setting::Body => Closing::Function,
         _ => Closing::Block,
     }
 }
@@ -327,24 +325,25 @@ pub fn entered(nest: Nest) -> Control
     ensures { control_of result ≡ entered_by nest }
 {
     match nest {
-        Nest::If => stand(IF_FIRST, BY_STATEMENT, IF_NEST, true),
-        Nest::Do => stand(STATEMENT_DUE, BY_STATEMENT, DO_NEST, true),
-        Nest::Try => stand(TRY_FIRST, BY_STATEMENT, BODY, true),
-        Nest::Clause | Nest::LastClause => stand(CLAUSE_STATEMENT, BY_STATEMENT, CLAUSE, false),
+        Nest::If => stand(Place::IfFirst, Ending::Statement, Setting::IfNest, true),
+        Nest::Do => stand(Place::StatementDue, Ending::Statement, Setting::DoNest, true),
+        Nest::Try => stand(Place::TryFirst, Ending::Statement, Setting::Body, true),
+        Nest::Clause | Nest::LastClause => stand(Place::ClauseStatement, Ending::Statement, Setting::Clause, false),
     }
 }
 
 // Behind an operator the start of a `for`'s head is no more alone.
-pub fn past_start(ending: u32) -> u32
-    ensures { (result ≡ 5 → ⊥) × ((setting : ℕ) → ending_by result setting ≡ ending_by ending setting) }
+pub fn past_start(ending: Ending) -> Ending
+    ensures { (result ≡ LoneStart → ⊥) × ((setting : Setting) → ending_by result setting ≡ ending_by ending setting) }
 {
     match ending {
-        BY_LONE_START => BY_START,
+        Ending::LoneStart => Ending::Start,
         _ => ending,
     }
 }
 
 // The kind of what starts with a token of a class.
+#[tactic(auto, unfolding(crate::specs::Machinery::Numbers::start_kind))]
 pub fn start_kind(class: u32) -> u32
     ensures { result ≡ start_kind class }
 {

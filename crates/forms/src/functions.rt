@@ -1,105 +1,109 @@
 // Rows of functions and of their parameters.
-ghost use Rattle.std.specs.Prelude.{Bool, false, ℕ, ◌≤◌, ◌<◌};
+ghost use Rattle.std.specs.Prelude.{Bool, false, ◌≤◌};
 ghost use Rattle.machine.specs.Machinery.Machine.{operand_in, function_first, look, row};
-ghost use Rattle.controls.specs.Machinery.Numbers.{ending_by, target_by, control_by};
+ghost use Rattle.controls.specs.Machinery.Numbers.{ending_by, target_by, control_of};
 ghost use Rattle.controls.specs.Machinery.Steps.{Means};
+ghost use Rattle.forms.specs.Machinery.Places.{rows_at};
 
 use crate::{goto, only, opens, push};
-use controls::{
-    BODY, BY_PAREN, BY_STATEMENT, Closing, DECLARED_FIRST, DECLARED_NAMED, DECLARED_PAST, Effect,
-    FUNCTION_FIRST, FUNCTION_NAMED, OPERAND_DONE, PARAMETER_DUE, PARAMETER_NAMED, PARAMETER_PAST,
-    STATEMENT_DUE, Step,
-};
+use controls::{Closing, Control, Effect, Place, Setting, Step};
 use machine::tokens;
 
-// The places of a function's parameters, and of a function that is an operand.
-pub fn function_row(place: u32, ending: u32, setting: u32, flag: bool, class: u32) -> Option<Step>
-    ensures { 33 ≤ place → place < 41 → (newline : Bool) → Means (control_by place ending setting flag) class result (look class (row (control_by place ending setting flag) newline)) }
+// The places of a function's parameters, of a function that is an operand, and of one that is declared.
+pub fn function_row(at: Control, class: u32) -> Option<Step>
+    ensures { 4 ≤ rows_at at.place → (newline : Bool) → Means (control_of at) class result (look class (row (control_of at) newline)) }
 {
-    match place {
-        PARAMETER_DUE => only(
+    match at.place {
+        Place::ParameterDue => only(
             class,
             tokens::NAME,
-            PARAMETER_NAMED,
-            BY_PAREN,
-            BODY,
-            true,
+            Control {
+                place: Place::ParameterNamed,
+                ..at
+            },
             Effect::Keep,
         ),
-        PARAMETER_NAMED => only(
+        Place::ParameterNamed => only(
             class,
             tokens::COMMA,
-            PARAMETER_DUE,
-            BY_PAREN,
-            BODY,
-            true,
+            Control {
+                place: Place::ParameterDue,
+                flag: true,
+                ..at
+            },
             Effect::Keep,
         ),
-        FUNCTION_FIRST => unnamed_row(ending, setting, flag, class),
-        FUNCTION_NAMED => opens(
+        Place::FunctionFirst => unnamed_row(at, class),
+        Place::FunctionNamed => opens(
             class,
             tokens::OPEN_PAREN,
-            PARAMETER_PAST,
-            ending,
-            setting,
-            flag,
+            Control {
+                place: Place::ParameterPast,
+                ..at
+            },
             Closing::Parameter,
         ),
-        PARAMETER_PAST => opens(
+        Place::ParameterPast => opens(
             class,
             tokens::OPEN_BRACE,
-            OPERAND_DONE,
-            ending,
-            setting,
-            flag,
+            Control {
+                place: Place::OperandDone,
+                ..at
+            },
             Closing::Function,
         ),
-        _ => declared_row(place, class),
-    }
-}
-
-// Behind `function` in an expression, which needs no name.
-fn unnamed_row(ending: u32, setting: u32, flag: bool, class: u32) -> Option<Step>
-    ensures { Means (function_first (operand_in (ending_by ending setting) (target_by ending flag))) class result (look class (row (function_first (operand_in (ending_by ending setting) (target_by ending flag))) false)) }
-{
-    match class {
-        tokens::NAME => goto(FUNCTION_NAMED, ending, setting, flag, Effect::Keep),
-        tokens::OPEN_PAREN => push(PARAMETER_PAST, ending, setting, flag, Closing::Parameter),
+        Place::DeclaredFirst => only(
+            class,
+            tokens::NAME,
+            Control {
+                place: Place::DeclaredNamed,
+                ..at
+            },
+            Effect::Keep,
+        ),
+        Place::DeclaredNamed => opens(
+            class,
+            tokens::OPEN_PAREN,
+            Control {
+                place: Place::DeclaredPast,
+                ..at
+            },
+            Closing::Parameter,
+        ),
+        Place::DeclaredPast => opens(
+            class,
+            tokens::OPEN_BRACE,
+            Control {
+                place: Place::StatementDue,
+                setting: Setting::Body,
+                flag: false,
+                ..at
+            },
+            Closing::Declaration,
+        ),
         _ => None,
     }
 }
 
-// The places of a function that is declared.
-fn declared_row(place: u32, class: u32) -> Option<Step>
-    ensures { 38 ≤ place → place < 41 → (ending setting : ℕ) (flag newline : Bool) → Means (control_by place ending setting flag) class result (look class (row (control_by place ending setting flag) newline)) }
+// Behind `function` in an expression, which needs no name.
+fn unnamed_row(at: Control, class: u32) -> Option<Step>
+    ensures { Means (function_first (operand_in (ending_by at.ending at.setting) (target_by at.ending at.flag))) class result (look class (row (function_first (operand_in (ending_by at.ending at.setting) (target_by at.ending at.flag))) false)) }
 {
-    match place {
-        DECLARED_FIRST => only(
-            class,
-            tokens::NAME,
-            DECLARED_NAMED,
-            BY_STATEMENT,
-            BODY,
-            false,
+    match class {
+        tokens::NAME => goto(
+            Control {
+                place: Place::FunctionNamed,
+                ..at
+            },
             Effect::Keep,
         ),
-        DECLARED_NAMED => opens(
-            class,
-            tokens::OPEN_PAREN,
-            DECLARED_PAST,
-            BY_STATEMENT,
-            BODY,
-            false,
+        tokens::OPEN_PAREN => push(
+            Control {
+                place: Place::ParameterPast,
+                ..at
+            },
             Closing::Parameter,
         ),
-        _ => opens(
-            class,
-            tokens::OPEN_BRACE,
-            STATEMENT_DUE,
-            BY_STATEMENT,
-            BODY,
-            false,
-            Closing::Declaration,
-        ),
+        _ => None,
     }
 }

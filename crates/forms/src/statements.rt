@@ -1,56 +1,72 @@
 // Rows of the statements that start with a word: behind the word, in a `switch` and in a `try`.
-ghost use Rattle.std.specs.Prelude.{Bool, true, false, [], ◌∷◌, ℕ, ◌≤◌};
+ghost use Rattle.std.specs.Prelude.{◌≡◌, Bool, false, [], ◌∷◌, ◌≤◌};
 ghost use Rattle.machine.specs.Tokens.{open_brace};
 ghost use Rattle.machine.specs.Scopes.{block};
 ghost use Rattle.machine.specs.Machinery.Machine.{among, some_target, by_case, to_block, statement_due, operand_due, switch_past, clause_due, default_first, try_done, on, push, look, row};
 ghost use Rattle.controls.specs.declared.Effect.TheVariants.{StartStatement};
-ghost use Rattle.controls.specs.Machinery.Numbers.{setting_by, control_by};
+ghost use Rattle.controls.specs.Machinery.Numbers.{setting_by, control_of};
 ghost use Rattle.controls.specs.Machinery.Steps.{Spans, Means, Goes};
+ghost use Rattle.forms.specs.Machinery.Places.{rows_at};
 
+use crate::functions::function_row;
 use crate::{goto, head_row, only, opens};
-use controls::{
-    BODY, BODY_DONE, BY_CASE, BY_LAST_CASE, BY_PAREN, BY_STATEMENT, CATCH_DONE, CATCH_DUE,
-    CATCH_FIRST, CATCH_NAMED, CATCH_PAST, CLAUSE_DUE, Closing, DEFAULT_FIRST, Effect,
-    FINALLY_FIRST, FOR_FIRST, HEAD_FIRST, Nest, OPERAND_DUE, SEMICOLON_DUE, STATEMENT_DUE,
-    SWITCH_FIRST, SWITCH_PAST, Step, TEST_FIRST, TRY_DONE, TRY_ENDED, TRY_FIRST, VARIABLE_DUE,
-    VARIABLE_NAMED, behind_statement,
-};
+use controls::{Closing, Control, Effect, Ending, Nest, Place, Setting, Step, behind_statement};
 use machine::tokens;
 
 // The places behind the word of a statement at which one class alone goes on: a head, a variable's name, the `while` of a `do` and its
-// test, the block of a `switch`.
-pub fn word_form_row(place: u32, ending: u32, setting: u32, class: u32) -> Option<Step>
-    ensures { 17 ≤ place → place ≤ 23 → (flag newline : Bool) → Means (control_by place ending setting flag) class result (look class (row (control_by place ending setting flag) newline)) }
+// test, the block of a `switch`; and the later ones.
+pub fn word_form_row(at: Control, class: u32) -> Option<Step>
+    ensures { 2 ≤ rows_at at.place → (newline : Bool) → Means (control_of at) class result (look class (row (control_of at) newline)) }
 {
-    match place {
-        HEAD_FIRST => head_row(class, STATEMENT_DUE, setting, Closing::Head),
-        VARIABLE_DUE => only(
+    let statement = Control {
+        place: Place::StatementDue,
+        flag: true,
+        ..at
+    };
+    match at.place {
+        Place::HeadFirst => head_row(class, statement, Closing::Head),
+        Place::VariableDue => only(
             class,
             tokens::NAME,
-            VARIABLE_NAMED,
-            ending,
-            setting,
-            true,
+            Control {
+                place: Place::VariableNamed,
+                ..at
+            },
             Effect::StartStatement,
         ),
-        BODY_DONE => only(
+        Place::BodyDone => only(
             class,
             tokens::WHILE,
-            TEST_FIRST,
-            BY_STATEMENT,
-            setting,
-            true,
+            Control {
+                place: Place::TestFirst,
+                ..at
+            },
             Effect::Keep,
         ),
-        TEST_FIRST => head_row(class, SEMICOLON_DUE, setting, Closing::Test),
-        FOR_FIRST => head_row(class, STATEMENT_DUE, setting, Closing::For),
-        SWITCH_FIRST => head_row(class, SWITCH_PAST, setting, Closing::Head),
-        _ => switch_row(class, setting),
+        Place::TestFirst => head_row(
+            class,
+            Control {
+                place: Place::SemicolonDue,
+                ..at
+            },
+            Closing::Test,
+        ),
+        Place::ForFirst => head_row(class, statement, Closing::For),
+        Place::SwitchFirst => head_row(
+            class,
+            Control {
+                place: Place::SwitchPast,
+                ..at
+            },
+            Closing::Head,
+        ),
+        Place::SwitchPast => switch_row(class, at.setting),
+        _ => try_row(at, class),
     }
 }
 
 // The block of a `switch`.
-fn switch_row(class: u32, setting: u32) -> Option<Step>
+fn switch_row(class: u32, setting: Setting) -> Option<Step>
     ensures { Means (switch_past (setting_by setting)) class result (look class (row (switch_past (setting_by setting)) false)) }
 {
     match class {
@@ -60,16 +76,16 @@ fn switch_row(class: u32, setting: u32) -> Option<Step>
 }
 
 // Where a clause of a `switch` is due: no other `default` may come behind one.
-fn clause_row(class: u32, seen: bool) -> Option<Step>
-    ensures { Means (clause_due seen) class result (look class (row (clause_due seen) false)) }
+fn clause_row(at: Control, class: u32) -> Option<Step>
+    ensures { Means (clause_due at.flag) class result (look class (row (clause_due at.flag) false)) }
 {
     match class {
-        tokens::CASE => case_row(seen),
-        tokens::DEFAULT if !seen => goto(
-            DEFAULT_FIRST,
-            BY_STATEMENT,
-            BODY,
-            true,
+        tokens::CASE => case_row(at),
+        tokens::DEFAULT if !at.flag => goto(
+            Control {
+                place: Place::DefaultFirst,
+                ..at
+            },
             Effect::StartStatement,
         ),
         _ => None,
@@ -77,11 +93,23 @@ fn clause_row(class: u32, seen: bool) -> Option<Step>
 }
 
 // The value of a `case` tells whether a `default` has come.
-fn case_row(seen: bool) -> Option<Step>
-    ensures { Goes result (operand_due (by_case seen) some_target) StartStatement }
+fn case_row(at: Control) -> Option<Step>
+    ensures { Goes result (operand_due (by_case at.flag) some_target) StartStatement }
 {
-    let ending = if seen { BY_LAST_CASE } else { BY_CASE };
-    goto(OPERAND_DUE, ending, BODY, true, Effect::StartStatement)
+    let ending = if at.flag {
+        Ending::LastCase
+    } else {
+        Ending::Case
+    };
+    goto(
+        Control {
+            place: Place::OperandDue,
+            ending,
+            flag: true,
+            ..at
+        },
+        Effect::StartStatement,
+    )
 }
 
 // Behind `default`.
@@ -89,68 +117,86 @@ fn default_row(class: u32) -> Option<Step>
     ensures { Means default_first class result (look class (row default_first false)) }
 {
     match class {
-        tokens::COLON => Some(Step::Enter(Nest::LastClause, BODY)),
+        tokens::COLON => Some(Step::Enter(Nest::LastClause, Setting::Body)),
         _ => None,
     }
 }
 
-// The places of a clause and of a `try`.
-pub fn try_row(place: u32, flag: bool, class: u32) -> Option<Step>
-    ensures { 24 ≤ place → place ≤ 32 → (ending setting : ℕ) (newline : Bool) → Means (control_by place ending setting flag) class result (look class (row (control_by place ending setting flag) newline)) }
+// The places of a clause and of a `try`, and the later ones.
+fn try_row(at: Control, class: u32) -> Option<Step>
+    ensures { 3 ≤ rows_at at.place → (newline : Bool) → Means (control_of at) class result (look class (row (control_of at) newline)) }
 {
-    match place {
-        CLAUSE_DUE => clause_row(class, flag),
-        DEFAULT_FIRST => default_row(class),
-        TRY_FIRST => block_row(class, TRY_DONE),
-        TRY_DONE => handler_row(class),
-        CATCH_FIRST => head_row(class, CATCH_PAST, BODY, Closing::Catch),
-        CATCH_DUE => only(
+    match at.place {
+        Place::ClauseDue => clause_row(at, class),
+        Place::DefaultFirst => default_row(class),
+        Place::TryFirst => block_row(
+            class,
+            Control {
+                place: Place::TryDone,
+                ..at
+            },
+        ),
+        Place::TryDone => handler_row(at, class),
+        Place::CatchFirst => head_row(
+            class,
+            Control {
+                place: Place::CatchPast,
+                ..at
+            },
+            Closing::Catch,
+        ),
+        Place::CatchDue => only(
             class,
             tokens::NAME,
-            CATCH_NAMED,
-            BY_PAREN,
-            BODY,
-            true,
+            Control {
+                place: Place::CatchNamed,
+                ..at
+            },
             Effect::Keep,
         ),
-        CATCH_PAST => block_row(class, CATCH_DONE),
-        FINALLY_FIRST => block_row(class, TRY_ENDED),
-        _ => None,
+        Place::CatchNamed => None,
+        Place::CatchPast => block_row(
+            class,
+            Control {
+                place: Place::CatchDone,
+                ..at
+            },
+        ),
+        Place::FinallyFirst => block_row(
+            class,
+            Control {
+                place: Place::TryEnded,
+                ..at
+            },
+        ),
+        _ => function_row(at, class),
     }
 }
 
-// A block of a `try`, behind which the machine stands at a place.
-fn block_row(class: u32, place: u32) -> Option<Step>
-    ensures { (from : Rattle.machine.specs.Machinery.Machine.Control) → Spans to_block from (control_by place 0 0 true) → Means from class result (look class (on open_brace (push (statement_due false (among block)) (control_by place 0 0 true) to_block) ∷ [])) }
+// A block of a `try`.
+fn block_row(class: u32, behind: Control) -> Option<Step>
+    ensures { (from : Rattle.machine.specs.Machinery.Machine.Control) → Spans to_block from (control_of behind) → Means from class result (look class (on open_brace (push (statement_due false (among block)) (control_of behind) to_block) ∷ [])) }
 {
-    opens(
-        class,
-        tokens::OPEN_BRACE,
-        place,
-        BY_STATEMENT,
-        BODY,
-        true,
-        Closing::Block,
-    )
+    opens(class, tokens::OPEN_BRACE, behind, Closing::Block)
 }
 
 // Behind the block of a `try`.
-fn handler_row(class: u32) -> Option<Step>
+fn handler_row(at: Control, class: u32) -> Option<Step>
     ensures { Means try_done class result (look class (row try_done false)) }
 {
     match class {
         tokens::CATCH => goto(
-            CATCH_FIRST,
-            BY_STATEMENT,
-            BODY,
-            true,
+            Control {
+                place: Place::CatchFirst,
+                ..at
+            },
             Effect::StartStatement,
         ),
         tokens::FINALLY => goto(
-            FINALLY_FIRST,
-            BY_STATEMENT,
-            BODY,
-            true,
+            Control {
+                place: Place::FinallyFirst,
+                ..at
+            },
             Effect::StartStatement,
         ),
         _ => None,

@@ -1,5 +1,5 @@
 -- Behind an operand: a chain, or a Unary that is none.
-use mathlib.Core.Path.{◌≡◌, refl, sym, ◌∙◌, subst}
+use mathlib.Core.Path.{◌≡◌, refl, sym, ◌∙◌, ap, subst}
 use mathlib.Core.Bool.{Bool, true, false, not, cond, ◌&&◌, false≢true}
 use mathlib.Core.List.{List}
 use Prim.Native.Nat.{ℕ, ◌≤◌, ◌<◌}
@@ -11,11 +11,18 @@ use Rattle.machine.specs.Operators.{assignment_operators, postfix_operators, is_
 use Rattle.machine.specs.Machinery.Machine.{Target, some_target, takes_in, Ending, by_object, Control, operand_due, operand_done, postfix_done, Entry, look, in_entry, after_unary, assignment_row, postfix_row, after_operand, row}
 use Rattle.std.specs.Prelude.{Option}
 use Rattle.controls.specs.declared.Step.{Step}
+use Rattle.controls.specs.declared.Setting as settings
+use Rattle.controls.specs.declared.Ending as endings
+use Rattle.controls.specs.declared.Ending.TheVariants.{LoneStart}
 use Rattle.controls.specs.declared.Effect.TheVariants.{TakeOperator, TakePostfix, EndValue}
-use Rattle.controls.specs.Machinery.Numbers.{ending_by, target_by}
+use Rattle.controls.specs.Machinery.Numbers.{is_lone, ending_by, target_by}
 use Rattle.controls.specs.Machinery.Steps.{Ended, ended_operand, ended_postfix, before_target, to_assign, to-object, to_postfix, Goes, Means}
 use Rattle.controls.proofs.ClassLaws.{among_all}
 use Rattle.operators.proofs.EndingLaws.{some-target, is-target, no_in_entry, postfix_next, no_postfix, assignment_next, no_assignment, neither_next}
+
+lone : (ending : endings.Ending) → is_lone ending ≡ true → ending ≡ LoneStart
+lone LoneStart is = refl
+lone _ is = absurd (false≢true is)
 
 -- what the machine does there, by whether it is a chain
 abbrev Behind : Ending → Target → Bool → ℕ → Option Step → Bool → Type 0
@@ -38,7 +45,7 @@ sign_next class ending target newline past a b c =
     rw (ne_eqb class dot a, ne_eqb class open_paren b, ne_eqb class open_bracket c) (neither_next class ending past target newline (after_unary ending))
 
 -- operators: none has the class of a sign
-module _ (class ending setting : ℕ) (few : class < comma) where
+module _ (class : ℕ) (ending : endings.Ending) (setting : settings.Setting) (few : class < comma) where
   abbrev here : Ending
   here = ending_by ending setting
 
@@ -60,18 +67,17 @@ module _ (class ending setting : ℕ) (few : class < comma) where
       (goes _ _ o.1 (to_assign (is-target ending) (subst T (sym is) tt)))
 
   pub heads : {step : Option Step} (newline chain target : Bool) → Goes step (operand_due by_object some_target) EndValue
-      → (chain && (target && (eqb class in_word && eqb ending 5))) ≡ true → Behind here (target_by ending target) chain class step newline
-  unfolding ending_by target_by
+      → (chain && (target && (eqb class in_word && is_lone ending))) ≡ true → Behind here (target_by ending target) chain class step newline
   heads newline false target goes is = absurd (false≢true is)
   heads newline true false goes is = absurd (false≢true is)
-  heads {step} newline true true goes is = go (eqb class in_word) (eqb ending 5) refl refl is
+  heads {step} newline true true goes is = go (eqb class in_word) (is_lone ending) refl refl is
     where
-      go : (a b : Bool) → eqb class in_word ≡ a → eqb ending 5 ≡ b → (a && b) ≡ true → Behind here (target_by ending true) true class step newline
+      go : (a b : Bool) → eqb class in_word ≡ a → is_lone ending ≡ b → (a && b) ≡ true → Behind here (target_by ending true) true class step newline
       go false b e f is = absurd (false≢true is)
       go true false e f is = absurd (false≢true is)
       go true true e f is =
           subst (λ c. Behind here (target_by ending true) true c step newline) (sym (eqb-true class in_word e))
-          (subst (λ n. Behind (ending_by n setting) (target_by n true) true in_word step newline) (sym (eqb-true ending 5 f)) (goes _ _ tt (to-object (before_target tt))))
+          (subst (λ n. Behind (ending_by n setting) (target_by n true) true in_word step newline) (sym (lone ending f)) (goes _ _ tt (to-object (before_target tt))))
 
   pub increments : {step : Option Step} (newline chain target : Bool) → Goes step (postfix_done here) TakePostfix
       → (chain && (not newline && is_among postfix_operators class)) ≡ true → Behind here (target_by ending target) chain class step newline
@@ -90,20 +96,18 @@ module _ (class ending setting : ℕ) (few : class < comma) where
       T_true {b = false} t = absurd t
 
   -- and one that a chain does not take first
-  no_in : (target : Bool) (rest : List Entry) → (target && (eqb class in_word && eqb ending 5)) ≡ false
+  no_in : (target : Bool) (rest : List Entry) → (target && (eqb class in_word && is_lone ending)) ≡ false
       → look class (in_entry (takes_in here (target_by ending target)) rest) ≡ look class rest
-  unfolding target_by
   no_in false rest none = refl
-  no_in true rest none = go (eqb class in_word) (eqb ending 5) refl refl none
+  no_in true rest none = go (eqb class in_word) (is_lone ending) refl refl none
     where
-      go : (a b : Bool) → eqb class in_word ≡ a → eqb ending 5 ≡ b → (a && b) ≡ false → look class (in_entry (takes_in here (target_by ending true)) rest) ≡ look class rest
+      go : (a b : Bool) → eqb class in_word ≡ a → is_lone ending ≡ b → (a && b) ≡ false → look class (in_entry (takes_in here (target_by ending true)) rest) ≡ look class rest
       go false b e f none = no_in_entry class (eqb-false class in_word e) (takes_in here (target_by ending true)) rest
-      go true false e f none = rw (some-target ending (eqb-false ending 5 f))
+      go true false e f none = rw (some-target ending (λ e. false≢true (sym f ∙ ap is_lone e)))
       go true true e f none = absurd (false≢true (sym none))
 
   assigns_none : (target : Bool) (rest : List Entry) → (target && is_among assignment_operators class) ≡ false
       → look class (assignment_row here (target_by ending target) rest) ≡ look class rest
-  unfolding target_by
   assigns_none false rest none = refl
   assigns_none true rest none = no_assignment class here rest none (target_by ending true)
 
@@ -114,7 +118,7 @@ module _ (class ending setting : ℕ) (few : class < comma) where
 
   pub operator_next : (newline chain target : Bool)
       → (chain && (target && is_among assignment_operators class)) ≡ false
-      → (chain && (target && (eqb class in_word && eqb ending 5))) ≡ false
+      → (chain && (target && (eqb class in_word && is_lone ending))) ≡ false
       → (chain && (not newline && is_among postfix_operators class)) ≡ false
       → chain ≡ true → look class (after_operand here (target_by ending target) newline) ≡ look class (after_unary here)
   operator_next newline false target a b c e = absurd (false≢true e)

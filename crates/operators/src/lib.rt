@@ -7,163 +7,185 @@ ghost use Rattle.machine.specs.Tokens.{in_word, semicolon, comma, colon};
 ghost use Rattle.machine.specs.Operators.{assignment_operators, postfix_operators, is_among};
 ghost use Rattle.machine.specs.Machinery.Machine.{no_target, some_target, behind_variables, later_variables, behind_statement, variable_due, operand_due, operand_done, postfix_done, by_object, look, ending_row, after_unary, after_operand, row};
 ghost use Rattle.controls.specs.declared.Effect.TheVariants.{TakeOperator, EndValue, EndVariable};
-ghost use Rattle.controls.specs.Machinery.Numbers.{setting_by, variables_by, ending_by, target_by};
+ghost use Rattle.controls.specs.Machinery.Numbers.{setting_by, variables_by, ending_by, is_lone, target_by};
 ghost use Rattle.controls.specs.Machinery.Steps.{Ended, Goes, Means};
 
 use controls::{
-    BODY, BY_ARGUMENT, BY_CASE, BY_COLON, BY_FIRST_VARIABLE, BY_LAST_CASE, BY_LATER_VARIABLE,
-    BY_LONE_START, BY_OBJECT, BY_RETURN, BY_START, BY_STATEMENT, BY_STEP, BY_TEST, BY_VARIABLE,
-    Closing, DOT_LAST, Effect, ITEM_DUE, Nest, OPERAND_DONE, OPERAND_DUE, POSTFIX_DONE, STEP_DUE,
-    Step, TEST_DUE, VARIABLE_DUE, behind_statement, bindings, past_start,
+    Closing, Control, Effect, Ending, Nest, Place, Setting, Step, behind_statement, bindings,
+    past_start,
 };
 use forms::{goto, push};
 use machine::tokens;
 
 // Ends a statement.
-pub fn end_statement(setting: u32, effect: Effect) -> Option<Step>
+pub fn end_statement(setting: Setting, effect: Effect) -> Option<Step>
     ensures { Goes result (behind_statement (setting_by setting)) effect }
 {
-    Some(Step::Goto(behind_statement(setting), effect))
+    goto(behind_statement(setting), effect)
 }
 
 // Behind an operator between two operands one is due that may not be assigned to.
-fn behind_operator(ending: u32, setting: u32) -> Option<Step>
-    ensures { Goes result (operand_due (ending_by ending setting) no_target) TakeOperator }
+fn behind_operator(at: Control) -> Option<Step>
+    ensures { Goes result (operand_due (ending_by at.ending at.setting) no_target) TakeOperator }
 {
-    goto(OPERAND_DUE, ending, setting, false, Effect::TakeOperator)
+    goto(
+        Control {
+            place: Place::OperandDue,
+            flag: false,
+            ..at
+        },
+        Effect::TakeOperator,
+    )
 }
 
 // Behind an assignment or a `,` one is due that may, but it is not all of the start of a `for`'s head.
-fn behind_assignment(ending: u32, setting: u32) -> Option<Step>
-    ensures { Goes result (operand_due (ending_by ending setting) some_target) TakeOperator }
+fn behind_assignment(at: Control) -> Option<Step>
+    ensures { Goes result (operand_due (ending_by at.ending at.setting) some_target) TakeOperator }
 {
     goto(
-        OPERAND_DUE,
-        past_start(ending),
-        setting,
-        true,
+        Control {
+            place: Place::OperandDue,
+            ending: past_start(at.ending),
+            flag: true,
+            ..at
+        },
         Effect::TakeOperator,
     )
 }
 
 // `;` behind the last of variables.
-pub fn variables_end(ending: u32, setting: u32) -> Option<Step>
-    ensures { 2 ≤ ending → ending ≤ 4 → Goes result (behind_variables (variables_by ending setting)) EndValue }
+pub fn variables_end(at: Control) -> Option<Step>
+    ensures { Goes result (behind_variables (variables_by at.ending at.setting)) EndValue }
 {
-    if ending == BY_VARIABLE {
-        return end_statement(setting, Effect::EndValue);
+    match at.ending {
+        Ending::FirstVariable | Ending::LaterVariable => goto(
+            Control {
+                place: Place::TestDue,
+                ..at
+            },
+            Effect::EndValue,
+        ),
+        _ => end_statement(at.setting, Effect::EndValue),
     }
-    goto(TEST_DUE, BY_TEST, BODY, true, Effect::EndValue)
 }
 
 // Behind the `,` of a variable a later one is due.
-pub fn next_variable(ending: u32, setting: u32) -> Option<Step>
-    ensures { Goes result (variable_due (later_variables (variables_by ending setting))) EndVariable }
+pub fn next_variable(at: Control) -> Option<Step>
+    ensures { Goes result (variable_due (later_variables (variables_by at.ending at.setting))) EndVariable }
 {
-    if ending == BY_FIRST_VARIABLE {
-        return goto(
-            VARIABLE_DUE,
-            BY_LATER_VARIABLE,
-            setting,
-            true,
-            Effect::EndVariable,
-        );
-    }
-    goto(VARIABLE_DUE, ending, setting, true, Effect::EndVariable)
+    let ending = match at.ending {
+        Ending::FirstVariable => Ending::LaterVariable,
+        _ => at.ending,
+    };
+    goto(
+        Control {
+            place: Place::VariableDue,
+            ending,
+            ..at
+        },
+        Effect::EndVariable,
+    )
 }
 
 // The `in` of a `for`.
-pub fn in_row() -> Option<Step>
+pub fn in_row(at: Control) -> Option<Step>
     ensures { Goes result (operand_due by_object some_target) EndValue }
 {
-    goto(OPERAND_DUE, BY_OBJECT, BODY, true, Effect::EndValue)
+    goto(
+        Control {
+            place: Place::OperandDue,
+            ending: Ending::Object,
+            flag: true,
+            ..at
+        },
+        Effect::EndValue,
+    )
 }
 
 // `;` behind an expression.
-fn semicolon_row(ending: u32, setting: u32) -> Option<Step>
-    ensures { (from : Rattle.machine.specs.Machinery.Machine.Control) → Ended from (ending_by ending setting) → Means from semicolon result (look semicolon (ending_row (ending_by ending setting))) }
+fn semicolon_row(at: Control) -> Option<Step>
+    ensures { (from : Rattle.machine.specs.Machinery.Machine.Control) → Ended from (ending_by at.ending at.setting) → Means from semicolon result (look semicolon (ending_row (ending_by at.ending at.setting))) }
 {
-    if ending == BY_STATEMENT {
-        return end_statement(setting, Effect::EndExpression);
+    match at.ending {
+        Ending::Statement => end_statement(at.setting, Effect::EndExpression),
+        Ending::Return => end_statement(at.setting, Effect::EndValue),
+        Ending::Variable | Ending::FirstVariable | Ending::LaterVariable => variables_end(at),
+        Ending::LoneStart | Ending::Start => goto(
+            Control {
+                place: Place::TestDue,
+                ..at
+            },
+            Effect::EndValue,
+        ),
+        Ending::Test => goto(
+            Control {
+                place: Place::StepDue,
+                ..at
+            },
+            Effect::EndValue,
+        ),
+        _ => None,
     }
-    if ending == BY_RETURN {
-        return end_statement(setting, Effect::EndValue);
-    }
-    if ending <= BY_LATER_VARIABLE {
-        return variables_end(ending, setting);
-    }
-    if ending <= BY_START {
-        return goto(TEST_DUE, BY_TEST, BODY, true, Effect::EndValue);
-    }
-    if ending == BY_TEST {
-        return goto(STEP_DUE, BY_STEP, BODY, true, Effect::EndValue);
-    }
-    None
 }
 
 // `,` behind an expression: an item of a list or a variable ends, and behind an argument another must come; elsewhere it is an operator,
 // but not in the middle of a conditional.
-fn comma_row(ending: u32, setting: u32) -> Option<Step>
-    ensures { (from : Rattle.machine.specs.Machinery.Machine.Control) → Ended from (ending_by ending setting) → Means from comma result (look comma (ending_row (ending_by ending setting))) }
+fn comma_row(at: Control) -> Option<Step>
+    ensures { (from : Rattle.machine.specs.Machinery.Machine.Control) → Ended from (ending_by at.ending at.setting) → Means from comma result (look comma (ending_row (ending_by at.ending at.setting))) }
 {
-    if ending == BY_ARGUMENT {
-        return goto(OPERAND_DUE, BY_ARGUMENT, BODY, true, Effect::EndValue);
+    match at.ending {
+        Ending::Argument => goto(
+            Control {
+                place: Place::OperandDue,
+                flag: true,
+                ..at
+            },
+            Effect::EndValue,
+        ),
+        Ending::Element | Ending::Property => goto(
+            Control {
+                place: Place::ItemDue,
+                ..at
+            },
+            Effect::EndValue,
+        ),
+        Ending::Variable | Ending::FirstVariable | Ending::LaterVariable => next_variable(at),
+        Ending::Colon => None,
+        _ => behind_assignment(at),
     }
-    if BY_ARGUMENT < ending {
-        return goto(ITEM_DUE, ending, BODY, true, Effect::EndValue);
-    }
-    if ending == BY_COLON {
-        return None;
-    }
-    if ending <= BY_RETURN {
-        return behind_assignment(ending, setting);
-    }
-    if ending <= BY_LATER_VARIABLE {
-        return next_variable(ending, setting);
-    }
-    behind_assignment(ending, setting)
 }
 
 // `:` behind an expression: it answers a `?`, or the statements of a `case` follow.
-fn colon_row(ending: u32, setting: u32) -> Option<Step>
-    ensures { (from : Rattle.machine.specs.Machinery.Machine.Control) → Ended from (ending_by ending setting) → Means from colon result (look colon (ending_row (ending_by ending setting))) }
+fn colon_row(at: Control) -> Option<Step>
+    ensures { (from : Rattle.machine.specs.Machinery.Machine.Control) → Ended from (ending_by at.ending at.setting) → Means from colon result (look colon (ending_row (ending_by at.ending at.setting))) }
 {
-    if ending == BY_COLON {
-        return Some(Step::Turn);
+    match at.ending {
+        Ending::Colon => Some(Step::Turn),
+        Ending::Case => Some(Step::Enter(Nest::Clause, Setting::Body)),
+        Ending::LastCase => Some(Step::Enter(Nest::LastClause, Setting::Body)),
+        _ => None,
     }
-    if ending == BY_CASE {
-        return Some(Step::Enter(Nest::Clause, BODY));
-    }
-    if ending == BY_LAST_CASE {
-        return Some(Step::Enter(Nest::LastClause, BODY));
-    }
-    None
 }
 
 // `in` behind an expression: an operator, but not before the first `;` of a `for`'s head, where it may stand behind one variable.
-fn in_operator_row(ending: u32, setting: u32) -> Option<Step>
-    ensures { (from : Rattle.machine.specs.Machinery.Machine.Control) → Ended from (ending_by ending setting) → Means from in_word result (look in_word (after_unary (ending_by ending setting))) }
+fn in_operator_row(at: Control) -> Option<Step>
+    ensures { (from : Rattle.machine.specs.Machinery.Machine.Control) → Ended from (ending_by at.ending at.setting) → Means from in_word result (look in_word (after_unary (ending_by at.ending at.setting))) }
 {
-    if BY_START < ending {
-        return behind_operator(ending, setting);
+    match at.ending {
+        Ending::FirstVariable => in_row(at),
+        Ending::LaterVariable | Ending::LoneStart | Ending::Start => None,
+        _ => behind_operator(at),
     }
-    if ending <= BY_VARIABLE {
-        return behind_operator(ending, setting);
-    }
-    if ending == BY_FIRST_VARIABLE {
-        return in_row();
-    }
-    None
 }
 
 // Behind a whole Unary, an operator or `?`.
-fn binary_row(class: u32, ending: u32, setting: u32) -> Option<Step>
-    ensures { class < comma → (from : Rattle.machine.specs.Machinery.Machine.Control) → Ended from (ending_by ending setting) → Means from class result (look class (after_unary (ending_by ending setting))) }
+fn binary_row(at: Control, class: u32) -> Option<Step>
+    ensures { class < comma → (from : Rattle.machine.specs.Machinery.Machine.Control) → Ended from (ending_by at.ending at.setting) → Means from class result (look class (after_unary (ending_by at.ending at.setting))) }
 {
     match class {
-        tokens::IN => in_operator_row(ending, setting),
+        tokens::IN => in_operator_row(at),
         tokens::QUESTION => Some(Step::Ask),
-        _ if bindings::is_binary(class) => behind_operator(ending, setting),
+        _ if bindings::is_binary(class) => behind_operator(at),
         _ => None,
     }
 }
@@ -176,10 +198,10 @@ fn takes_assignment(class: u32, target: bool, chain: bool) -> bool
 }
 
 // One that is all there is so far may stand before the `in` of a `for`.
-fn takes_in(class: u32, ending: u32, target: bool, chain: bool) -> bool
-    ensures { result ≡ (chain && (target && (eqb class in_word && eqb ending 5))) }
+fn takes_in(class: u32, ending: Ending, target: bool, chain: bool) -> bool
+    ensures { result ≡ (chain && (target && (eqb class in_word && is_lone ending))) }
 {
-    chain && target && class == tokens::IN && ending == BY_LONE_START
+    chain && target && class == tokens::IN && matches!(ending, Ending::LoneStart)
 }
 
 // `++` and `--` want no line end before them.
@@ -190,68 +212,71 @@ fn takes_postfix(class: u32, newline: bool, chain: bool) -> bool
 }
 
 // Operators behind an operand.
-fn operation_row(
-    class: u32,
-    ending: u32,
-    setting: u32,
-    target: bool,
-    newline: bool,
-    chain: bool,
-) -> Option<Step>
-    ensures { class < comma → Means (cond chain (operand_done (ending_by ending setting) (target_by ending target)) (postfix_done (ending_by ending setting))) class result (look class (row (cond chain (operand_done (ending_by ending setting) (target_by ending target)) (postfix_done (ending_by ending setting))) newline)) }
+fn operation_row(at: Control, class: u32, newline: bool, chain: bool) -> Option<Step>
+    ensures { class < comma → Means (cond chain (operand_done (ending_by at.ending at.setting) (target_by at.ending at.flag)) (postfix_done (ending_by at.ending at.setting))) class result (look class (row (cond chain (operand_done (ending_by at.ending at.setting) (target_by at.ending at.flag)) (postfix_done (ending_by at.ending at.setting))) newline)) }
 {
-    if takes_assignment(class, target, chain) {
-        return behind_assignment(ending, setting);
+    if takes_assignment(class, at.flag, chain) {
+        return behind_assignment(at);
     }
-    if takes_in(class, ending, target, chain) {
-        return in_row();
+    if takes_in(class, at.ending, at.flag, chain) {
+        return in_row(at);
     }
     if takes_postfix(class, newline, chain) {
-        return goto(POSTFIX_DONE, ending, setting, true, Effect::TakePostfix);
+        return goto(
+            Control {
+                place: Place::PostfixDone,
+                ..at
+            },
+            Effect::TakePostfix,
+        );
     }
-    binary_row(class, ending, setting)
+    binary_row(at, class)
 }
 
 // What makes a chain longer.
-fn link_row(class: u32, ending: u32, setting: u32, target: bool) -> Option<Step>
-    ensures { comma < class → (class ≡ semicolon → ⊥) → (class ≡ colon → ⊥) → (newline : Bool) → Means (operand_done (ending_by ending setting) (target_by ending target)) class result (look class (after_operand (ending_by ending setting) (target_by ending target) newline)) }
+fn link_row(at: Control, class: u32) -> Option<Step>
+    ensures { comma < class → (class ≡ semicolon → ⊥) → (class ≡ colon → ⊥) → (newline : Bool) → Means (operand_done (ending_by at.ending at.setting) (target_by at.ending at.flag)) class result (look class (after_operand (ending_by at.ending at.setting) (target_by at.ending at.flag) newline)) }
 {
+    let longer = Control {
+        place: Place::OperandDone,
+        ..at
+    };
     match class {
-        tokens::DOT => goto(DOT_LAST, ending, setting, target, Effect::Keep),
-        tokens::OPEN_PAREN => push(OPERAND_DONE, ending, setting, target, Closing::Call),
-        tokens::OPEN_BRACKET => push(OPERAND_DONE, ending, setting, target, Closing::Index),
+        tokens::DOT => goto(
+            Control {
+                place: Place::DotLast,
+                ..at
+            },
+            Effect::Keep,
+        ),
+        tokens::OPEN_PAREN => push(longer, Closing::Call),
+        tokens::OPEN_BRACKET => push(longer, Closing::Index),
         _ => None,
     }
 }
 
 // `,` and the signs behind an operand.
-fn sign_row(class: u32, ending: u32, setting: u32, target: bool, chain: bool) -> Option<Step>
-    ensures { comma ≤ class → (newline : Bool) → Means (cond chain (operand_done (ending_by ending setting) (target_by ending target)) (postfix_done (ending_by ending setting))) class result (look class (row (cond chain (operand_done (ending_by ending setting) (target_by ending target)) (postfix_done (ending_by ending setting))) newline)) }
+fn sign_row(at: Control, class: u32, chain: bool) -> Option<Step>
+    ensures { comma ≤ class → (newline : Bool) → Means (cond chain (operand_done (ending_by at.ending at.setting) (target_by at.ending at.flag)) (postfix_done (ending_by at.ending at.setting))) class result (look class (row (cond chain (operand_done (ending_by at.ending at.setting) (target_by at.ending at.flag)) (postfix_done (ending_by at.ending at.setting))) newline)) }
 {
     match class {
-        tokens::SEMICOLON => semicolon_row(ending, setting),
-        tokens::COMMA => comma_row(ending, setting),
-        tokens::COLON => colon_row(ending, setting),
-        _ if chain => link_row(class, ending, setting, target),
+        tokens::SEMICOLON => semicolon_row(at),
+        tokens::COMMA => comma_row(at),
+        tokens::COLON => colon_row(at),
+        _ if chain => link_row(at, class),
         _ => None,
     }
 }
 
 // Behind an operand: a chain, or behind `++` or `--` a Unary that is none. Both are one row, so that each row beneath has one call: the
 // compiler sets in what has one, and a step that is handed over through memory is slow.
-pub fn operator_row(
-    class: u32,
-    ending: u32,
-    setting: u32,
-    target: bool,
-    newline: bool,
-    chain: bool,
-) -> Option<Step>
-    ensures { Means (cond chain (operand_done (ending_by ending setting) (target_by ending target)) (postfix_done (ending_by ending setting))) class result (look class (row (cond chain (operand_done (ending_by ending setting) (target_by ending target)) (postfix_done (ending_by ending setting))) newline)) }
+pub fn operator_row(at: Control, class: u32, newline: bool, chain: bool) -> Option<Step>
+    ensures { Means (cond chain (operand_done (ending_by at.ending at.setting) (target_by at.ending at.flag)) (postfix_done (ending_by at.ending at.setting))) class result (look class (row (cond chain (operand_done (ending_by at.ending at.setting) (target_by at.ending at.flag)) (postfix_done (ending_by at.ending at.setting))) newline)) }
 {
     // No operator has a class from that of `,` on, but `,` itself.
     if class < tokens::COMMA {
-        return operation_row(class, ending, setting, target, newline, chain);
+        operation_row(at, class, newline, chain)
+    } else {
+        sign_row(at, class, chain)
     }
-    sign_row(class, ending, setting, target, chain)
 }

@@ -11,12 +11,13 @@ use Rattle.machine.specs.Operators.{prefix_operators, prefix_kind}
 use Rattle.machine.specs.Scopes.{array_elements, body, block}
 use Rattle.machine.specs.Machinery.Machine.{end_of_text, Nest, Setting, among, in_clause, in_nest, no_target, some_target, Ending, by_statement, by_paren, declared, Control, statement_due, function_first, operand_due, member_due, operand_done, item_due, hold_word, take_leaf, take_prefix, to_parens, to_array, Entry, on, fail, goto, push, look, primaries, values, word_row, beginnings, operand, no_statement, row}
 use Rattle.std.specs.Prelude.{Option}
+use Rattle.controls.specs.declared.Setting as settings
+use Rattle.controls.specs.declared.Setting.TheVariants.{Body, Block}
 use Rattle.controls.specs.declared.Step.{Step}
-use Rattle.controls.specs.Machinery.Numbers.{setting_by, nest_by, must_by}
+use Rattle.controls.specs.Machinery.Numbers.{setting_by, must_by}
 use Rattle.controls.specs.Machinery.Steps.{Means}
 use Rattle.controls.proofs.EndLaws.{NoCloser, at_closers, besides_closers}
 use Rattle.controls.proofs.ClassLaws.{not_among}
-use Rattle.controls.proofs.NumberLaws.{no_body}
 use Rattle.forms.proofs.EntryLaws.{other_entry}
 
 module _ (class : ℕ) where
@@ -29,46 +30,18 @@ module _ (class : ℕ) where
       simp (ne_eqb class name no_name, ne_eqb class open_brace no_block, ne_eqb class if_word no_if, ne_eqb class return_word no_return)
 
   -- what a place that needs no statement takes besides: in a body, and elsewhere; the code says of clauses that one must come
-  in_scope : look class (no_statement false (among block)) ≡ fail → (b : Bool) (nest : Nest)
-      → look class (no_statement false (cond b (among block) (in_nest nest))) ≡ fail
-  in_scope none true nest = none
-  in_scope none false nest = refl
-
-  pub below_body : look class (no_statement false (among block)) ≡ fail → (setting : ℕ) → (setting ≡ 0 → ⊥)
+  pub below_body : look class (no_statement false (among block)) ≡ fail → (setting : settings.Setting) → (setting ≡ Body → ⊥)
       → look class (no_statement (must_by false setting) (setting_by setting)) ≡ fail
-  unfolding must_by
-  below_body none setting other = go (eqb setting 2) refl
-    where
-      go : (b : Bool) → eqb setting 2 ≡ b → look class (no_statement (eqb setting 2) (setting_by setting)) ≡ fail
-      go true e = rw e
-      go false e = rw (e, no_body setting other, e) (in_scope none (eqb setting 1) (nest_by setting))
+  below_body none Body other = absurd (other refl)
+  below_body none Block other = none
+  below_body none _ other = refl
 
-  in_body : (class ≡ function_word → ⊥) → NoCloser class → look class (no_statement (must_by false 0) (setting_by 0)) ≡ fail
-  unfolding must_by setting_by
-  in_body no-function h = rw (ne_eqb class function_word no-function, h.no_brace, h.no_text)
-
-  pub nothing_else : (class ≡ function_word → ⊥) → (must : Bool) (setting : ℕ) → NoCloser class
+  pub nothing_else : (class ≡ function_word → ⊥) → (must : Bool) (setting : settings.Setting) → NoCloser class
       → look class (no_statement (must_by must setting) (setting_by setting)) ≡ fail
-  unfolding must_by
   nothing_else no-function true setting h = refl
-  nothing_else no-function false setting h = go (eqb setting 0) refl
-    where
-      go : (b : Bool) → eqb setting 0 ≡ b → look class (no_statement (must_by false setting) (setting_by setting)) ≡ fail
-      go true e = rw (eqb-true setting 0 e) (in_body no-function h)
-      go false e = below_body (rw h.no_brace) setting (eqb-false setting 0 e)
-
--- the words of statements, by the test of the code
-pub word-class : (class : ℕ) → (ltb comma class && leb class debugger_word) ≡ true → (comma < class) × (class ≤ debugger_word)
-word-class class is = go (ltb comma class) (leb class debugger_word) refl refl is
-  where
-    go : (a b : Bool) → ltb comma class ≡ a → leb class debugger_word ≡ b → (a && b) ≡ true → (comma < class) × (class ≤ debugger_word)
-    go true true e f is = (ltb-true comma class e, leb-true class debugger_word f)
-    go true false e f is = absurd (false≢true is)
-    go false b e f is = absurd (false≢true is)
-
-pub no_word_class : (class : ℕ) → (ltb comma class && leb class debugger_word) ≡ false → (word : ℕ) → comma < word → word ≤ debugger_word → class ≡ word → ⊥
-no_word_class class none word low high same =
-    false≢true (sym none ∙ rw (same, lt-ltb comma word low, le-leb word debugger_word high))
+  nothing_else no-function false Body h = rw (ne_eqb class function_word no-function, h.no_brace, h.no_text)
+  nothing_else no-function false Block h = below_body (rw h.no_brace) Block (λ e. cc)
+  nothing_else no-function false _ h = refl
 
 -- a class that starts no statement of its own starts an operand, or ends the level
 pub statement_operand : {class : ℕ} → (class ≡ name → ⊥) → (class ≡ if_word → ⊥) → (class ≡ return_word → ⊥) → (class ≡ open_brace → ⊥)

@@ -2,331 +2,273 @@
 // machine/specs/Machinery/Machine.antt, so that the two can be laid side by side.
 #![tactic(auto)]
 
-ghost use Rattle.std.specs.Prelude.{◌≡◌, Bool, false, cond, ◌&&◌, [], ◌∷◌, T, eqb, ltb, leb, ℕ, ◌≤◌};
-ghost use Rattle.machine.specs.Tokens.{semicolon, comma, var_word, debugger_word, function_word};
-ghost use Rattle.machine.specs.Operators.{is_among};
-ghost use Rattle.machine.specs.Machinery.Machine.{behind_statement, statement_due, jump_first, variable_named, end_value, on, goto, word_row, look, no_statement, row};
-ghost use Rattle.controls.specs.Machinery.Numbers.{setting_by, variables_by, must_by, control_by, control_of};
-ghost use Rattle.controls.specs.Machinery.Steps.{Leads, Means, Settled};
+ghost use Rattle.std.specs.Prelude.{◌≡◌, Bool, true, false, ◌&&◌, [], ◌∷◌};
+ghost use Rattle.machine.specs.Tokens.{in_word, semicolon, var_word, function_word};
+ghost use Rattle.machine.specs.Machinery.Machine.{behind_statement, statement_due, jump_first, variable_named, some_target, by_variable, end_value, on, goto, word_row, look, no_statement, row};
+ghost use Rattle.controls.specs.declared.Setting.{Setting};
+ghost use Rattle.controls.specs.declared.Setting.TheVariants.{Clause};
+ghost use Rattle.controls.specs.declared.Place.TheVariants.{StatementDue, ClauseStatement};
+ghost use Rattle.controls.specs.declared.Effect.TheVariants.{StartStatement};
+ghost use Rattle.controls.specs.Machinery.Numbers.{setting_by, variables_by, ending_by, target_by, must_by, control_by, control_of};
+ghost use Rattle.controls.specs.Machinery.Steps.{Leads, Means, Goes, Settled};
+ghost use Rattle.forms.specs.Machinery.Places.{IsDue, bars_line, due_ending};
 
-use controls::{
-    BODY, BY_FIRST_VARIABLE, BY_LATER_VARIABLE, BY_LONE_START, BY_RETURN, BY_STATEMENT, BY_STEP,
-    BY_TEST, BY_VARIABLE, CLAUSE, CLAUSE_STATEMENT, Closing, Control, DECLARED_FIRST, DO_NEST,
-    Effect, FOR_FIRST, HEAD_FIRST, JUMP_FIRST, MEMBER_DUE, NAME_FIRST, Nest, OPERAND_DONE,
-    OPERAND_DUE, POSTFIX_DONE, RETURN_FIRST, SEMICOLON_DUE, START_DUE, STATEMENT_DUE, STEP_DUE,
-    SWITCH_FIRST, Step, TEST_DUE, THROW_FIRST, VARIABLE_DUE, VARIABLE_NAMED, behind_statement,
-};
-use forms::{form_row, goto, operand_row};
+use controls::{Closing, Control, Effect, Ending, Nest, Place, Setting, Step, behind_statement};
+use forms::{form_row, goto, operand_row, push};
 use machine::tokens;
 use operators::{end_statement, in_row, next_variable, operator_row, variables_end};
 
-// The number of a setting that a nest keeps: one past the last stands for the last.
-fn setting_number(setting: u32) -> u32
-    ensures { (result ≤ 5) × (setting_by result ≡ setting_by setting) }
-{
-    if setting < DO_NEST {
-        return setting;
-    }
-    DO_NEST
-}
-
 // `function` where a statement is due: a declaration, in a body where none must come.
-fn declaration_row(setting: u32, must: bool) -> Option<Step>
-    ensures { (must' : Bool) → look function_word (no_statement must' (setting_by setting)) ≡ look function_word (no_statement (must_by must setting) (setting_by setting)) → Means (statement_due must' (setting_by setting)) function_word result (look function_word (no_statement must' (setting_by setting))) }
+fn declaration_row(at: Control) -> Option<Step>
+    ensures { (must' : Bool) → look function_word (no_statement must' (setting_by at.setting)) ≡ look function_word (no_statement (must_by at.flag at.setting) (setting_by at.setting)) → Means (statement_due must' (setting_by at.setting)) function_word result (look function_word (no_statement must' (setting_by at.setting))) }
 {
-    if must {
+    if at.flag {
         return None;
     }
-    if setting == BODY {
-        return goto(DECLARED_FIRST, BY_STATEMENT, BODY, false, Effect::HoldWord);
+    match at.setting {
+        Setting::Body => goto(
+            Control {
+                place: Place::DeclaredFirst,
+                ..at
+            },
+            Effect::HoldWord,
+        ),
+        _ => None,
     }
-    None
-}
-
-// The words of statements follow the operators, but for `if`, `return` and `function`, which stand among the signs.
-fn is_statement_word(class: u32) -> bool
-    ensures { result ≡ (ltb comma class && leb class debugger_word) }
-{
-    matches!(class, tokens::VAR..=tokens::DEBUGGER)
 }
 
 // Where a statement is due, or another may come and no token ends the statements there.
-fn statement_row(class: u32, setting: u32, must: bool) -> Option<Step>
-    ensures { (must' newline : Bool) → look class (no_statement must' (setting_by setting)) ≡ look class (no_statement (must_by must setting) (setting_by setting)) → Means (statement_due must' (setting_by setting)) class result (look class (row (statement_due must' (setting_by setting)) newline)) }
+fn statement_row(at: Control, class: u32) -> Option<Step>
+    ensures { (must' newline : Bool) → look class (no_statement must' (setting_by at.setting)) ≡ look class (no_statement (must_by at.flag at.setting) (setting_by at.setting)) → Means (statement_due must' (setting_by at.setting)) class result (look class (row (statement_due must' (setting_by at.setting)) newline)) }
 {
-    if class == tokens::NAME {
-        return goto(NAME_FIRST, BY_STATEMENT, setting, true, Effect::HoldName);
+    match class {
+        tokens::NAME => goto(
+            Control {
+                place: Place::NameFirst,
+                ..at
+            },
+            Effect::HoldName,
+        ),
+        // The words of statements follow the operators, but for `if`, `return` and `function`, which stand among the signs.
+        tokens::VAR..=tokens::DEBUGGER => word_row(at, class),
+        tokens::IF => Some(Step::Enter(Nest::If, at.setting)),
+        tokens::RETURN => starts(at, Place::ReturnFirst),
+        tokens::OPEN_BRACE => push(behind_statement(at.setting), Closing::Block),
+        tokens::FUNCTION => declaration_row(at),
+        tokens::SEMICOLON => end_statement(at.setting, Effect::EndEmpty),
+        _ => operand_row(class, Ending::Statement, at.setting, true),
     }
-    if is_statement_word(class) {
-        return word_row(class, setting);
-    }
-    if class == tokens::IF {
-        return Some(Step::Enter(Nest::If, setting_number(setting)));
-    }
-    if class == tokens::RETURN {
-        return goto(
-            RETURN_FIRST,
-            BY_RETURN,
-            setting,
-            true,
-            Effect::StartStatement,
-        );
-    }
-    if class == tokens::OPEN_BRACE {
-        return Some(Step::Push(behind_statement(setting), Closing::Block));
-    }
-    if class == tokens::FUNCTION {
-        return declaration_row(setting, must);
-    }
-    if class == tokens::SEMICOLON {
-        return end_statement(setting, Effect::EndEmpty);
-    }
-    operand_row(class, BY_STATEMENT, setting, true)
+}
+
+// The word of a statement, and where its parts are due.
+fn starts(at: Control, place: Place) -> Option<Step>
+    ensures { Goes result (control_by place at.ending at.setting at.flag) StartStatement }
+{
+    goto(Control { place, ..at }, Effect::StartStatement)
 }
 
 // The statements that start with a word, but for `if` and `return`.
-fn word_row(class: u32, setting: u32) -> Option<Step>
-    ensures { (must : Bool) → (class ≡ semicolon → ⊥) → Means (statement_due must (setting_by setting)) class result (look class (word_row (setting_by setting) [])) }
+fn word_row(at: Control, class: u32) -> Option<Step>
+    ensures { (must : Bool) → (class ≡ semicolon → ⊥) → Means (statement_due must (setting_by at.setting)) class result (look class (word_row (setting_by at.setting) [])) }
 {
     match class {
-        tokens::VAR => goto(
-            VARIABLE_DUE,
-            BY_VARIABLE,
-            setting,
-            true,
-            Effect::StartStatement,
+        tokens::VAR => starts(
+            Control {
+                ending: Ending::Variable,
+                ..at
+            },
+            Place::VariableDue,
         ),
-        tokens::DO => Some(Step::Enter(Nest::Do, setting_number(setting))),
-        tokens::TRY => Some(Step::Enter(Nest::Try, setting_number(setting))),
-        tokens::FOR => goto(
-            FOR_FIRST,
-            BY_STATEMENT,
-            setting,
-            true,
-            Effect::StartStatement,
-        ),
-        tokens::SWITCH => goto(
-            SWITCH_FIRST,
-            BY_STATEMENT,
-            setting,
-            true,
-            Effect::StartStatement,
-        ),
-        tokens::WHILE | tokens::WITH => {
-            goto(
-                HEAD_FIRST,
-                BY_STATEMENT,
-                setting,
-                true,
-                Effect::StartStatement,
-            )
-        }
-        tokens::CONTINUE | tokens::BREAK => {
-            goto(
-                JUMP_FIRST,
-                BY_STATEMENT,
-                setting,
-                true,
-                Effect::StartStatement,
-            )
-        }
-        tokens::THROW => goto(
-            THROW_FIRST,
-            BY_RETURN,
-            setting,
-            true,
-            Effect::StartStatement,
-        ),
-        tokens::DEBUGGER => goto(
-            SEMICOLON_DUE,
-            BY_STATEMENT,
-            setting,
-            true,
-            Effect::StartStatement,
-        ),
+        tokens::DO => Some(Step::Enter(Nest::Do, at.setting)),
+        tokens::TRY => Some(Step::Enter(Nest::Try, at.setting)),
+        tokens::FOR => starts(at, Place::ForFirst),
+        tokens::SWITCH => starts(at, Place::SwitchFirst),
+        tokens::WHILE | tokens::WITH => starts(at, Place::HeadFirst),
+        tokens::CONTINUE | tokens::BREAK => starts(at, Place::JumpFirst),
+        tokens::THROW => starts(at, Place::ThrowFirst),
+        tokens::DEBUGGER => starts(at, Place::SemicolonDue),
         _ => None,
     }
 }
 
 // `;` where an expression is due: behind `return` and in the head of a `for` it may be left out.
-fn left_out_row(place: u32, setting: u32) -> Option<Step>
-    ensures { (ending : ℕ) (flag newline : Bool) → T (is_among (1 ∷ 5 ∷ 9 ∷ 10 ∷ 11 ∷ []) place) → Means (control_by place ending setting flag) semicolon result (look semicolon (row (control_by place ending setting flag) newline)) }
+fn left_out_row(at: Control) -> Option<Step>
+    ensures { IsDue at.place → (newline : Bool) → Means (control_of at) semicolon result (look semicolon (row (control_of at) newline)) }
 {
-    match place {
-        RETURN_FIRST => end_statement(setting, Effect::EndBare),
-        START_DUE => goto(TEST_DUE, BY_TEST, BODY, true, Effect::EndValue),
-        TEST_DUE => goto(STEP_DUE, BY_STEP, BODY, true, Effect::EndValue),
+    match at.place {
+        Place::ReturnFirst => end_statement(at.setting, Effect::EndBare),
+        Place::StartDue => goto(
+            Control {
+                place: Place::TestDue,
+                ..at
+            },
+            Effect::EndValue,
+        ),
+        Place::TestDue => goto(
+            Control {
+                place: Place::StepDue,
+                ..at
+            },
+            Effect::EndValue,
+        ),
         _ => None,
     }
 }
 
 // `var` there: the head of a `for` may start with it.
-fn head_variable_row(place: u32) -> Option<Step>
-    ensures { (ending setting : ℕ) (flag newline : Bool) → T (is_among (1 ∷ 5 ∷ 9 ∷ 10 ∷ 11 ∷ []) place) → Means (control_by place ending setting flag) var_word result (look var_word (row (control_by place ending setting flag) newline)) }
+fn head_variable_row(at: Control) -> Option<Step>
+    ensures { IsDue at.place → (newline : Bool) → Means (control_of at) var_word result (look var_word (row (control_of at) newline)) }
 {
-    if place == START_DUE {
-        return goto(
-            VARIABLE_DUE,
-            BY_FIRST_VARIABLE,
-            BODY,
-            true,
-            Effect::StartStatement,
-        );
+    match at.place {
+        Place::StartDue => starts(
+            Control {
+                ending: Ending::FirstVariable,
+                ..at
+            },
+            Place::VariableDue,
+        ),
+        _ => None,
     }
-    None
 }
 
 // What ends the expression that is due.
-fn due_ending(place: u32) -> u32
-    ensures { result ≡ cond (eqb place 9) 5 (cond (eqb place 10) 7 (cond (eqb place 11) 10 1)) }
+fn due_ending(place: Place) -> Ending
+    ensures { result ≡ due_ending place }
 {
     match place {
-        START_DUE => BY_LONE_START,
-        TEST_DUE => BY_TEST,
-        STEP_DUE => BY_STEP,
-        _ => BY_RETURN,
+        Place::StartDue => Ending::LoneStart,
+        Place::TestDue => Ending::Test,
+        Place::StepDue => Ending::Step,
+        _ => Ending::Return,
     }
 }
 
 // `return` and `throw` want no line end behind them.
-fn bars_line(place: u32, newline: bool) -> bool
-    ensures { result ≡ (ltb place 9 && newline) }
+fn bars_line(place: Place, newline: bool) -> bool
+    ensures { result ≡ (bars_line place && newline) }
 {
-    if START_DUE <= place {
-        return false;
-    }
-    newline
+    matches!(place, Place::ReturnFirst | Place::ThrowFirst) && newline
 }
 
 // Behind `return` or `throw`, and in the head of a `for`: one row, with one call of `operand_row`.
-fn due_row(place: u32, class: u32, setting: u32, newline: bool) -> Option<Step>
-    ensures { (ending : ℕ) (flag : Bool) → T (is_among (1 ∷ 5 ∷ 9 ∷ 10 ∷ 11 ∷ []) place) → Means (control_by place ending setting flag) class result (look class (row (control_by place ending setting flag) newline)) }
+fn due_row(at: Control, class: u32, newline: bool) -> Option<Step>
+    ensures { IsDue at.place → Means (control_of at) class result (look class (row (control_of at) newline)) }
 {
-    if class == tokens::SEMICOLON {
-        return left_out_row(place, setting);
+    match class {
+        tokens::SEMICOLON => left_out_row(at),
+        tokens::VAR => head_variable_row(at),
+        _ if bars_line(at.place, newline) => None,
+        _ => operand_row(class, due_ending(at.place), at.setting, true),
     }
-    if class == tokens::VAR {
-        return head_variable_row(place);
-    }
-    if bars_line(place, newline) {
-        return None;
-    }
-    operand_row(class, due_ending(place), setting, true)
 }
 
 // Behind `continue` or `break`.
-fn jump_row(class: u32, setting: u32, newline: bool) -> Option<Step>
-    ensures { Means (jump_first (setting_by setting)) class result (look class (row (jump_first (setting_by setting)) newline)) }
+fn jump_row(at: Control, class: u32, newline: bool) -> Option<Step>
+    ensures { Means (jump_first (setting_by at.setting)) class result (look class (row (jump_first (setting_by at.setting)) newline)) }
 {
-    if class == tokens::SEMICOLON {
-        return end_statement(setting, Effect::EndBare);
+    match class {
+        tokens::SEMICOLON => end_statement(at.setting, Effect::EndBare),
+        tokens::NAME if !newline => goto(
+            Control {
+                place: Place::SemicolonDue,
+                ..at
+            },
+            Effect::Keep,
+        ),
+        _ => None,
     }
-    if newline {
-        return None;
-    }
-    if class == tokens::NAME {
-        return goto(SEMICOLON_DUE, BY_STATEMENT, setting, true, Effect::Keep);
-    }
-    None
 }
 
 // Behind the name of a variable.
-fn variable_row(class: u32, ending: u32, setting: u32) -> Option<Step>
-    ensures { Means (variable_named (variables_by ending setting)) class result (look class (row (variable_named (variables_by ending setting)) false)) }
+fn variable_row(at: Control, class: u32) -> Option<Step>
+    ensures { Means (variable_named (variables_by at.ending at.setting)) class result (look class (row (variable_named (variables_by at.ending at.setting)) false)) }
 {
-    if class == tokens::ASSIGN {
-        return goto(
-            OPERAND_DUE,
-            variable_ending(ending),
-            setting,
-            true,
+    match class {
+        tokens::ASSIGN => goto(
+            Control {
+                place: Place::OperandDue,
+                ending: variable_ending(at.ending),
+                flag: true,
+                ..at
+            },
             Effect::Keep,
-        );
+        ),
+        tokens::COMMA => next_variable(at),
+        tokens::SEMICOLON => variables_end(at),
+        tokens::IN => variable_in_row(at),
+        _ => None,
     }
-    if class == tokens::COMMA {
-        return next_variable(ending, setting);
-    }
-    if class == tokens::SEMICOLON {
-        return variables_end(variable_ending(ending), setting);
-    }
-    if class != tokens::IN {
-        return None;
-    }
-    if ending == BY_FIRST_VARIABLE {
-        return in_row();
-    }
-    None
 }
 
-// What ends a variable, by where it stands: any number but those of a head is that of a statement.
-fn variable_ending(ending: u32) -> u32
-    ensures { (2 ≤ result) × (result ≤ 4) × ((setting : ℕ) → variables_by result setting ≡ variables_by ending setting) }
+// `in` there, which may stand behind the first variable of a `for`'s head.
+fn variable_in_row(at: Control) -> Option<Step>
+    ensures { Means (variable_named (variables_by at.ending at.setting)) in_word result (look in_word (row (variable_named (variables_by at.ending at.setting)) false)) }
 {
-    if ending < BY_FIRST_VARIABLE {
-        return BY_VARIABLE;
+    match at.ending {
+        Ending::FirstVariable => in_row(at),
+        _ => None,
     }
-    if BY_LATER_VARIABLE < ending {
-        return BY_VARIABLE;
+}
+
+// What ends a variable, by where it stands: what is none in a head is one of a statement.
+fn variable_ending(ending: Ending) -> Ending
+    ensures same { (setting : Setting) → ending_by result setting ≡ by_variable (variables_by ending setting) }
+    ensures target { target_by result true ≡ some_target }
+{
+    match ending {
+        Ending::FirstVariable | Ending::LaterVariable => ending,
+        _ => Ending::Variable,
     }
-    ending
 }
 
 // Only `;` may come, with which a statement ends.
-fn semicolon_due(class: u32, setting: u32) -> Option<Step>
+fn semicolon_due(class: u32, setting: Setting) -> Option<Step>
     ensures { (from : Rattle.machine.specs.Machinery.Machine.Control) → Leads end_value from (behind_statement (setting_by setting)) → Means from class result (look class (on semicolon (goto (behind_statement (setting_by setting)) end_value) ∷ [])) }
 {
-    if class == tokens::SEMICOLON {
-        return end_statement(setting, Effect::EndValue);
+    match class {
+        tokens::SEMICOLON => end_statement(setting, Effect::EndValue),
+        _ => None,
     }
-    None
 }
 
 // The setting of a statement that is due.
-fn statement_setting(place: u32, setting: u32) -> u32
-    ensures { result ≡ cond (eqb place 0) setting 2 }
+fn statement_setting(at: Control) -> Setting
+    ensures due { at.place ≡ StatementDue → result ≡ at.setting }
+    ensures another { at.place ≡ ClauseStatement → result ≡ Clause }
 {
-    if place == STATEMENT_DUE {
-        return setting;
+    match at.place {
+        Place::StatementDue => at.setting,
+        _ => Setting::Clause,
     }
-    CLAUSE
-}
-
-// The places inside a form.
-fn is_in_form(place: u32) -> bool
-    ensures { result ≡ (leb 12 place && ltb place 45) }
-{
-    if place < MEMBER_DUE {
-        return false;
-    }
-    place < CLAUSE_STATEMENT
 }
 
 // The machine's table, for a token that a record makes.
 pub fn row(at: Control, class: u32, newline: bool) -> Option<Step>
     ensures { Settled at class → Means (control_of at) class result (look class (row (control_of at) newline)) }
 {
-    let place = at.place;
-    if is_in_form(place) {
-        return form_row(place, at.ending, at.setting, at.flag, class);
-    }
-    match place {
-        OPERAND_DONE | POSTFIX_DONE => {
-            operator_row(
-                class,
-                at.ending,
-                at.setting,
-                at.flag,
-                newline,
-                place == OPERAND_DONE,
-            )
-        }
-        OPERAND_DUE => operand_row(class, at.ending, at.setting, at.flag),
-        JUMP_FIRST => jump_row(class, at.setting, newline),
-        VARIABLE_NAMED => variable_row(class, at.ending, at.setting),
-        SEMICOLON_DUE => semicolon_due(class, at.setting),
-        RETURN_FIRST | THROW_FIRST | START_DUE | TEST_DUE | STEP_DUE => {
-            due_row(place, class, at.setting, newline)
-        }
-        _ => statement_row(class, statement_setting(place, at.setting), at.flag),
+    match at.place {
+        Place::OperandDone | Place::PostfixDone => operator_row(
+            at,
+            class,
+            newline,
+            matches!(at.place, Place::OperandDone),
+        ),
+        Place::OperandDue => operand_row(class, at.ending, at.setting, at.flag),
+        Place::JumpFirst => jump_row(at, class, newline),
+        Place::VariableNamed => variable_row(at, class),
+        Place::SemicolonDue => semicolon_due(class, at.setting),
+        Place::ReturnFirst
+        | Place::ThrowFirst
+        | Place::StartDue
+        | Place::TestDue
+        | Place::StepDue => due_row(at, class, newline),
+        Place::StatementDue | Place::ClauseStatement => statement_row(
+            Control {
+                setting: statement_setting(at),
+                ..at
+            },
+            class,
+        ),
+        _ => form_row(at, class),
     }
 }

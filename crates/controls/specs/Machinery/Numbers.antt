@@ -1,123 +1,17 @@
 -- The machine's controls, effects, groups and nests as the code has them. Machinery.
-use Rattle.std.specs.Prelude.{ℕ, Bool, true, false, cond, ◌||◌, eqb, leb}
+use Rattle.std.specs.Prelude.{ℕ, Bool, true, false, cond, ◌||◌, eqb}
 use Rattle.machine.specs.Tokens.{name, return_word}
 use Rattle.machine.specs.Operators.{prefix_kind, postfix_kind}
 use Rattle.machine.specs.Syntax.{full_return_syntax, variable_syntax}
 use Rattle.machine.specs.Scopes.{Items, call_arguments, array_elements, object_properties, body, block}
-use Rattle.machine.specs.Machinery.Machine.{
-  if_nest,
-  else_nest,
-  do_nest,
-  Nest,
-  Setting,
-  among,
-  in_nest,
-  in_clause,
-  Variables,
-  in_statement,
-  in_head,
-  Target,
-  no_target,
-  some_target,
-  lone_target,
-  Effect,
-  keep,
-  take_name,
-  take_member,
-  end_expression,
-  end_value,
-  end_bare,
-  end_empty,
-  end_variable,
-  end_head,
-  take_label,
-  take_else,
-  hold_word,
-  take_leaf,
-  take_operator,
-  take_prefix,
-  take_postfix,
-  start_statement,
-  Closing,
-  to_parens,
-  to_call,
-  to_object,
-  to_array,
-  to_index,
-  to_block,
-  to_condition,
-  to_head,
-  to_test,
-  to_for,
-  to_for_in,
-  to_parameter,
-  to_declaration,
-  to_function,
-  to_statement,
-  to_body,
-  to_try,
-  Ending,
-  by_statement,
-  by_return,
-  by_variable,
-  by_start,
-  by_test,
-  by_step,
-  by_object,
-  by_case,
-  by_paren,
-  by_bracket,
-  by_colon,
-  by_item,
-  declared,
-  operand_in,
-  Control,
-  statement_due,
-  statement_done,
-  behind_statement,
-  name_first,
-  return_first,
-  throw_first,
-  jump_first,
-  head_first,
-  variable_due,
-  variable_named,
-  body_done,
-  test_first,
-  semicolon_due,
-  for_first,
-  start_due,
-  test_due,
-  step_due,
-  switch_first,
-  switch_past,
-  clause_due,
-  default_first,
-  try_first,
-  try_done,
-  catch_first,
-  catch_due,
-  catch_named,
-  catch_past,
-  catch_done,
-  finally_first,
-  try_ended,
-  if_first,
-  operand_due,
-  member_due,
-  operand_done,
-  postfix_done,
-  dot_last,
-  function_first,
-  function_named,
-  parameter_past,
-  item_due,
-  property_named,
-  parameter_due,
-  parameter_named,
-  finished,
-}
+use Rattle.machine.specs.Machinery.Machine.{if_nest, else_nest, do_nest, Nest, Setting, among, in_nest, in_clause, Variables, in_statement, in_head, Target, no_target, some_target, lone_target, Effect, keep, take_name, take_member, end_expression, end_value, end_bare, end_empty, end_variable, end_head, take_label, take_else, hold_word, take_leaf, take_operator, take_prefix, take_postfix, start_statement, Closing, to_parens, to_call, to_object, to_array, to_index, to_block, to_condition, to_head, to_test, to_for, to_for_in, to_parameter, to_declaration, to_function, to_statement, to_body, to_try, Ending, by_statement, by_return, by_variable, by_start, by_test, by_step, by_object, by_case, by_paren, by_bracket, by_colon, by_item, declared, operand_in, Control, statement_due, statement_done, behind_statement, name_first, return_first, throw_first, jump_first, head_first, variable_due, variable_named, body_done, test_first, semicolon_due, for_first, start_due, test_due, step_due, switch_first, switch_past, clause_due, default_first, try_first, try_done, catch_first, catch_due, catch_named, catch_past, catch_done, finally_first, try_ended, if_first, operand_due, member_due, operand_done, postfix_done, dot_last, function_first, function_named, parameter_past, item_due, property_named, parameter_due, parameter_named}
 use Rattle.controls.specs.declared.Control as code
+use Rattle.controls.specs.declared.Place as places
+use Rattle.controls.specs.declared.Place.TheVariants as stand
+use Rattle.controls.specs.declared.Setting as settings
+use Rattle.controls.specs.declared.Setting.TheVariants as within
+use Rattle.controls.specs.declared.Ending as endings
+use Rattle.controls.specs.declared.Ending.TheVariants as by
 use Rattle.controls.specs.declared.Effect as effects
 use Rattle.controls.specs.declared.Effect.TheVariants as does
 use Rattle.controls.specs.declared.Closing as closings
@@ -126,104 +20,122 @@ use Rattle.controls.specs.declared.Nest as nests
 use Rattle.controls.specs.declared.Nest.TheVariants as kind
 
 -- settings of statements, nests, lists by what ends their items, variables and what ends an expression
-unfoldable pub setting_by : ℕ → Setting
-setting_by number =
-    cond (eqb number 0) (among body)
-    (cond (eqb number 1) (among block)
-    (cond (eqb number 2) in_clause
-    (cond (eqb number 3) (in_nest if_nest)
-    (cond (eqb number 4) (in_nest else_nest)
-    (in_nest do_nest)))))
+abbrev pub setting_by : settings.Setting → Setting
+setting_by within.Body = among body
+setting_by within.Block = among block
+setting_by within.Clause = in_clause
+setting_by within.IfNest = in_nest if_nest
+setting_by within.ElseNest = in_nest else_nest
+setting_by within.DoNest = in_nest do_nest
 
-unfoldable pub nest_by : ℕ → Nest
-nest_by setting = cond (eqb setting 3) if_nest (cond (eqb setting 4) else_nest do_nest)
+abbrev pub nest_by : settings.Setting → Nest
+nest_by within.IfNest = if_nest
+nest_by within.ElseNest = else_nest
+nest_by _ = do_nest
 
-unfoldable pub items_by : ℕ → Items
-items_by ending = cond (eqb ending 15) call_arguments (cond (eqb ending 16) array_elements object_properties)
+abbrev pub items_by : endings.Ending → Items
+items_by by.Argument = call_arguments
+items_by by.Element = array_elements
+items_by _ = object_properties
 
-unfoldable pub variables_by : ℕ → ℕ → Variables
-variables_by ending setting = cond (eqb ending 3) (in_head true) (cond (eqb ending 4) (in_head false) (in_statement (setting_by setting)))
+abbrev pub variables_by : endings.Ending → settings.Setting → Variables
+variables_by by.FirstVariable setting = in_head true
+variables_by by.LaterVariable setting = in_head false
+variables_by _ setting = in_statement (setting_by setting)
 
-unfoldable pub ending_by : ℕ → ℕ → Ending
-ending_by number setting =
-    cond (eqb number 0) (by_statement (setting_by setting))
-    (cond (eqb number 1) (by_return (setting_by setting))
-    (cond (eqb number 2) (by_variable (in_statement (setting_by setting)))
-    (cond (eqb number 3) (by_variable (in_head true))
-    (cond (eqb number 4) (by_variable (in_head false))
-    (cond (eqb number 5) by_start
-    (cond (eqb number 6) by_start
-    (cond (eqb number 7) by_test
-    (cond (eqb number 8) (by_case false)
-    (cond (eqb number 9) (by_case true)
-    (cond (eqb number 10) by_step
-    (cond (eqb number 11) by_object
-    (cond (eqb number 12) by_paren
-    (cond (eqb number 13) by_bracket
-    (cond (eqb number 14) by_colon
-    (by_item (items_by number))))))))))))))))
+abbrev pub ending_by : endings.Ending → settings.Setting → Ending
+ending_by by.Statement setting = by_statement (setting_by setting)
+ending_by by.Return setting = by_return (setting_by setting)
+ending_by by.Variable setting = by_variable (in_statement (setting_by setting))
+ending_by by.FirstVariable setting = by_variable (in_head true)
+ending_by by.LaterVariable setting = by_variable (in_head false)
+ending_by by.LoneStart setting = by_start
+ending_by by.Start setting = by_start
+ending_by by.Test setting = by_test
+ending_by by.Case setting = by_case false
+ending_by by.LastCase setting = by_case true
+ending_by by.Step setting = by_step
+ending_by by.Object setting = by_object
+ending_by by.Paren setting = by_paren
+ending_by by.Bracket setting = by_bracket
+ending_by by.Colon setting = by_colon
+ending_by by.Argument setting = by_item call_arguments
+ending_by by.Element setting = by_item array_elements
+ending_by by.Property setting = by_item object_properties
 
--- whether a chain may be assigned to: the start of a `for`'s head is alone by its number
-unfoldable pub target_by : ℕ → Bool → Target
-target_by ending flag = cond flag (cond (eqb ending 5) lone_target some_target) no_target
+-- whether a chain may be assigned to: the start of a `for`'s head is alone by what ends it
+abbrev pub is_lone : endings.Ending → Bool
+is_lone by.LoneStart = true
+is_lone _ = false
+
+abbrev pub target_by : endings.Ending → Bool → Target
+target_by ending flag = cond flag (cond (is_lone ending) lone_target some_target) no_target
 
 -- whether a statement must come: where none must come in a clause is a place of its own
-unfoldable pub must_by : Bool → ℕ → Bool
-must_by flag setting = flag || eqb setting 2
+abbrev pub is_clause : settings.Setting → Bool
+is_clause within.Clause = true
+is_clause _ = false
+
+abbrev pub must_by : Bool → settings.Setting → Bool
+must_by flag setting = flag || is_clause setting
 
 -- controls by place, what ends the expression, the setting, and the flag
-unfoldable pub control_by : ℕ → ℕ → ℕ → Bool → Control
-control_by place ending setting flag =
-    cond (eqb place 0) (statement_due (must_by flag setting) (setting_by setting))
-    (cond (eqb place 1) (return_first (setting_by setting))
-    (cond (eqb place 2) (operand_due (ending_by ending setting) (target_by ending flag))
-    (cond (eqb place 3) (operand_done (ending_by ending setting) (target_by ending flag))
-    (cond (eqb place 4) (postfix_done (ending_by ending setting))
-    (cond (eqb place 5) (throw_first (setting_by setting))
-    (cond (eqb place 6) (jump_first (setting_by setting))
-    (cond (eqb place 7) (variable_named (variables_by ending setting))
-    (cond (eqb place 8) (semicolon_due (setting_by setting))
-    (cond (eqb place 9) start_due
-    (cond (eqb place 10) test_due
-    (cond (eqb place 11) step_due
-    (cond (eqb place 12) (member_due (ending_by ending setting) (target_by ending flag))
-    (cond (eqb place 13) if_first
-    (cond (eqb place 14) (dot_last (ending_by ending setting) (target_by ending flag))
-    (cond (eqb place 15) (item_due (items_by ending))
-    (cond (eqb place 16) property_named
-    (cond (eqb place 17) (head_first (setting_by setting))
-    (cond (eqb place 18) (variable_due (variables_by ending setting))
-    (cond (eqb place 19) (body_done (setting_by setting))
-    (cond (eqb place 20) (test_first (setting_by setting))
-    (cond (eqb place 21) (for_first (setting_by setting))
-    (cond (eqb place 22) (switch_first (setting_by setting))
-    (cond (eqb place 23) (switch_past (setting_by setting))
-    (cond (eqb place 24) (clause_due flag)
-    (cond (eqb place 25) default_first
-    (cond (eqb place 26) try_first
-    (cond (eqb place 27) try_done
-    (cond (eqb place 28) catch_first
-    (cond (eqb place 29) catch_due
-    (cond (eqb place 30) catch_named
-    (cond (eqb place 31) catch_past
-    (cond (eqb place 32) finally_first
-    (cond (eqb place 33) (parameter_due flag)
-    (cond (eqb place 34) parameter_named
-    (cond (eqb place 35) (function_first (operand_in (ending_by ending setting) (target_by ending flag)))
-    (cond (eqb place 36) (function_named (operand_in (ending_by ending setting) (target_by ending flag)))
-    (cond (eqb place 37) (parameter_past (operand_in (ending_by ending setting) (target_by ending flag)))
-    (cond (eqb place 38) (function_first declared)
-    (cond (eqb place 39) (function_named declared)
-    (cond (eqb place 40) (parameter_past declared)
-    (cond (eqb place 41) (statement_done (nest_by setting))
-    (cond (eqb place 42) (name_first (setting_by setting))
-    (cond (eqb place 43) catch_done
-    (cond (eqb place 44) try_ended
-    (cond (leb 45 place) (statement_due false in_clause)
-    finished)))))))))))))))))))))))))))))))))))))))))))))
+abbrev pub control_by : places.Place → endings.Ending → settings.Setting → Bool → Control
+control_by stand.StatementDue ending setting flag = statement_due (must_by flag setting) (setting_by setting)
+control_by stand.ReturnFirst ending setting flag = return_first (setting_by setting)
+control_by stand.OperandDue ending setting flag = operand_due (ending_by ending setting) (target_by ending flag)
+control_by stand.OperandDone ending setting flag = operand_done (ending_by ending setting) (target_by ending flag)
+control_by stand.PostfixDone ending setting flag = postfix_done (ending_by ending setting)
+control_by stand.ThrowFirst ending setting flag = throw_first (setting_by setting)
+control_by stand.JumpFirst ending setting flag = jump_first (setting_by setting)
+control_by stand.VariableNamed ending setting flag = variable_named (variables_by ending setting)
+control_by stand.SemicolonDue ending setting flag = semicolon_due (setting_by setting)
+control_by stand.StartDue ending setting flag = start_due
+control_by stand.TestDue ending setting flag = test_due
+control_by stand.StepDue ending setting flag = step_due
+control_by stand.MemberDue ending setting flag = member_due (ending_by ending setting) (target_by ending flag)
+control_by stand.IfFirst ending setting flag = if_first
+control_by stand.DotLast ending setting flag = dot_last (ending_by ending setting) (target_by ending flag)
+control_by stand.ItemDue ending setting flag = item_due (items_by ending)
+control_by stand.PropertyNamed ending setting flag = property_named
+control_by stand.HeadFirst ending setting flag = head_first (setting_by setting)
+control_by stand.VariableDue ending setting flag = variable_due (variables_by ending setting)
+control_by stand.BodyDone ending setting flag = body_done (setting_by setting)
+control_by stand.TestFirst ending setting flag = test_first (setting_by setting)
+control_by stand.ForFirst ending setting flag = for_first (setting_by setting)
+control_by stand.SwitchFirst ending setting flag = switch_first (setting_by setting)
+control_by stand.SwitchPast ending setting flag = switch_past (setting_by setting)
+control_by stand.ClauseDue ending setting flag = clause_due flag
+control_by stand.DefaultFirst ending setting flag = default_first
+control_by stand.TryFirst ending setting flag = try_first
+control_by stand.TryDone ending setting flag = try_done
+control_by stand.CatchFirst ending setting flag = catch_first
+control_by stand.CatchDue ending setting flag = catch_due
+control_by stand.CatchNamed ending setting flag = catch_named
+control_by stand.CatchPast ending setting flag = catch_past
+control_by stand.FinallyFirst ending setting flag = finally_first
+control_by stand.ParameterDue ending setting flag = parameter_due flag
+control_by stand.ParameterNamed ending setting flag = parameter_named
+control_by stand.FunctionFirst ending setting flag = function_first (operand_in (ending_by ending setting) (target_by ending flag))
+control_by stand.FunctionNamed ending setting flag = function_named (operand_in (ending_by ending setting) (target_by ending flag))
+control_by stand.ParameterPast ending setting flag = parameter_past (operand_in (ending_by ending setting) (target_by ending flag))
+control_by stand.DeclaredFirst ending setting flag = function_first declared
+control_by stand.DeclaredNamed ending setting flag = function_named declared
+control_by stand.DeclaredPast ending setting flag = parameter_past declared
+control_by stand.StatementDone ending setting flag = statement_done (nest_by setting)
+control_by stand.NameFirst ending setting flag = name_first (setting_by setting)
+control_by stand.CatchDone ending setting flag = catch_done
+control_by stand.TryEnded ending setting flag = try_ended
+control_by stand.ClauseStatement ending setting flag = statement_due false in_clause
 
-unfoldable pub control_of : code.Control → Control
+abbrev pub control_of : code.Control → Control
 control_of c = control_by c.place c.ending c.setting c.flag
+
+-- statements stand in a body or a block without a nest or a clause around them
+abbrev pub IsScope : settings.Setting → Type 0
+IsScope within.Body = Unit {0}
+IsScope within.Block = Unit {0}
+IsScope _ = ⊥
 
 -- the kind of what starts with a token of a class: a return, a variable, or the statement of a word
 unfoldable pub start_kind : ℕ → ℕ
@@ -322,10 +234,38 @@ left_by kind.Try = to_try
 left_by kind.Clause = to_statement
 left_by kind.LastClause = to_statement
 
--- the number of a nest on the lent stack
+-- the numbers of nests, settings and endings on the lent stack
 abbrev pub nest_number : nests.Nest → ℕ
 nest_number kind.If = 0
 nest_number kind.Do = 1
 nest_number kind.Try = 2
 nest_number kind.Clause = 3
 nest_number kind.LastClause = 4
+
+abbrev pub setting_number : settings.Setting → ℕ
+setting_number within.Body = 0
+setting_number within.Block = 1
+setting_number within.Clause = 2
+setting_number within.IfNest = 3
+setting_number within.ElseNest = 4
+setting_number within.DoNest = 5
+
+abbrev pub ending_number : endings.Ending → ℕ
+ending_number by.Statement = 0
+ending_number by.Return = 1
+ending_number by.Variable = 2
+ending_number by.FirstVariable = 3
+ending_number by.LaterVariable = 4
+ending_number by.LoneStart = 5
+ending_number by.Start = 6
+ending_number by.Test = 7
+ending_number by.Case = 8
+ending_number by.LastCase = 9
+ending_number by.Step = 10
+ending_number by.Object = 11
+ending_number by.Paren = 12
+ending_number by.Bracket = 13
+ending_number by.Colon = 14
+ending_number by.Argument = 15
+ending_number by.Element = 16
+ending_number by.Property = 17

@@ -1,5 +1,5 @@
 -- What a step of the code means: the entry of the machine's table, and between which controls it leads. Machinery.
-use Rattle.std.specs.Prelude.{ℕ, ◌≤◌, ◌≡◌, Bool, true, false, T, Option, Some, None}
+use Rattle.std.specs.Prelude.{ℕ, ◌≡◌, Bool, true, false, T, Option, Some, None}
 use Rattle.machine.specs.Tokens.{new_word, comma, colon, var_word, else_word, for_word, switch_word, case_word, default_word, throw_word, catch_word, finally_word, debugger_word, close_brace}
 use Rattle.machine.specs.Syntax.{full_return_syntax, variable_syntax}
 use Rattle.machine.specs.Operators.{assignment_operators, binary_operators_by, prefix_operators, prefix_kind, postfix_operators, postfix_kind, is_among}
@@ -8,6 +8,10 @@ use Rattle.machine.specs.Machinery.Machine.{end_of_text, if_nest, else_nest, Set
 use Rattle.machine.specs.Machinery.Classes.{is_opener, is_end, is_single}
 use Rattle.controls.specs.Machinery.Numbers.{setting_by, control_of, effect_by, closing_by, inside_by, entered_by, worded_by, outside_by, behind_by, left_by}
 use Rattle.controls.specs.declared.Control as code
+use Rattle.controls.specs.declared.Place as places
+use Rattle.controls.specs.declared.Place.TheVariants as stand
+use Rattle.controls.specs.declared.Setting as settings
+use Rattle.controls.specs.declared.Setting.TheVariants as within
 use Rattle.controls.specs.declared.Effect as effects
 use Rattle.controls.specs.declared.Closing as closings
 use Rattle.controls.specs.declared.Nest as nests
@@ -182,8 +186,8 @@ pub data Means (from : Control) (class : ℕ) : Option Step → Action → Type 
       → Means from class (Some (Goto to effect)) (goto (control_of to) (effect_by effect class))
   means_push : {to : code.Control} {closing : closings.Closing} → T (is_opener class) → Spans (closing_by closing) from (control_of to)
       → Means from class (Some (Push to closing)) (push (inside_by closing) (control_of to) (closing_by closing))
-  means_enter : {nest : nests.Nest} {number : ℕ} → T (is_single class) → number ≤ 5 → Enters nest (setting_by number) from
-      → Means from class (Some (Enter nest number)) (enter (entered_by nest) (worded_by nest) (outside_by nest) (behind_by nest (setting_by number)) (left_by nest))
+  means_enter : {nest : nests.Nest} {setting : settings.Setting} → T (is_single class) → Enters nest (setting_by setting) from
+      → Means from class (Some (Enter nest setting)) (enter (entered_by nest) (worded_by nest) (outside_by nest) (behind_by nest (setting_by setting)) (left_by nest))
   means_ask : {ending : Ending} → T (is_single class) → Ended from ending → Means from class (Some Ask) (ask ending)
   means_turn : T (is_single class) → Ended from by_colon → Means from class (Some Turn) turn
 
@@ -197,12 +201,12 @@ Opens step behind closing = (from : Control) (class : ℕ) → T (is_opener clas
     → Means from class step (push (inside_by closing) behind (closing_by closing))
 
 -- a control is settled before a token of a class: no name that is no label is held, and no nest is to be left
-pub record SettledAt (place setting class : ℕ) : Type 0 where
-  pub no_nest : place ≡ 41 → (setting ≡ 3) × (class ≡ else_word)
-  pub no_name : place ≡ 42 → class ≡ colon
-  pub no_catch : place ≡ 43 → class ≡ finally_word
-  pub no_try : place ≡ 44 → ⊥
-  pub no_clause : 45 ≤ place → (class ≡ case_word → ⊥) × (class ≡ default_word → ⊥) × (class ≡ close_brace → ⊥)
+pub record SettledAt (place : places.Place) (setting : settings.Setting) (class : ℕ) : Type 0 where
+  pub no_nest : place ≡ stand.StatementDone → (setting ≡ within.IfNest) × (class ≡ else_word)
+  pub no_name : place ≡ stand.NameFirst → class ≡ colon
+  pub no_catch : place ≡ stand.CatchDone → class ≡ finally_word
+  pub no_try : place ≡ stand.TryEnded → ⊥
+  pub no_clause : place ≡ stand.ClauseStatement → (class ≡ case_word → ⊥) × (class ≡ default_word → ⊥) × (class ≡ close_brace → ⊥)
 
 abbrev pub Settled : code.Control → ℕ → Type 0
 Settled at class = SettledAt at.place at.setting class

@@ -4,18 +4,15 @@ use borrow.Author.Tests.{ne_eqb}
 use Rattle.machine.specs.Tokens.{comma}
 use Rattle.machine.specs.Scopes.{array_elements}
 use Rattle.machine.specs.Machinery.Machine.{some_target, by_item, item_due}
-use Rattle.controls.specs.Machinery.Numbers.{items_by, ending_by, target_by, control_by}
 use Rattle.controls.specs.Machinery.Steps.{due_item, to_hole}
 use Rattle.controls.proofs.EndLaws.{besides_closers}
 use Rattle.forms.proofs.FormLaws.{operand_closers}
 use Rattle.forms.proofs.element_row.Goals as goal
 
 pub returns-in-73 : goal.returns-in-73
-unfolding items_by control_by
-returns-in-73 c = rw c.in-73.is (c.goto.ensures _ _ tt to_hole)
+returns-in-73 c = λ due. rw c.in-73.is ((rw due at c.goto.ensures) _ _ tt to_hole)
 
 pub returns-in_default : goal.returns-in_default
-unfolding items_by ending_by target_by
-returns-in_default c = let class = c.args.class in
+returns-in_default c = λ due. let class = c.args.class in
     besides_closers (c.operand_row.ensures (item_due array_elements) due_item tt) (operand_closers (by_item array_elements) some_target class)
     (λ none. rw (ne_eqb class comma (omega arith), none.no_bracket))

@@ -1,6 +1,6 @@
--- `goto` goes to the control of its parts.
-use Rattle.controls.proofs.StepLaws.{goes}
+-- `goto` goes to the control.
+use Rattle.controls.specs.Machinery.Steps.{means_goto}
 use Rattle.forms.proofs.goto.Goals as goal
 
 pub returns : goal.returns
-returns c = λ from class single leads. goes c.stand.ensures single leads
+returns c = λ from class single leads. means_goto single leads

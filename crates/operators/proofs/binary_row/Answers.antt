@@ -16,7 +16,7 @@ returns-in-51 c = λ few from ended. rw c.in-51.is (c.in_operator_row.ensures fr
 pub returns-in_default : goal.returns-in_default
 returns-in_default c = λ few from ended.
     let a = c.args in
-    let ending = ending_by a.ending a.setting in
+    let ending = ending_by a.at.ending a.at.setting in
     let is = sym c.is_binary.ensures ∙ c.if-is_binary.true in
     let o = binary_next a.class (omega arith) ending is in
     rw o.0
@@ -25,10 +25,10 @@ returns-in_default c = λ few from ended.
 pub returns-in-61 : goal.returns-in-61
 returns-in-61 c = λ few from ended.
     let a = c.args in
-    rw (c.in-61.is, past_operators question (λ e. omega (arith, e)) (ending_by a.ending a.setting) refl) (means_ask tt ended)
+    rw (c.in-61.is, past_operators question (λ e. omega (arith, e)) (ending_by a.at.ending a.at.setting) refl) (means_ask tt ended)
 
 pub returns-in_default-2 : goal.returns-in_default-2
 returns-in_default-2 c = λ few from ended.
     let a = c.args in
     let none = sym c.is_binary.ensures ∙ c.if-is_binary.false in
-    only_closers (none_next a.class (omega arith) (ending_by a.ending a.setting) none (λ e. omega (arith, few)) (λ e. omega (arith, few)) (omega arith) (λ e. omega (arith, few)))
+    only_closers (none_next a.class (omega arith) (ending_by a.at.ending a.at.setting) none (λ e. omega (arith, few)) (λ e. omega (arith, few)) (omega arith) (λ e. omega (arith, few)))

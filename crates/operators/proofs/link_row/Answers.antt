@@ -11,20 +11,17 @@ use Rattle.operators.proofs.ChainLaws.{sign_next}
 use Rattle.operators.proofs.link_row.Goals as goal
 
 pub returns-in-131 : goal.returns-in-131
-unfolding control_by
 returns-in-131 c = λ past a b newline. rw c.in-131.is (c.goto.ensures _ _ tt to_dot)
 
 pub returns-in-132 : goal.returns-in-132
-unfolding control_by
 returns-in-132 c = λ past a b newline. rw c.in-132.is (c.push.ensures _ _ tt past_call)
 
 pub returns-in-140 : goal.returns-in-140
-unfolding control_by
 returns-in-140 c = λ past a b newline. rw c.in-140.is (c.push-in-140.ensures _ _ tt past_index)
 
 pub returns-in_default : goal.returns-in_default
 returns-in_default c = λ past no-semicolon no-colon newline.
     let a = c.args in
-    let ending = ending_by a.ending a.setting in
-    rw (sign_next a.class ending (target_by a.ending a.target) newline (omega (arith, past)) (omega arith) (omega arith) (omega arith))
+    let ending = ending_by a.at.ending a.at.setting in
+    rw (sign_next a.class ending (target_by a.at.ending a.at.flag) newline (omega (arith, past)) (omega arith) (omega arith) (omega arith))
     (only_closers (none_next a.class (λ e. omega (arith, past)) ending (not_among binary_operators comma tt a.class (omega (arith, past))) no-semicolon (λ e. omega (arith, past)) (λ e. omega (arith, past)) no-colon))

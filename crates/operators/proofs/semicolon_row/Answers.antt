@@ -1,38 +1,36 @@
 -- `semicolon_row` is the entry of an ending, at `;`.
-use Prim.Native.Nat.{◌≤◌}
-use native.Mathlib.Omega.{arith}
-use Rattle.controls.specs.Machinery.Numbers.{ending_by, control_by}
+use mathlib.Core.Logic.{⊎_elim}
 use Rattle.controls.specs.Machinery.Steps.{ended_value, ended_start, ended_test, to_end, to_return_end, to_variables_end, to_next_part, means_fail}
-use Rattle.operators.proofs.EndingLaws.{variable_ending, start_ending, semicolon_nowhere}
+use Rattle.operators.proofs.EndingLaws.{semicolon_nowhere}
 use Rattle.operators.proofs.semicolon_row.Goals as goal
 
-pub returns-then-ending-eq-BY_STATEMENT : goal.returns-then-ending-eq-BY_STATEMENT
-unfolding ending_by
-returns-then-ending-eq-BY_STATEMENT c = λ from ended. rw c.if-ending-eq-BY_STATEMENT.true (c.end_statement.ensures _ _ tt (to_end (rw c.if-ending-eq-BY_STATEMENT.true at ended)))
+pub returns-in-Statement : goal.returns-in-Statement
+returns-in-Statement c = λ from ended. rw c.in-Statement.is (c.end_statement.ensures _ _ tt (to_end (rw c.in-Statement.is at ended)))
 
-pub returns-then-ending-eq-BY_RETURN : goal.returns-then-ending-eq-BY_RETURN
-unfolding ending_by
-returns-then-ending-eq-BY_RETURN c = λ from ended. rw c.if-ending-eq-BY_RETURN.true (c.end_statement-then-ending-eq-BY_RETURN.ensures _ _ tt (to_return_end (rw c.if-ending-eq-BY_RETURN.true at ended)))
+pub returns-in-Return : goal.returns-in-Return
+returns-in-Return c = λ from ended. rw c.in-Return.is (c.end_statement-in-Return.ensures _ _ tt (to_return_end (rw c.in-Return.is at ended)))
 
-pub returns-then-ending-le-BY_LATER_VARIABLE : goal.returns-then-ending-le-BY_LATER_VARIABLE
-returns-then-ending-le-BY_LATER_VARIABLE c = λ from ended.
-    let a = c.args in
-    let low : 2 ≤ a.ending = omega (arith, c.if-ending-eq-BY_STATEMENT.false, c.if-ending-eq-BY_RETURN.false) in
-    let v = variable_ending a.ending a.setting low c.if-ending-le-BY_LATER_VARIABLE.true in
-    rw v (c.variables_end.ensures low c.if-ending-le-BY_LATER_VARIABLE.true _ _ tt (to_variables_end (ended_value (rw v at ended))))
+pub returns-in-Variable : goal.returns-in-Variable
+returns-in-Variable c = λ from ended.
+    ⊎_elim
+    (λ e. rw e ((rw e at c.variables_end.ensures) _ _ tt (to_variables_end (ended_value (rw e at ended)))))
+    (⊎_elim
+    (λ e. rw e ((rw e at c.variables_end.ensures) _ _ tt (to_variables_end (ended_value (rw e at ended)))))
+    (λ e. rw e ((rw e at c.variables_end.ensures) _ _ tt (to_variables_end (ended_value (rw e at ended))))))
+    c.in-Variable.is
 
-pub returns-then-ending-le-BY_START : goal.returns-then-ending-le-BY_START
-unfolding control_by
-returns-then-ending-le-BY_START c = λ from ended.
-    let a = c.args in
-    let start = start_ending a.ending a.setting c.if-ending-le-BY_LATER_VARIABLE.false c.if-ending-le-BY_START.true in
-    rw start (c.goto.ensures _ _ tt (to_next_part (ended_start (rw start at ended))))
+pub returns-in-LoneStart : goal.returns-in-LoneStart
+returns-in-LoneStart c = λ from ended.
+    ⊎_elim
+    (λ e. rw e (c.goto.ensures _ _ tt (to_next_part (ended_start (rw e at ended)))))
+    (λ e. rw e (c.goto.ensures _ _ tt (to_next_part (ended_start (rw e at ended)))))
+    c.in-LoneStart.is
 
-pub returns-then-ending-eq-BY_TEST : goal.returns-then-ending-eq-BY_TEST
-unfolding ending_by control_by
-returns-then-ending-eq-BY_TEST c = λ from ended. rw c.if-ending-eq-BY_TEST.true (c.goto-then-ending-eq-BY_TEST.ensures _ _ tt (to_next_part (ended_test (rw c.if-ending-eq-BY_TEST.true at ended))))
+pub returns-in-Test : goal.returns-in-Test
+returns-in-Test c = λ from ended. rw c.in-Test.is (c.goto-in-Test.ensures _ _ tt (to_next_part (ended_test (rw c.in-Test.is at ended))))
 
-pub returns : goal.returns
-returns c = λ from ended.
-    let a = c.args in
-    rw (semicolon_nowhere a.ending a.setting (omega (arith, c.if-ending-le-BY_START.false, c.if-ending-eq-BY_TEST.false))) means_fail
+pub returns-in_default : goal.returns-in_default
+returns-in_default c = λ from ended.
+    let at = c.args.at in
+    let d = c.in_default in
+    rw (semicolon_nowhere at.setting at.ending d.not-Statement d.not-Return d.not-Variable d.not-FirstVariable d.not-LaterVariable d.not-LoneStart d.not-Start d.not-Test) means_fail

@@ -13,8 +13,8 @@ use Rattle.operators.proofs.sign_row.Goals as goal
 pub returns-in-130 : goal.returns-in-130
 returns-in-130 c = λ past newline.
     let a = c.args in
-    let ending = ending_by a.ending a.setting in
-    let target = target_by a.ending a.target in
+    let ending = ending_by a.at.ending a.at.setting in
+    let target = target_by a.at.ending a.at.flag in
     rw c.in-130.is
     (behind-unary ending target newline a.chain (λ e. sign_next semicolon ending target newline (omega arith) (λ e. omega (arith, e)) (λ e. omega (arith, e)) (λ e. omega (arith, e)))
     (λ from ended. rw (past_operators semicolon (λ e. omega (arith, e)) ending refl) (c.semicolon_row.ensures from ended)))
@@ -22,8 +22,8 @@ returns-in-130 c = λ past newline.
 pub returns-in-73 : goal.returns-in-73
 returns-in-73 c = λ past newline.
     let a = c.args in
-    let ending = ending_by a.ending a.setting in
-    let target = target_by a.ending a.target in
+    let ending = ending_by a.at.ending a.at.setting in
+    let target = target_by a.at.ending a.at.flag in
     rw c.in-73.is
     (behind-unary ending target newline a.chain (λ e. sign_next comma ending target newline (omega arith) (λ e. omega (arith, e)) (λ e. omega (arith, e)) (λ e. omega (arith, e)))
     (λ from ended. rw (past_operators comma (λ e. omega (arith, e)) ending refl) (c.comma_row.ensures from ended)))
@@ -31,8 +31,8 @@ returns-in-73 c = λ past newline.
 pub returns-in-129 : goal.returns-in-129
 returns-in-129 c = λ past newline.
     let a = c.args in
-    let ending = ending_by a.ending a.setting in
-    let target = target_by a.ending a.target in
+    let ending = ending_by a.at.ending a.at.setting in
+    let target = target_by a.at.ending a.at.flag in
     rw c.in-129.is
     (behind-unary ending target newline a.chain (λ e. sign_next colon ending target newline (omega arith) (λ e. omega (arith, e)) (λ e. omega (arith, e)) (λ e. omega (arith, e)))
     (λ from ended. rw (past_operators colon (λ e. omega (arith, e)) ending refl) (c.colon_row.ensures from ended)))
@@ -41,4 +41,4 @@ pub returns-in_default-2 : goal.returns-in_default-2
 returns-in_default-2 c = λ past newline.
     let a = c.args in
     rw c.if-chain.false
-    (only_closers (none_next a.class (λ e. omega (arith, past)) (ending_by a.ending a.setting) (not_among binary_operators comma tt a.class past) (omega arith) (omega arith) (λ e. omega (arith, past)) (omega arith)))
+    (only_closers (none_next a.class (λ e. omega (arith, past)) (ending_by a.at.ending a.at.setting) (not_among binary_operators comma tt a.class past) (omega arith) (omega arith) (λ e. omega (arith, past)) (omega arith)))

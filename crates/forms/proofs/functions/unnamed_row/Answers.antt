@@ -2,16 +2,13 @@
 use native.Mathlib.Omega.{arith}
 use borrow.Author.Tests.{ne_eqb}
 use Rattle.machine.specs.Tokens.{name, open_paren}
-use Rattle.controls.specs.Machinery.Numbers.{control_by}
 use Rattle.controls.specs.Machinery.Steps.{to_function_name, past_unnamed, means_fail}
 use Rattle.forms.proofs.functions.unnamed_row.Goals as goal
 
 pub returns-in-1 : goal.returns-in-1
-unfolding control_by
 returns-in-1 c = rw c.in-1.is (c.goto.ensures _ _ tt to_function_name)
 
 pub returns-in-132 : goal.returns-in-132
-unfolding control_by
 returns-in-132 c = rw c.in-132.is (c.push.ensures _ _ tt past_unnamed)
 
 pub returns-in_default : goal.returns-in_default

@@ -1,5 +1,0 @@
--- `head_row` is a row of one entry.
-use Rattle.forms.proofs.head_row.Goals as goal
-
-pub returns : goal.returns
-returns c = λ from spans. c.opens.ensures from tt spans
