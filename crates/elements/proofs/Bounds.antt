@@ -13,7 +13,8 @@ use Rattle.text.specs.Runs.{run}
 use Rattle.text.proofs.Laws.{run_le, run_some}
 use Rattle.words.specs.Words.{word_number, taken}
 use Rattle.signs.specs.Signs.{longest_sign}
-use Rattle.signs.specs.declared.Longest.{Longest}
+use Rattle.std.specs.Prelude.{Option, None, Some}
+use Rattle.signs.specs.declared.Sign.{Sign}
 use Rattle.signs.proofs.Laws.{longest_fits}
 use Rattle.answers.specs.Faults.{open_string, open_pattern, bad_number, barred_word}
 use Rattle.gaps.specs.Gaps.{gap}
@@ -79,11 +80,11 @@ module _ (newline : Bool) (first hi b : ℕ) (s : List ℕ) (fits : first + 1 + 
       (cond_both (NextIn newline first hi) (taken word) (cut n h k word_kind word)
       (omega arith))
 
-  sign_in : (l : Longest) → longest_sign (b ∷ s) ≡ l → NextIn newline first hi (sign_or_stray newline first l)
-  sign_in Longest.None e = omega arith
-  sign_in (Longest.Sign number n) e =
-      let f = longest_fits (b ∷ s) number n e in
-      cut n f.0 (omega arith) (cond (delimiter number) delimiter_kind sign_kind) number
+  sign_in : (l : Option Sign) → longest_sign (b ∷ s) ≡ l → NextIn newline first hi (sign_or_stray newline first l)
+  sign_in None e = omega arith
+  sign_in (Some sign) e =
+      let f = longest_fits (b ∷ s) sign e in
+      cut sign.len f.0 (omega arith) (cond (delimiter sign.number) delimiter_kind sign_kind) sign.number
 
   cons_in : (stated : Stated) → NextIn newline first hi (element_from stated newline first (b ∷ s))
   unfolding element_from

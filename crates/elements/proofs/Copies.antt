@@ -13,8 +13,9 @@ use Rattle.text.specs.Bytes.{blank, line_end, letter, digit, name_byte}
 use Rattle.text.specs.Runs.{run}
 use Rattle.text.proofs.Laws.{run_own, run_le}
 use Rattle.words.specs.Words.{word_number, taken}
-use Rattle.signs.specs.Signs.{longest_sign}
-use Rattle.signs.specs.declared.Longest.{Longest}
+use Rattle.signs.specs.Signs.{found, longest_sign}
+use Rattle.std.specs.Prelude.{Option, None, Some}
+use Rattle.signs.specs.declared.Sign.{Sign}
 use Rattle.signs.proofs.Laws.{longest_own}
 use Rattle.numbers.specs.Numbers.{starts_number, number_from}
 use Rattle.literals.specs.Strings.{quote, string_rest}
@@ -92,14 +93,14 @@ module _ (x : ℕ) (v : List ℕ) (separates : (blank x || line_end x) ≡ true)
           let h : k ≤ length s = omega (arith, run_le name_byte s) in
           rw (r, take_at (take k s) (x ∷ v) k (length-take-le k s h)) (rw q at w.1)
 
-      sign_own : (l : Longest) → longest_sign s ≡ l → sign_or_stray newline first l ≡ Next.Found e
+      sign_own : (l : Option Sign) → longest_sign s ≡ l → sign_or_stray newline first l ≡ Next.Found e
           → sign_or_stray lined there (longest_sign (take k s ++ x ∷ v)) ≡ moved there lined k e
-      sign_own Longest.None g f = no_element f
-      sign_own (Longest.Sign number n) g f =
-          let kind = cond (delimiter number) delimiter_kind sign_kind in
-          let q : n ≡ k = omega (arith, same_size kind number (first + n) f) in
-          let own : longest_sign (take k s ++ x ∷ v) ≡ Longest.Sign number k = rw q at (longest_own s number n g x separates v) in
-          rw own (found_own kind number (first + n) f)
+      sign_own None g f = no_element f
+      sign_own (Some sign) g f =
+          let kind = cond (delimiter sign.number) delimiter_kind sign_kind in
+          let q : sign.len ≡ k = omega (arith, same_size kind sign.number (first + sign.len) f) in
+          let own : longest_sign (take k s ++ x ∷ v) ≡ found sign.number k = rw q at (longest_own s sign g x separates v) in
+          rw (own) (found_own kind sign.number (first + sign.len) f)
 
   -- no digit comes to stand behind a dot
   second_own : (d t : Bool) (s : List ℕ) (k : ℕ) → k ≤ length s → (d || (t && digit (get_or s 0 0))) ≡ false

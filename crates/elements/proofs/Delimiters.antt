@@ -12,7 +12,8 @@ use Rattle.text.specs.Bytes.{letter, name_byte}
 use Rattle.text.specs.Runs.{run, same}
 use Rattle.words.specs.Words.{word_number, taken}
 use Rattle.signs.specs.Signs.{longest_sign, longest_of}
-use Rattle.signs.specs.declared.Longest.{Longest}
+use Rattle.std.specs.Prelude.{Option, None, Some}
+use Rattle.signs.specs.declared.Sign.{Sign}
 use Rattle.vocabulary.specs.Vocabulary.{spelling, signs, row_at}
 use Rattle.vocabulary.proofs.RowLaws.{at_row}
 use Rattle.signs.proofs.Spellings.{longest_spelled}
@@ -47,16 +48,16 @@ delimiter_short : (number : ℕ) → T (not (delimiter number) || leb (length (s
 unfolding delimiter longest_sign longest_of same
 delimiter_short number = at_row (λ n row. not (delimiter n) || leb (length (spelling row)) 1) signs tt number (rw (or-true (not (delimiter number))) tt)
 
-sign_byte : (newline : Bool) (first : ℕ) (s : List ℕ) (l : Longest) → longest_sign s ≡ l → OneByte (sign_or_stray newline first l)
-sign_byte newline first s Longest.None e = tt
-sign_byte newline first s (Longest.Sign number n) e =
+sign_byte : (newline : Bool) (first : ℕ) (s : List ℕ) (l : Option Sign) → longest_sign s ≡ l → OneByte (sign_or_stray newline first l)
+sign_byte newline first s None e = tt
+sign_byte newline first s (Some sign) e =
     λ k.
-    let is = only (delimiter number) refl k in
-    let long = (longest_spelled s number n e).long in
-    let short = leb→le (length (spelling (row_at signs number))) 1 (rw is at (delimiter_short number)) in
-    (omega (arith, (longest_fits s number n e).0), is)
+    let is = only (delimiter sign.number) refl k in
+    let long = (longest_spelled s sign e).long in
+    let short = leb→le (length (spelling (row_at signs sign.number))) 1 (rw is at (delimiter_short sign.number)) in
+    (omega (arith, (longest_fits s sign e).0), is)
   where
-    only : (b : Bool) → delimiter number ≡ b → cond b delimiter_kind sign_kind ≡ delimiter_kind → delimiter number ≡ true
+    only : (b : Bool) → delimiter sign.number ≡ b → cond b delimiter_kind sign_kind ≡ delimiter_kind → delimiter sign.number ≡ true
     only true d k = d
     only false d k = absurd (omega arith)
 

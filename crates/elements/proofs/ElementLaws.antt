@@ -14,7 +14,8 @@ use Rattle.text.specs.Runs.{run}
 use Rattle.text.proofs.Lists.{drop_at}
 use Rattle.words.specs.Words.{word_number, taken}
 use Rattle.signs.specs.Signs.{longest_sign}
-use Rattle.signs.specs.declared.Longest.{Longest}
+use Rattle.std.specs.Prelude.{Option, None, Some}
+use Rattle.signs.specs.declared.Sign.{Sign}
 use Rattle.answers.specs.Faults.{stray, barred_word}
 use Rattle.numbers.specs.Numbers.{number_from}
 use Rattle.literals.specs.Strings.{quote, string_rest}
@@ -56,15 +57,15 @@ module _ (asName newline : Bool) (first end word : ℕ) (s : List ℕ) (e : end 
   named_barred z t = known ∙ rw (z, t)
 
 -- a sign that is known
-module _ (newline : Bool) (first : ℕ) (l : Longest) where
-  pub sign_stray : l ≡ Longest.None → sign_or_stray newline first l ≡ Next.Fault stray first
+module _ (newline : Bool) (first : ℕ) (l : Option Sign) where
+  pub sign_stray : l ≡ None → sign_or_stray newline first l ≡ Next.Fault stray first
   sign_stray e = ap (sign_or_stray newline first) e
 
-  module _ (number n : ℕ) (e : l ≡ Longest.Sign number n) where
-    pub sign_delimiter : delimiter number ≡ true → sign_or_stray newline first l ≡ element delimiter_kind number newline first (first + n)
+  module _ (sign : Sign) (e : l ≡ Some sign) where
+    pub sign_delimiter : delimiter sign.number ≡ true → sign_or_stray newline first l ≡ element delimiter_kind sign.number newline first (first + sign.len)
     sign_delimiter d = ap (sign_or_stray newline first) e ∙ rw d
 
-    pub sign_other : delimiter number ≡ false → sign_or_stray newline first l ≡ element sign_kind number newline first (first + n)
+    pub sign_other : delimiter sign.number ≡ false → sign_or_stray newline first l ≡ element sign_kind sign.number newline first (first + sign.len)
     sign_other d = ap (sign_or_stray newline first) e ∙ rw d
 
 -- the element whose first byte stands at i

@@ -11,7 +11,8 @@ use Rattle.text.specs.Bytes.{letter, name_byte}
 use Rattle.text.specs.Runs.{run}
 use Rattle.words.specs.Words.{word_number, taken}
 use Rattle.signs.specs.Signs.{longest_sign}
-use Rattle.signs.specs.declared.Longest.{Longest}
+use Rattle.std.specs.Prelude.{Option, None, Some}
+use Rattle.signs.specs.declared.Sign.{Sign}
 use Rattle.gaps.specs.Gaps.{gap}
 use Rattle.numbers.specs.Numbers.{starts_number, number_from}
 use Rattle.literals.specs.Strings.{quote, string_rest}
@@ -33,9 +34,9 @@ literal_kind : (kind : ℕ) → kind ≤ 6 → (newline : Bool) (first : ℕ) (l
 literal_kind kind h newline first (Literal.Ends end) = h
 literal_kind kind h newline first (Literal.Fault number place) = tt
 
-sign-kind : (newline : Bool) (first : ℕ) (l : Longest) → KindIn (sign_or_stray newline first l)
-sign-kind newline first Longest.None = tt
-sign-kind newline first (Longest.Sign number n) = cond_both (λ k. k ≤ 6) (delimiter number) (omega arith) (omega arith)
+sign-kind : (newline : Bool) (first : ℕ) (l : Option Sign) → KindIn (sign_or_stray newline first l)
+sign-kind newline first None = tt
+sign-kind newline first (Some sign) = cond_both (λ k. k ≤ 6) (delimiter sign.number) (omega arith) (omega arith)
 
 named_kind : (asName newline : Bool) (first : ℕ) (s : List ℕ) → KindIn (named asName newline first s)
 unfolding named

@@ -11,7 +11,8 @@ use Rattle.text.specs.Quoted.{byte}
 use Rattle.text.specs.Bytes.{letter, name_byte}
 use Rattle.words.specs.Words.{taken}
 use Rattle.signs.specs.Signs.{longest_sign}
-use Rattle.signs.specs.declared.Longest.{Longest}
+use Rattle.std.specs.Prelude.{Option, None, Some}
+use Rattle.signs.specs.declared.Sign.{Sign}
 use Rattle.answers.specs.Faults.{open_string, open_pattern, bad_number}
 use Rattle.gaps.specs.Gaps.{gap}
 use Rattle.numbers.specs.Numbers.{starts_number, number_length, number_from}
@@ -91,9 +92,9 @@ module _ (s : List ℕ) (newline : Bool) (first : ℕ) where
       cond_both (NextNumber s) (eqb (first_word t) 0 || asName) (λ k. absurd (omega arith))
       (cond_both (NextNumber s) (taken (first_word t)) (λ k. absurd (omega arith)) (λ k. absurd (omega arith)))
 
-  sign_next : (l : Longest) → NextNumber s (sign_or_stray newline first l)
-  sign_next Longest.None = λ k. absurd (omega arith)
-  sign_next (Longest.Sign number n) = λ k. absurd (cond_both (λ kind. kind ≡ number_kind → ⊥) (delimiter number) (λ k. omega arith) (λ k. omega arith) k)
+  sign_next : (l : Option Sign) → NextNumber s (sign_or_stray newline first l)
+  sign_next None = λ k. absurd (omega arith)
+  sign_next (Some sign) = λ k. absurd (cond_both (λ kind. kind ≡ number_kind → ⊥) (delimiter sign.number) (λ k. omega arith) (λ k. omega arith) k)
 
   from_next : (stated : Stated) (t : List ℕ) → drop first s ≡ t → NextNumber s (element_from stated newline first t)
   unfolding element_from

@@ -12,7 +12,8 @@ use Rattle.text.specs.Bytes.{blank, line_end, illegal, letter, name_byte}
 use Rattle.text.specs.Runs.{run}
 use Rattle.words.specs.Words.{word_number, taken}
 use Rattle.signs.specs.Signs.{longest_sign}
-use Rattle.signs.specs.declared.Longest.{Longest}
+use Rattle.std.specs.Prelude.{Option, None, Some}
+use Rattle.signs.specs.declared.Sign.{Sign}
 use Rattle.gaps.specs.Gaps.{gap, after_slash, in_line, in_block}
 use Rattle.numbers.specs.Numbers.{starts_number, number_from}
 use Rattle.literals.specs.Strings.{quote, string_rest}
@@ -87,9 +88,9 @@ module _ (newline : Bool) (first : ℕ) where
       let word = word_number (take (run name_byte s) s) in
       cond_map lined (eqb word 0 || asName) refl (cond_map lined (taken word) refl refl)
 
-  sign_lined : (l : Longest) → sign_or_stray true first l ≡ lined (sign_or_stray newline first l)
-  sign_lined Longest.None = refl
-  sign_lined (Longest.Sign number n) = refl
+  sign_lined : (l : Option Sign) → sign_or_stray true first l ≡ lined (sign_or_stray newline first l)
+  sign_lined None = refl
+  sign_lined (Some sign) = refl
 
   from_lined : (stated : Stated) (s : List ℕ) → element_from stated true first s ≡ lined (element_from stated newline first s)
   unfolding element_from

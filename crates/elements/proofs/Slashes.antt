@@ -15,8 +15,9 @@ use Rattle.text.specs.Quoted.{byte}
 use Rattle.text.specs.Bytes.{letter, digit, name_byte}
 use Rattle.text.specs.Runs.{run, same}
 use Rattle.words.specs.Words.{word_number, taken}
-use Rattle.signs.specs.Signs.{longest_of, longest_sign}
-use Rattle.signs.specs.declared.Longest.{Longest}
+use Rattle.signs.specs.Signs.{found, longest_of, longest_sign}
+use Rattle.std.specs.Prelude.{Option, None, Some}
+use Rattle.signs.specs.declared.Sign.{Sign}
 use Rattle.gaps.specs.Gaps.{gap}
 use Rattle.numbers.specs.Numbers.{starts_number, number_from}
 use Rattle.literals.specs.Strings.{quote, string_rest}
@@ -47,12 +48,12 @@ use Rattle.elements.proofs.Choices.{cond_both, cond_known}
 use Rattle.elements.proofs.Clashes.{no_element}
 
 -- the longest sign that starts with a slash
-longest_slash : (s : List ℕ) → longest_sign (byte "/" ∷ s) ≡ cond (eqb (get_or s 0 0) (byte "=")) (Longest.Sign 48 2) (Longest.Sign 47 1)
+longest_slash : (s : List ℕ) → longest_sign (byte "/" ∷ s) ≡ cond (eqb (get_or s 0 0) (byte "=")) (found 48 2) (found 47 1)
 unfolding longest_sign longest_of same
 longest_slash [] = refl
 longest_slash (b ∷ s) = go (eqb b (byte "=")) refl
   where
-    go : (t : Bool) → eqb b (byte "=") ≡ t → longest_sign (byte "/" ∷ b ∷ s) ≡ cond t (Longest.Sign 48 2) (Longest.Sign 47 1)
+    go : (t : Bool) → eqb b (byte "=") ≡ t → longest_sign (byte "/" ∷ b ∷ s) ≡ cond t (found 48 2) (found 47 1)
     go true e = rw (eqb-true b (byte "=") e)
     go false e = rw (ne_eqb (byte "=") b (λ f. eqb-false b (byte "=") e (sym f)))
 
@@ -78,7 +79,7 @@ module _ (name newline : Bool) (first : ℕ) where
   unfolding element_from letter digit quote
   from_divided s = rw (longest_slash s) (go (eqb (get_or s 0 0) (byte "=")))
     where
-      go : (t : Bool) → sign_or_stray newline first (cond t (Longest.Sign 48 2) (Longest.Sign 47 1))
+      go : (t : Bool) → sign_or_stray newline first (cond t (found 48 2) (found 47 1))
           ≡ cond t (element sign_kind 48 newline first (first + 2)) (element sign_kind 47 newline first (first + 1))
       go true = rw slash_no_delimiter.1
       go false = rw slash_no_delimiter.0
@@ -101,10 +102,10 @@ module _ (opens newline : Bool) (first : ℕ) where
       cond_both (OpenedOnly opens) (eqb word 0 || asName) (λ k. absurd (omega arith))
       (cond_both (OpenedOnly opens) (taken word) (λ k. absurd (omega arith)) tt)
 
-  sign_only : (l : Longest) → OpenedOnly opens (sign_or_stray newline first l)
-  sign_only Longest.None = tt
-  sign_only (Longest.Sign number n) =
-      cond_both (λ (kind : ℕ). kind ≡ pattern_kind → opens ≡ true) (delimiter number) (λ k. absurd (omega arith)) (λ k. absurd (omega arith))
+  sign_only : (l : Option Sign) → OpenedOnly opens (sign_or_stray newline first l)
+  sign_only None = tt
+  sign_only (Some sign) =
+      cond_both (λ (kind : ℕ). kind ≡ pattern_kind → opens ≡ true) (delimiter sign.number) (λ k. absurd (omega arith)) (λ k. absurd (omega arith))
 
 from_only : (stated : Stated) (newline : Bool) (first : ℕ) (s : List ℕ)
     → OpenedOnly (stated.pattern && eqb (get_or s 0 0) (byte "/")) (element_from stated newline first s)

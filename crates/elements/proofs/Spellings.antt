@@ -17,7 +17,8 @@ use Rattle.vocabulary.proofs.RowLaws.{each_taken, at_taken, at_row}
 use Rattle.words.specs.Words.{word_number, taken}
 use Rattle.words.proofs.Spellings.{word_spelled}
 use Rattle.signs.specs.Signs.{longest_sign}
-use Rattle.signs.specs.declared.Longest.{Longest}
+use Rattle.std.specs.Prelude.{Option, None, Some}
+use Rattle.signs.specs.declared.Sign.{Sign}
 use Rattle.signs.proofs.Spellings.{longest_spelled}
 use Rattle.numbers.specs.Numbers.{starts_number, number_from}
 use Rattle.literals.specs.Strings.{quote, string_rest}
@@ -101,15 +102,15 @@ module _ (newline : Bool) (first : ℕ) (s : List ℕ) where
       })
       (λ barred. tt)
 
-  sign_spelled : (l : Longest) → longest_sign s ≡ l → NextSpelled s (sign_or_stray newline first l)
-  sign_spelled Longest.None e = tt
-  sign_spelled (Longest.Sign number n) e =
-      let is = longest_spelled s number n e in
-      let whole : first + n - first ≡ n = omega arith in
+  sign_spelled : (l : Option Sign) → longest_sign s ≡ l → NextSpelled s (sign_or_stray newline first l)
+  sign_spelled None e = tt
+  sign_spelled (Some sign) e =
+      let is = longest_spelled s sign e in
+      let whole : first + sign.len - first ≡ sign.len = omega arith in
       record {
-        word = λ k. absurd (no_word (delimiter number) k);
-        sign = λ k. rw whole (record { spelled = is.own; taken = sign_taken number (rw (← is.long) (longest_fits s number n e).0) });
-        apart = λ k. no_delimiter (delimiter number) k;
+        word = λ k. absurd (no_word (delimiter sign.number) k);
+        sign = λ k. rw whole (record { spelled = is.own; taken = sign_taken sign.number (rw (← is.long) (longest_fits s sign e).0) });
+        apart = λ k. no_delimiter (delimiter sign.number) k;
       }
     where
       no_word : (d : Bool) → cond d delimiter_kind sign_kind ≡ word_kind → ⊥

@@ -13,7 +13,8 @@ use Rattle.text.specs.Bytes.{letter, name_byte}
 use Rattle.text.specs.Runs.{run}
 use Rattle.words.specs.Words.{taken}
 use Rattle.signs.specs.Signs.{longest_sign}
-use Rattle.signs.specs.declared.Longest.{Longest}
+use Rattle.std.specs.Prelude.{Option, None, Some}
+use Rattle.signs.specs.declared.Sign.{Sign}
 use Rattle.answers.specs.Faults.{barred_word}
 use Rattle.gaps.specs.Gaps.{gap}
 use Rattle.gaps.specs.declared.Gap.{Gap}
@@ -102,10 +103,10 @@ module _ (asName newline : Bool) (first : ℕ) where
   literal_reserved kind w n (Literal.Ends end) = plain _ w n
   literal_reserved kind w n (Literal.Fault number at) = tt
 
-  sign_reserved : (l : Longest) → NextReserved false asName (sign_or_stray newline first l)
-  sign_reserved Longest.None = tt
-  sign_reserved (Longest.Sign number n) =
-      plain _ (no_kind word_kind (omega arith) (omega arith) (delimiter number)) (no_kind name_kind (omega arith) (omega arith) (delimiter number))
+  sign_reserved : (l : Option Sign) → NextReserved false asName (sign_or_stray newline first l)
+  sign_reserved None = tt
+  sign_reserved (Some sign) =
+      plain _ (no_kind word_kind (omega arith) (omega arith) (delimiter sign.number)) (no_kind name_kind (omega arith) (omega arith) (delimiter sign.number))
     where
       no_kind : (kind : ℕ) → (delimiter_kind ≡ kind → ⊥) → (sign_kind ≡ kind → ⊥) → (d : Bool) → cond d delimiter_kind sign_kind ≡ kind → ⊥
       no_kind kind a b true k = a k
@@ -173,9 +174,9 @@ literal_goes_on : (kind : ℕ) (newline : Bool) (first : ℕ) (l : Literal) → 
 literal_goes_on kind newline first (Literal.Ends end) = tt
 literal_goes_on kind newline first (Literal.Fault number at) = tt
 
-sign_goes_on : (newline : Bool) (first : ℕ) (l : Longest) → GoesOn (sign_or_stray newline first l)
-sign_goes_on newline first Longest.None = tt
-sign_goes_on newline first (Longest.Sign number n) = tt
+sign_goes_on : (newline : Bool) (first : ℕ) (l : Option Sign) → GoesOn (sign_or_stray newline first l)
+sign_goes_on newline first None = tt
+sign_goes_on newline first (Some sign) = tt
 
 from_goes_on : (stated : Stated) (newline : Bool) (first b : ℕ) (s : List ℕ) → GoesOn (element_from stated newline first (b ∷ s))
 unfolding element_from named

@@ -1,13 +1,13 @@
 -- Document 01, Elements: the element at a place of a text under stated answers, or the text's end, or the first fault of a
 -- comment or of the element itself, "bytes of an element left to right". What is stated is two answers: whether a slash met
 -- there opens a regular expression, and (document 02, U1 and U2) whether a reserved word met there is a name.
-use Rattle.std.specs.Prelude.{ℕ, ◌+◌, ◌≡◌, List, [], ◌∷◌, Bool, false, not, cond, ◌&&◌, ◌||◌, eqb, get_or, take, drop}
+use Rattle.std.specs.Prelude.{ℕ, ◌+◌, ◌≡◌, List, [], ◌∷◌, Bool, false, not, cond, ◌&&◌, ◌||◌, eqb, get_or, take, drop, Option, None, Some}
 use Rattle.text.specs.Quoted.{byte, bytes}
 use Rattle.text.specs.Bytes.{letter, name_byte}
 use Rattle.text.specs.Runs.{run}
 use Rattle.words.specs.Words.{word_number, taken}
 use Rattle.signs.specs.Signs.{longest_sign}
-use Rattle.signs.specs.declared.Longest.{Longest}
+use Rattle.signs.specs.declared.Sign.{Sign}
 use Rattle.answers.specs.Answers.{Tells}
 use Rattle.answers.specs.Faults.{stray, barred_word}
 use Rattle.gaps.specs.Gaps.{gap}
@@ -73,9 +73,9 @@ unfoldable pub named : Bool → Bool → ℕ → List ℕ → Next
 named asName newline first s = word_or_name asName (first_word s) newline first (first + run name_byte s)
 
 -- the number of a sign
-abbrev pub number_of_sign : Longest → ℕ
-number_of_sign Longest.None = 0
-number_of_sign (Longest.Sign number n) = number
+abbrev pub number_of_sign : Option Sign → ℕ
+number_of_sign None = 0
+number_of_sign (Some sign) = sign.number
 
 -- the delimiters: "`( ) { }`", and `[ ]` of document 02, U2
 abbrev pub paren_opener : ℕ
@@ -101,9 +101,9 @@ delimiter sign =
     eqb sign brace_opener || eqb sign brace_closer || eqb sign paren_opener || eqb sign paren_closer || eqb sign bracket_opener || eqb sign bracket_closer
 
 -- "Signs: the longest of the 48 signs of ES5.1 section 7.7 is taken"; by document 02, U4, all are legal
-abbrev pub sign_or_stray : Bool → ℕ → Longest → Next
-sign_or_stray newline first Longest.None = Next.Fault stray first
-sign_or_stray newline first (Longest.Sign number n) = element (cond (delimiter number) delimiter_kind sign_kind) number newline first (first + n)
+abbrev pub sign_or_stray : Bool → ℕ → Option Sign → Next
+sign_or_stray newline first None = Next.Fault stray first
+sign_or_stray newline first (Some sign) = element (cond (delimiter sign.number) delimiter_kind sign_kind) sign.number newline first (first + sign.len)
 
 -- The element at `first`, where the list is the text from there on and no blank, line end or comment starts there. "A slash
 -- that opens a regular expression is not a sign." An illegal byte starts no sign, so it is stray.

@@ -12,7 +12,6 @@ use answers::Literal;
 use answers::faults::{BARRED_WORD, STRAY};
 use gaps::Gap;
 use literals::{patterns, strings};
-use signs::Longest;
 
 // The kinds of elements, as document 01 numbers those of its tree records. A delimiter's group has a kind of its own.
 pub const DELIMITER: u32 = 0;
@@ -149,11 +148,11 @@ fn sign_element(text: &[u8], first: usize, newline: bool) -> Next
     requires { first < length text.now }
     ensures { result ≡ sign_or_stray newline first (longest_sign (drop first text.now)) }
 {
-    let longest = signs::sign_at(text, first);
-    let Longest::Sign(which, len) = longest else {
+    let Some(sign) = signs::sign_at(text, first) else {
         return Next::Fault(STRAY, first);
     };
-    let end = first + len;
+    let which = sign.number;
+    let end = first + sign.len;
     if is_delimiter(which) {
         return Next::Found(Element {
             kind: DELIMITER,
