@@ -8,7 +8,7 @@ use answers::Answer;
 use controls::records;
 use groups::Parsed;
 use machine::tokens;
-use tables::TreeRecord;
+use tables::{SyntaxRecord, TreeRecord};
 
 // The numbers that document 01's table gives a text that is no program, and a syntax table that is too short.
 pub const NO_PROGRAM: u32 = 13;
@@ -38,7 +38,7 @@ fn program(text: &[u8], trees: &[u32], waiting: &mut [u16], syntax: &mut [u32]) 
         Parsed::Bad(place) => Answer::Refused(NO_PROGRAM, place),
         Parsed::Done(n, _) => {
             let all = records::put(syntax, n, records::PROGRAM, number, 0);
-            if tables::syntax_room(syntax.len()) < all {
+            if tables::room_for::<SyntaxRecord>(syntax.len()) < all {
                 return Answer::Refused(SYNTAX_FULL, text.len());
             }
             Answer::Accepted(all)

@@ -38,7 +38,7 @@ fn fill(codes: &[u8], text: &[u8], trees: &mut [u32], stack: &mut [u32]) -> Answ
     requires { (codes.now ≡ byte_codes) × (length text.now ≤ most_bytes) × (length stack.old ≡ 200) }
     ensures { (result ≡ answer_of (reading_for text.now (length trees.old))) × Filled (reading_for text.now (length trees.old)) trees.old trees.new }
 {
-    let room = tables::room_for(trees.len());
+    let room = tables::room_for::<TreeRecord>(trees.len());
     let mut none = [0u8; 0];
     let run = turns::read_on(codes, text, trees, &mut none, stack, room, false);
     match run {

@@ -9,11 +9,11 @@ statements-body-requires c = (record { fine = c.requires.0; low = omega arith; d
 pub put-all-requires : goal.put-all-requires
 put-all-requires c = let n = few_records c.statements-body.ensures c.in-Done.is in omega (arith, n, c.requires.0.few)
 
-pub returns-then-syntax_room-all : goal.returns-then-syntax_room-all
-returns-then-syntax_room-all c = judge_full c.statements-body.ensures c.in-Done.is c.put-all.ensures.0 c.put-all.ensures.1 (omega (arith, c.put-all.ensures.0, few_records c.statements-body.ensures c.in-Done.is, c.requires.0.few)) (omega (arith, c.syntax_room.ensures, c.if-syntax_room-all.true))
+pub returns-then-room_for-all : goal.returns-then-room_for-all
+returns-then-room_for-all c = judge_full c.statements-body.ensures c.in-Done.is c.put-all.ensures.0 c.put-all.ensures.1 (omega (arith, c.put-all.ensures.0, few_records c.statements-body.ensures c.in-Done.is, c.requires.0.few)) (omega (arith, c.room_for.ensures, c.if-room_for-all.true))
 
 pub returns-in-Bad : goal.returns-in-Bad
 returns-in-Bad c = judge_bad c.statements-body.ensures c.in-Bad.is
 
-pub returns-else-syntax_room-all : goal.returns-else-syntax_room-all
-returns-else-syntax_room-all c = judge_program c.statements-body.ensures c.in-Done.is c.put-all.ensures.0 c.put-all.ensures.1 (omega (arith, c.syntax_room.ensures, c.if-syntax_room-all.false))
+pub returns-else-room_for-all : goal.returns-else-room_for-all
+returns-else-room_for-all c = judge_program c.statements-body.ensures c.in-Done.is c.put-all.ensures.0 c.put-all.ensures.1 (omega (arith, c.room_for.ensures, c.if-room_for-all.false))
