@@ -2,8 +2,7 @@
 // then `end` or `fault,number,place`, with a blank between.
 use elements::Element;
 use std::io;
-use writing::numbers::put_number;
-use writing::{put_byte, put_bytes};
+use writing::Writer;
 
 // A line is gathered and then written at once. An element of a text of at most 256 bytes takes at most 15 bytes, or three
 // more than its own, so every line has room.
@@ -31,32 +30,32 @@ pub fn line(rt: &impl Print, out: &[u8; ROOM], n: usize) -> io::Result<()> {
     Ok(())
 }
 
-pub fn end(out: &mut [u8; ROOM], at: usize) -> usize {
-    put_bytes(out, at, b"end\n")
+pub fn end(to: &mut Writer) {
+    to.put_bytes(b"end\n");
 }
 
 // A walk that does not come to an end differs from every stored answer.
-pub fn no_end(out: &mut [u8; ROOM], at: usize) -> usize {
-    put_bytes(out, at, b"no end\n")
+pub fn no_end(to: &mut Writer) {
+    to.put_bytes(b"no end\n");
 }
 
-pub fn fault(out: &mut [u8; ROOM], at: usize, number: u32, place: usize) -> usize {
-    let n = put_bytes(out, at, b"fault,");
-    let n = put_number(out, n, number as usize, b',');
-    put_number(out, n, place, b'\n')
+pub fn fault(to: &mut Writer, number: u32, place: usize) {
+    to.put_bytes(b"fault,");
+    to.put_number(number as usize, b',');
+    to.put_number(place, b'\n');
 }
 
-pub fn element(out: &mut [u8; ROOM], at: usize, e: Element) -> usize {
-    let n = put_number(out, at, e.kind as usize, b',');
-    let n = put_number(out, n, e.which as usize, b',');
-    let n = put_number(out, n, e.first, b',');
-    let n = put_number(out, n, e.end, b',');
-    put_number(out, n, e.newline as usize, b' ')
+pub fn element(to: &mut Writer, e: Element) {
+    to.put_number(e.kind as usize, b',');
+    to.put_number(e.which as usize, b',');
+    to.put_number(e.first, b',');
+    to.put_number(e.end, b',');
+    to.put_number(e.newline as usize, b' ');
 }
 
 // An element's bytes.
-pub fn part(out: &mut [u8; ROOM], at: usize, bytes: &[u8]) -> usize {
-    let n = put_byte(out, at, b'`');
-    let n = put_bytes(out, n, bytes);
-    put_bytes(out, n, b"` ")
+pub fn part(to: &mut Writer, bytes: &[u8]) {
+    to.put_byte(b'`');
+    to.put_bytes(bytes);
+    to.put_bytes(b"` ");
 }

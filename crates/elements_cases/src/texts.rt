@@ -3,11 +3,11 @@ ghost use Rattle.std.specs.Prelude.{◌≡◌};
 ghost use Rattle.elements.specs.Lexemes.{lexeme_of};
 
 use crate::print;
-use crate::print::ROOM;
 use cases::spelling::MOST;
 use elements::{Element, Next, Stated};
 use std::io;
 use walk::Walk;
+use writing::Writer;
 
 // Every prefix of the text, so that a text ends anywhere.
 pub fn prefixes(rt: &impl Print, text: &[u8; MOST], size: usize, stated: Stated) -> io::Result<()> {
@@ -28,36 +28,37 @@ pub fn one(
     let all: &[u8] = text;
     if size <= all.len() {
         let mut out = print::no_line();
-        let n = cut(&all[0..size], stated, parts, &mut out);
+        let mut to = Writer::new(&mut out);
+        cut(&all[0..size], stated, parts, &mut to);
+        let n = to.count();
         print::line(rt, &out, n)?;
     }
     Ok(())
 }
 
 // Each element holds a byte of its own, so the turns do not run out before the text does.
-fn cut(text: &[u8], stated: Stated, parts: bool, out: &mut [u8; ROOM]) -> usize {
-    let mut n = 0;
+fn cut(text: &[u8], stated: Stated, parts: bool, to: &mut Writer) {
     let mut place = 0;
     let mut turns = text.len() + 1;
     while turns > 0 {
         let turn = walk::turn_at(text, place, stated);
         let next = turn.next;
         match next {
-            Next::End => return print::end(out, n),
-            Next::Fault(number, at) => return print::fault(out, n, number, at),
-            Next::Found(e) => n = show(text, e, parts, out, n),
+            Next::End => return print::end(to),
+            Next::Fault(number, at) => return print::fault(to, number, at),
+            Next::Found(e) => show(text, e, parts, to),
         }
         place = turn.at;
         turns -= 1;
     }
-    print::no_end(out, n)
+    print::no_end(to);
 }
 
-fn show(text: &[u8], e: Element, parts: bool, out: &mut [u8; ROOM], n: usize) -> usize {
+fn show(text: &[u8], e: Element, parts: bool, to: &mut Writer) {
     if parts {
-        print::part(out, n, part(text, e))
+        print::part(to, part(text, e));
     } else {
-        print::element(out, n, e)
+        print::element(to, e);
     }
 }
 
