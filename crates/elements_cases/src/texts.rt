@@ -4,7 +4,7 @@ ghost use Rattle.elements.specs.Lexemes.{lexeme_of};
 
 use crate::print;
 use cases::spelling::MOST;
-use elements::{Element, Next, Stated};
+use elements::{Element, Stated};
 use std::io;
 use walk::Walk;
 use writing::Writer;
@@ -42,11 +42,10 @@ fn cut(text: &[u8], stated: Stated, parts: bool, to: &mut Writer) {
     let mut turns = text.len() + 1;
     while turns > 0 {
         let turn = walk::turn_at(text, place, stated);
-        let next = turn.next;
-        match next {
-            Next::End => return print::end(to),
-            Next::Fault(number, at) => return print::fault(to, number, at),
-            Next::Found(e) => show(text, e, parts, to),
+        match turn.next {
+            Ok(None) => return print::end(to),
+            Err(fault) => return print::fault(to, fault.number(), fault.place()),
+            Ok(Some(e)) => show(text, e, parts, to),
         }
         place = turn.at;
         turns -= 1;
