@@ -6,44 +6,38 @@
 // tables hold besides is told of both together.
 #![tactic(auto)]
 
-ghost use Rattle.std.specs.Prelude.{◌<◌};
-
 use std::io;
-use tables::{SyntaxRecord, TreeRecord};
+use tables::{Record, SyntaxRecord, TreeRecord};
 
 const SHOWN: usize = 24;
 
 pub fn accepted(rt: &impl Print, trees: &[u32], count: usize) -> io::Result<()> {
     print!(rt; "trees,")?;
-    table(rt, trees, count, TreeRecord::WIDTH, |end| {
-        case_tables::kept(trees, end)
-    })
+    table::<TreeRecord, _>(rt, trees, count, |end| case_tables::kept(trees, end))
 }
 
 pub fn parsed(rt: &impl Print, trees: &[u32], syntax: &[u32], count: usize) -> io::Result<()> {
     print!(rt; "syntax,")?;
-    table(rt, syntax, count, SyntaxRecord::WIDTH, |end| {
+    table::<SyntaxRecord, _>(rt, syntax, count, |end| {
         case_tables::both_kept(trees, syntax, end)
     })
 }
 
 // The records of a table, and whether what is behind them is kept.
-fn table<F: FnOnce(usize) -> bool>(
+fn table<R: Record, F: FnOnce(usize) -> bool>(
     rt: &impl Print,
     cells: &[u32],
     count: usize,
-    width: usize,
     is_kept: F,
 ) -> io::Result<()>
-    requires width { 0 < width }
-    requires kept { F.IsAlwaysCallable is_kept }
+    requires { F.IsAlwaysCallable is_kept }
 {
     print!(rt; "{count}")?;
-    if count > cells.len() / width {
+    if count > cells.len() / R::WIDTH {
         return verdict(rt, false, "rest kept");
     }
-    let end = count * width;
-    records(rt, &cells[..end], width)?;
+    let end = count * R::WIDTH;
+    records::<R>(rt, &cells[..end])?;
     verdict(rt, is_kept(end), "rest kept")
 }
 
@@ -81,11 +75,9 @@ fn verdict(rt: &impl Print, right: bool, said: &str) -> io::Result<()> {
     println!(rt; " {said}")
 }
 
-// The records of a width that fill the cells.
-fn records(rt: &impl Print, cells: &[u32], width: usize) -> io::Result<()>
-    requires { 0 < width }
-{
-    let mut records = cells.chunks(width);
+// The records that fill the cells.
+fn records<R: Record>(rt: &impl Print, cells: &[u32]) -> io::Result<()> {
+    let mut records = cells.chunks(R::WIDTH);
     if records.len() <= SHOWN {
         for r in records {
             record(rt, r)?;

@@ -10,7 +10,7 @@ use std::alloc::{AllocError, AllocFailed};
 use std::io;
 
 // Room for the input of a test program.
-pub const INPUT: usize = 65536;
+const INPUT: usize = 65536;
 
 // Why a case is not answered: its line spells none, or memory or an output fails.
 #[derive(Debug, Drop)]
@@ -37,12 +37,24 @@ impl<T: Drop> From<AllocFailed<T>> for CaseError {
     }
 }
 
-// Copies each heading of an input, skips its empty lines, and has every other line answered as a case.
-pub fn answer_all<R: Print, F: FnMut(&[u8]) -> Result<(), CaseError>>(
-    rt: &R,
-    input: &[u8],
-    mut answer: F,
-) -> io::Result<()>
+// Copies each heading of standard input, skips its empty lines, and has every other line answered as a case.
+pub fn answer_all<R, F>(rt: &R, answer: F) -> io::Result<()>
+where
+    R: io::Input + Print + Eprint,
+    F: FnMut(&[u8]) -> Result<(), CaseError>,
+    requires { F.IsAlwaysCallable answer }
+{
+    let mut input = [0u8; INPUT];
+    match streams::read_input(rt, &mut input) {
+        Some(count) => answer_lines(rt, &input[..count], answer),
+        None => Ok(()),
+    }
+}
+
+fn answer_lines<R, F>(rt: &R, input: &[u8], mut answer: F) -> io::Result<()>
+where
+    R: Print,
+    F: FnMut(&[u8]) -> Result<(), CaseError>,
     requires { F.IsAlwaysCallable answer }
 {
     for line in input.split(|b| *b == b'\n') {

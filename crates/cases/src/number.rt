@@ -29,5 +29,5 @@ fn value_of(digits: &[u8]) -> Option<usize> {
 pub fn byte_of(high: u8, low: u8) -> Option<u8> {
     let high = char::from(high).to_digit(16)?;
     let low = char::from(low).to_digit(16)?;
-    Some((high * 16 + low) as u8)
+    u8::try_from(high * 16 + low).ok()
 }

@@ -9,11 +9,7 @@ use cases::{CaseError, spelling};
 use std::io;
 
 fn main(rt: HostRuntime) -> io::Result<()> {
-    let mut input = [0u8; cases::INPUT];
-    let Some(count) = streams::read_input(&rt, &mut input) else {
-        return Ok(());
-    };
-    cases::answer_all(&rt, &input[..count], |line| answer(&rt, line))
+    cases::answer_all(&rt, |line| answer(&rt, line))
 }
 
 fn answer<R: Print + AllocGlobal>(rt: &R, line: &[u8]) -> Result<(), CaseError> {

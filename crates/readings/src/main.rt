@@ -13,15 +13,9 @@ use cases::CaseError;
 use std::io;
 
 fn main(rt: HostRuntime) -> io::Result<()> {
-    let mut input = [0u8; cases::INPUT];
-    let Some(count) = streams::read_input(&rt, &mut input) else {
-        return Ok(());
-    };
     let mut trees = [0u32; CELLS];
     let mut syntax = [0u32; SYNTAX_CELLS];
-    cases::answer_all(&rt, &input[..count], |line| {
-        answer(&rt, line, &mut trees, &mut syntax)
-    })
+    cases::answer_all(&rt, |line| { answer(&rt, line, &mut trees, &mut syntax) })
 }
 
 fn answer<R: Print + AllocGlobal>(
