@@ -48,7 +48,7 @@ fn open_group(
     Ok(Advanced::Opened(kind, inside))
 }
 
-// Whether a closer closes a group of a kind. `}` is the last of the closers, and has no test of its own.
+// Whether a closer closes a group of a kind. `}` is the last of the closers, and has no test of its own: one took reading 1.6 % more instructions.
 #[tactic(auto, unfolding(signs::specs::Signs::longest_sign, signs::specs::Signs::longest_of, text::specs::Runs::same))]
 fn is_closed_by(kind: u32, which: u32) -> bool
     ensures { result ≡ closes which kind }

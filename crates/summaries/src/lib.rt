@@ -37,7 +37,7 @@ const INCREMENT: u32 = 22;
 
 const DECREMENT: u32 = 23;
 
-// The summaries: after an operand; after the name, the parentheses and the word of a function, in a statement's place and in
+// The summaries, numbers since they are parts of a level's code, and compared by their order: after an operand; after the name, the parentheses and the word of a function, in a statement's place and in
 // an operand's; and by what stands last. A slash divides after the first five.
 pub const OPERAND: u32 = 0;
 

@@ -1,5 +1,5 @@
-// The turns of a reading: the loop that reading and respacing share. Read, a text leaves its records in the table; spaced, its elements in the
-// output. The element call and the step are compiled into the one loop, since nothing else in these calls uses them.
+// The turns of a reading: the loop that reading and respacing share, with `spaced` for which of the two is kept, since two loops would not both have all else set in
+// (reading took 6.75 million instructions where it then took 4.9). Read, a text leaves its records in the table; spaced, its elements in the output. The element call and the step are compiled into the one loop, since nothing else in these calls uses them.
 #![tactic(auto)]
 
 ghost use Rattle.std.specs.Prelude.{◌≡◌, true, false, List, ℕ, ◌<◌, ◌^◌};

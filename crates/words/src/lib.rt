@@ -57,7 +57,7 @@ const LENGTHS: [u8; 36] = [
     2, 3, 5, 4, 7, 5, 5, 6, 6, 4, 4, 5,
 ];
 
-// The numbers of the words, each at its slot; 0 where no word has the slot.
+// The numbers of the words, each at its slot; 0 where no word has the slot: an `Option` would take two bytes, of a table that is copied where it is used.
 #[rattlefmt::skip]
 const NUMBERS: [u8; 64] = [
     31, 35, 0, 28, 0, 22, 13, 24, 36, 21, 1, 17, 8, 30, 19, 0,
@@ -173,7 +173,7 @@ fn is_word(name: &[u8], number: usize) -> bool
     stands_at(&LETTERS, &LENGTHS, number - 1, name)
 }
 
-// The number of the reserved word that a name is: its place among the 36, from 1; 0 where it is none of them.
+// The number of the reserved word that a name is: its place among the 36, from 1; 0 where it is none of them, as an element's `which` and the definition have it.
 pub fn word_number(name: &[u8]) -> u32
     ensures { result ≡ word_number name.now }
 {
