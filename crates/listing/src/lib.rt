@@ -24,7 +24,7 @@ pub const SHORT_TREES: usize = MOST_LISTED_TREES * TreeRecord::WIDTH;
 
 pub const TREES: usize = TreeRecord::MOST * TreeRecord::WIDTH;
 
-// A cell has at most 10 digits and a byte behind them.
+// A cell has at most 10 digits and a byte behind them. The sum is written out for each output, since a constant takes no call of a `const fn`.
 pub const SHORT_OUTPUT: usize = 11 * SHORT_TREES + 40;
 
 pub const TREES_OUTPUT: usize = 11 * TREES + 40;
