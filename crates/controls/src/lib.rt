@@ -283,8 +283,18 @@ pub fn behind_statement(setting: Setting) -> Control
     ensures { control_of result ≡ behind_statement (setting_by setting) }
 {
     match setting {
-        Setting::Body | Setting::Block => stand(Place::StatementDue, Ending::Statement, setting, false),
-        Setting::Clause => stand(Place::ClauseStatement, Ending::Statement, Setting::Clause, false),
+        Setting::Body | Setting::Block => stand(
+            Place::StatementDue,
+            Ending::Statement,
+            setting,
+            false,
+        ),
+        Setting::Clause => stand(
+            Place::ClauseStatement,
+            Ending::Statement,
+            Setting::Clause,
+            false,
+        ),
         _ => stand(Place::StatementDone, Ending::Statement, setting, false),
     }
 }
@@ -297,7 +307,12 @@ pub fn inside_of(closing: Closing) -> Control
         Closing::Call => stand(Place::ItemDue, Ending::Argument, Setting::Body, true),
         Closing::Object => stand(Place::ItemDue, Ending::Property, Setting::Body, true),
         Closing::Parameter => stand(Place::ParameterDue, Ending::Paren, Setting::Body, false),
-        Closing::Block => stand(Place::StatementDue, Ending::Statement, Setting::Block, false),
+        Closing::Block => stand(
+            Place::StatementDue,
+            Ending::Statement,
+            Setting::Block,
+            false,
+        ),
         Closing::Declaration => stand(Place::StatementDue, Ending::Statement, Setting::Body, false),
         Closing::Function => stand(Place::StatementDue, Ending::Statement, Setting::Body, false),
         Closing::Array => stand(Place::ItemDue, Ending::Element, Setting::Body, true),
@@ -326,9 +341,19 @@ pub fn entered(nest: Nest) -> Control
 {
     match nest {
         Nest::If => stand(Place::IfFirst, Ending::Statement, Setting::IfNest, true),
-        Nest::Do => stand(Place::StatementDue, Ending::Statement, Setting::DoNest, true),
+        Nest::Do => stand(
+            Place::StatementDue,
+            Ending::Statement,
+            Setting::DoNest,
+            true,
+        ),
         Nest::Try => stand(Place::TryFirst, Ending::Statement, Setting::Body, true),
-        Nest::Clause | Nest::LastClause => stand(Place::ClauseStatement, Ending::Statement, Setting::Clause, false),
+        Nest::Clause | Nest::LastClause => stand(
+            Place::ClauseStatement,
+            Ending::Statement,
+            Setting::Clause,
+            false,
+        ),
     }
 }
 
