@@ -1,6 +1,6 @@
 -- Document 01, Refused texts, rows 2 to 7 (document 02, U4: "8 no longer occurs"): the numbers of the faults that elements and comments have of their own. Each
 -- definition that cites one gives the row's place.
-use Rattle.std.specs.Prelude.{ℕ}
+use Rattle.std.specs.Prelude.{ℕ, Result, Ok, Err}
 use Rattle.answers.specs.declared.Answer.{Answer}
 use Rattle.answers.specs.declared.faults.Fault.{Fault}
 
@@ -66,3 +66,8 @@ fault_place (Fault.OutputFull at) = at
 -- the answer that refuses a text for a fault: "refused with number and place"
 abbrev pub refusal : Fault → Answer
 refusal fault = Answer.Refused (fault_number fault) (fault_place fault)
+
+-- the answer of what ends with a count or a fault
+abbrev pub answered : Result ℕ Fault → Answer
+answered (Ok count) = Answer.Accepted count
+answered (Err fault) = refusal fault

@@ -1,6 +1,6 @@
 // The faults for which a text is refused, and the numbers that document 01's table of refused texts gives them.
 ghost use Rattle.std.specs.Prelude.{◌≡◌};
-ghost use Rattle.answers.specs.Faults.{fault_number, fault_place, refusal};
+ghost use Rattle.answers.specs.Faults.{fault_number, fault_place, refusal, answered};
 
 use crate::Answer;
 
@@ -77,14 +77,13 @@ impl From<Fault> for Answer {
     }
 }
 
-pub const STRAY: u32 = 2;
+impl From<Result<usize, Fault>> for Answer {
+    ghost from_gives = { λ outcome answer. answer ≡ answered outcome };
 
-pub const OPEN_STRING: u32 = 3;
-
-pub const OPEN_PATTERN: u32 = 4;
-
-pub const OPEN_COMMENT: u32 = 5;
-
-pub const BAD_NUMBER: u32 = 6;
-
-pub const BARRED_WORD: u32 = 7;
+    fn from(outcome: Result<usize, Fault>) -> Answer {
+        match outcome {
+            Ok(count) => Answer::Accepted(count),
+            Err(fault) => Answer::from(fault),
+        }
+    }
+}

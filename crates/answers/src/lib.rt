@@ -1,4 +1,4 @@
-// The answer of reading, respacing and parsing, what the scanners of literals answer, and the numbers of the faults of elements.
+// The answer of reading, respacing and parsing, and the faults for which a text is refused.
 #![tactic(auto)]
 
 ghost use Rattle.std.specs.Prelude.{◌≡◌};
@@ -33,11 +33,4 @@ impl Answer {
             Answer::Refused(_, place) => place,
         }
     }
-}
-
-// A number, string or regular expression, as it is cut: the offset past its last byte, or a fault's number and place.
-#[derive(Clone, Copy)]
-pub enum Literal {
-    Ends(usize),
-    Fault(u32, usize),
 }

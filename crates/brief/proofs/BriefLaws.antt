@@ -1,8 +1,10 @@
 -- What the machine makes of a group that is empty, or holds one operand or parameter alone.
 use Prim.Native.Nat.{ℕ, ◌+◌, ◌≤◌}
-use mathlib.Core.Path.{◌≡◌, refl, ◌∙◌, ap}
+use mathlib.Core.Path.{◌≡◌, refl, sym, ◌∙◌, ap}
 use mathlib.Core.Bool.{Bool, true, false}
 use mathlib.Core.List.{List, ◌∷◌, ◌++◌}
+use Rattle.std.specs.Option.{IfSome, option_eq}
+use Rattle.std.proofs.Common.{Option, None, Some}
 use native.Mathlib.Omega.{arith}
 use borrow.Author.Tests.{eqb-true, eqb-false}
 use lib.Dec.{T, eqb}
@@ -13,12 +15,18 @@ use Rattle.machine.specs.Scopes.{body, block}
 use Rattle.controls.specs.Machinery.Numbers.{inside_by}
 use Rattle.controls.specs.Machinery.Written.{put_record, put_syntax}
 use Rattle.frames.specs.Machinery.Effects.{of_parameter}
-use Rattle.segments.specs.Machinery.Segments.{Segment, count_of, class_at, tokens_at, spot_at, Fine}
+use Rattle.segments.specs.Machinery.Segments.{Segment, count_of, class_at, leaf_at, leaf_of, tokens_at, spot_at, Fine}
 use Rattle.segments.proofs.SegmentLaws.{is_element, element_then, end_then}
+use Rattle.segments.proofs.LeafLaws.{leaf_told}
 use Rattle.groups.specs.Machinery.Closers.{closer_token, closed_state}
 use Rattle.brief.specs.declared.Found.{Found}
 use Rattle.brief.specs.declared.Found.TheVariants.{Nothing, Operand}
 use Rattle.brief.specs.Machinery.Brief.{MayBeEmpty, no_arguments, no_elements, no_properties, no_parameters, no_statements, no_clauses, HoldsOperand, in_parens, in_brackets, in_arguments, in_elements, Lone, lone_parameter, lone_operand, lone_more, FindsInside, finds_nothing, finds_operand, finds_more}
+
+-- a closer that is found to be one has what it is said to have
+pub closer_told : {c : Control} {closer : ℕ} (found : Option ℕ) → IfSome found (MayBeEmpty c) → option_eq eqb found (Some closer) ≡ true → MayBeEmpty c closer
+closer_told {c} {closer} (Some class) holds same = rw (sym (eqb-true class closer same)) holds
+closer_told None holds same = absurd (let w : ◌≡◌ {A = Bool} false true = same in let z : ◌≡◌ {A = ℕ} 0 1 = cc in omega arith)
 
 -- nothing is popped at once
 pops : {c : Control} {closer : ℕ} → MayBeEmpty c closer → (place : ℕ) (around : List Open) (mark : ℕ) (u : List Token)
@@ -102,6 +110,19 @@ value_written in_brackets class mark table count = ap (λ (at : ℕ). put_record
 value_written in_arguments class mark table count = ap (λ (at : ℕ). put_record table at class mark 1) (let z : count + 0 + 0 + 0 ≡ count = omega arith in z)
 value_written in_elements class mark table count = ap (λ (at : ℕ). put_record table at class mark 1) (let z : count + 0 + 0 + 0 ≡ count = omega arith in z)
 
+-- what a leaf is told
+told : (cells : List ℕ) {class : ℕ} → leaf_of (leaf_at cells 0) ≡ Some class
+    → (class ≡ 0 → ⊥) × (class ≤ 4) × ((text : List ℕ) → class_at text cells 0 ≡ class)
+told cells {class} is = go (eqb (leaf_at cells 0) 0) refl
+  where
+    go : (b : Bool) → eqb (leaf_at cells 0) 0 ≡ b → (class ≡ 0 → ⊥) × (class ≤ 4) × ((text : List ℕ) → class_at text cells 0 ≡ class)
+    go true e = absurd (let z : ◌≡◌ {A = Option ℕ} None (Some class) = rw e at is in let w : ◌≡◌ {A = ℕ} 0 1 = cc in omega arith)
+    go false e =
+        let some : leaf_at cells 0 ≡ 0 → ⊥ = λ none. eqb-false (leaf_at cells 0) 0 e none in
+        let same : leaf_at cells 0 ≡ class = let z : ◌≡◌ {A = Option ℕ} (Some (leaf_at cells 0)) (Some class) = rw e at is in cc in
+        let t = leaf_told cells 0 some in
+        (λ none. some (same ∙ none), omega (arith, t.0, same), λ text. t.1 text ∙ same)
+
 -- at a level of one record
 module _ {p : Segment} (fine : Fine p) (one : count_of p.cells ≡ 1) (class : ℕ) (is : class_at p.text p.cells 0 ≡ class) (some : class ≡ 0 → ⊥) (few : class ≤ 4) where
   alone_then : (u : List Token) → tokens_at p 0 ++ u ≡ token class (spot_at p 0) ∷ u
@@ -126,10 +147,12 @@ module _ {p : Segment} (fine : Fine p) (one : count_of p.cells ≡ 1) (class : �
   })
 
 -- as what a lone record is found to be, if its class is told
-pub lone_found : {p : Segment} → Fine p → count_of p.cells ≡ 1 → {class closer closing : ℕ} {r : Found}
-    → ((class ≡ 0 → ⊥) → (class ≤ 4) × ((text : List ℕ) → class_at text p.cells 0 ≡ class)) → Lone class closer closing r → FindsInside closer p (inside_by closing) r
-lone_found {p} fine one {class} told (lone_parameter named ends inside) =
-    let t = told (λ e. omega (arith, named)) in
-    rw (ends, inside) (parameter_found fine one class (t.1 p.text) (λ e. omega (arith, named)) t.0 named)
-lone_found {p} fine one {class} told (lone_operand known h) = let t = told known in operand_found fine one class (t.1 p.text) known t.0 h
-lone_found fine one told lone_more = finds_more
+pub lone_found : {p : Segment} → Fine p → count_of p.cells ≡ 1 → {leaf : Option ℕ} {closer closing : ℕ} {r : Found}
+    → leaf ≡ leaf_of (leaf_at p.cells 0) → Lone leaf closer closing r → FindsInside closer p (inside_by closing) r
+lone_found {p} fine one is (lone_parameter named ends inside) =
+    let t = told p.cells (sym is ∙ named) in
+    rw (ends, inside) (parameter_found fine one name (t.2 p.text) t.0 t.1 refl)
+lone_found {p} fine one is (lone_operand {class = class} known h) =
+    let t = told p.cells (sym is ∙ known) in
+    operand_found fine one class (t.2 p.text) t.0 t.1 h
+lone_found fine one is lone_more = finds_more

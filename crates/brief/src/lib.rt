@@ -2,11 +2,11 @@
 // third of the groups of both measured scripts are such, and a call for their inside would take more time than what it does.
 #![tactic(auto)]
 
-ghost use Rattle.std.specs.Prelude.{◌≡◌, true, List, T, ℕ};
+ghost use Rattle.std.specs.Prelude.{◌≡◌, true, IfSome, T};
 ghost use Rattle.machine.specs.Tokens.{close_paren};
 ghost use Rattle.machine.specs.Machinery.Classes.{is_end};
 ghost use Rattle.controls.specs.Machinery.Numbers.{inside_by};
-ghost use Rattle.segments.specs.Machinery.Segments.{Fine, segment};
+ghost use Rattle.segments.specs.Machinery.Segments.{Fine, segment_of};
 ghost use Rattle.brief.specs.Machinery.Brief.{MayBeEmpty, HoldsOperand, Lone, FindsInside};
 
 use controls::{
@@ -14,9 +14,11 @@ use controls::{
     TO_INDEX, TO_OBJECT, TO_PARAMETER, TO_PARENS, TO_TEST,
 };
 use machine::tokens;
+use segments::Segment;
 use tables::TreeRecord;
 
-// What is found inside a group: nothing that makes a record; one operand, of a class; or what may need a level.
+// What is found inside a group: nothing that makes a record; one operand, of a class; or what may need a level. Three answers, which an
+// option of an option would not name.
 #[derive(Clone, Copy)]
 pub enum Found {
     Nothing,
@@ -24,20 +26,20 @@ pub enum Found {
     NeedsLevel,
 }
 
-// The closer of a group that may be empty; 0 where one may not.
-fn empty_closer(closing: u32) -> u32
-    ensures { (result ≡ 0 → ⊥) → MayBeEmpty (inside_by closing) result }
+// The closer of a group that may be empty.
+fn empty_closer(closing: u32) -> Option<u32>
+    ensures { IfSome result (MayBeEmpty (inside_by closing)) }
 {
     match closing {
-        TO_CALL => tokens::CLOSE_PAREN,
-        TO_PARAMETER => tokens::CLOSE_PAREN,
-        TO_ARRAY => tokens::CLOSE_BRACKET,
-        TO_OBJECT => tokens::CLOSE_BRACE,
-        TO_BLOCK => tokens::CLOSE_BRACE,
-        TO_DECLARATION => tokens::CLOSE_BRACE,
-        TO_FUNCTION => tokens::CLOSE_BRACE,
-        TO_CLAUSES => tokens::CLOSE_BRACE,
-        _ => 0,
+        TO_CALL => Some(tokens::CLOSE_PAREN),
+        TO_PARAMETER => Some(tokens::CLOSE_PAREN),
+        TO_ARRAY => Some(tokens::CLOSE_BRACKET),
+        TO_OBJECT => Some(tokens::CLOSE_BRACE),
+        TO_BLOCK => Some(tokens::CLOSE_BRACE),
+        TO_DECLARATION => Some(tokens::CLOSE_BRACE),
+        TO_FUNCTION => Some(tokens::CLOSE_BRACE),
+        TO_CLAUSES => Some(tokens::CLOSE_BRACE),
+        _ => None,
     }
 }
 
@@ -63,45 +65,34 @@ fn holds_operand(closing: u32, closer: u32) -> bool
     if closer == tokens::CLOSE_PAREN {
         return parens_hold(closing);
     }
-    if closer != tokens::CLOSE_BRACKET {
-        return false;
-    }
-    closing == TO_ARRAY || closing == TO_INDEX
+    closer == tokens::CLOSE_BRACKET && (closing == TO_ARRAY || closing == TO_INDEX)
 }
 
-// The one record inside a group, of a class or 0: the only parameter, or an operand.
-fn alone(class: u32, closer: u32, closing: u32) -> Found
-    ensures { Lone class closer closing result }
+// The one record inside a group, by its class as an operand: the only parameter, or an operand.
+fn alone(leaf: Option<u32>, closer: u32, closing: u32) -> Found
+    ensures { Lone leaf closer closing result }
 {
-    if class == 0 {
+    let Some(class) = leaf else {
         return Found::NeedsLevel;
-    }
-    if closing == TO_PARAMETER {
-        if class != tokens::NAME {
-            return Found::NeedsLevel;
-        }
-        if closer != tokens::CLOSE_PAREN {
-            return Found::NeedsLevel;
-        }
-        return Found::Nothing;
-    }
+    };
     if holds_operand(closing, closer) {
         return Found::Operand(class);
+    }
+    if closing == TO_PARAMETER && closer == tokens::CLOSE_PAREN && class == tokens::NAME {
+        return Found::Nothing;
     }
     Found::NeedsLevel
 }
 
 // What stands inside a group, before its closer.
-pub fn look_inside(trees: &[u32], closer: u32, closing: u32) -> Found
-    ensures { (text : List ℕ) (base close : ℕ) → Fine (segment text trees.now base close) → T (is_end closer) → FindsInside closer (segment text trees.now base close) (inside_by closing) result }
+pub fn look_inside(part: Segment, closer: u32, closing: u32) -> Found
+    ensures { Fine (segment_of part.entry) → T (is_end closer) → FindsInside closer (segment_of part.entry) (inside_by closing) result }
 {
-    if trees.len() == TreeRecord::WIDTH {
-        return alone(segments::leaf_at(trees, 0), closer, closing);
+    if part.trees.len() == TreeRecord::WIDTH {
+        return alone(part.leaf_at(0), closer, closing);
     }
-    if trees.len() == 0 {
-        if closer == empty_closer(closing) {
-            return Found::Nothing;
-        }
+    if part.trees.is_empty() && empty_closer(closing) == Some(closer) {
+        return Found::Nothing;
     }
     Found::NeedsLevel
 }

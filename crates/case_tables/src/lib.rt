@@ -1,5 +1,83 @@
-// What is lent in a case, a table or an output, marked before the call, and what it holds besides the answer.
+// What is lent in a case, a table or an output. Each cell holds a mark before the call, so that a cell that is written shows,
+// and a cell that is left too.
 #![tactic(auto)]
 
-pub mod outputs;
-pub mod table;
+ghost use Rattle.std.specs.Prelude.{◌<◌};
+
+use tables::{SyntaxRecord, TreeRecord};
+
+// Room for one record more than 16,384, and a cell of a further one.
+pub const CELLS: usize = 81926;
+
+// Room for one syntax record more than 16,385, and a cell of a further one.
+pub const SYNTAX_CELLS: usize = 49159;
+
+// The bytes of the array whose front is lent to the respacer.
+pub const BYTES: usize = 500;
+
+// A number of a table, or a byte of an output.
+pub trait Cell: Copy + Default + PartialEq + Into<u32> {
+    // The mark of the cell at a place, which no answer to these cases has there.
+    fn mark(place: usize) -> Self;
+}
+
+// No record has a number as large.
+impl Cell for u32 {
+    fn mark(place: usize) -> u32 {
+        1000000 + (place % 100000) as u32
+    }
+}
+
+// 80 to FF, which no text that is read has.
+impl Cell for u8 {
+    fn mark(place: usize) -> u8 {
+        (128 + place % 128) as u8
+    }
+}
+
+pub fn mark_all<T: Cell>(cells: &mut [T]) {
+    for (place, cell) in cells.iter_mut().enumerate() {
+        *cell = T::mark(place);
+    }
+}
+
+// Whether each cell from `first` on holds its mark.
+pub fn kept<T: Cell>(cells: &[T], first: usize) -> bool {
+    cells
+        .iter()
+        .enumerate()
+        .skip(first)
+        .all(|(place, cell)| *cell == T::mark(place))
+}
+
+pub fn all_zero<T: Cell>(cells: &[T]) -> bool {
+    cells.iter().all(|cell| *cell == T::default())
+}
+
+// Whether both tables hold their marks behind their records. The syntax records end before `end`, and the last one, the program,
+// is marked with the number of tree records.
+pub fn both_kept(trees: &[u32], syntax: &[u32], end: usize) -> bool {
+    let count = program_mark(syntax, end);
+    kept(syntax, end)
+        && count <= trees.len() / TreeRecord::WIDTH
+        && kept(trees, count * TreeRecord::WIDTH)
+}
+
+fn program_mark(syntax: &[u32], end: usize) -> usize {
+    match syntax.get(..end) {
+        Some([.., _, mark, _]) => *mark as usize,
+        _ => 0,
+    }
+}
+
+// A number that the cells determine: each one adds its number to 31 times what stood before, modulo 1,000,003.
+pub fn sum<T: Cell>(cells: &[T]) -> u64
+    ensures { result < 1000003 }
+{
+    let mut total = 0;
+    for cell in cells {
+        let cell: u32 = (*cell).into();
+        total = (total * 31 + u64::from(cell)) % 1000003;
+    }
+    total
+}

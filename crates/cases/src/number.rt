@@ -1,62 +1,33 @@
 // A number in decimal, with a blank after it.
 
-ghost use Rattle.std.specs.Prelude.{◌<◌};
-
-// The number, and the place after its blank.
-#[derive(Clone, Copy)]
-pub enum Number {
-    Of(usize, usize),
-    Bad,
-}
+ghost use Rattle.std.specs.Prelude.{◌<◌, length, IfSome};
 
 // A larger number is a bad case.
 const LARGEST: usize = 1000000;
 
-pub fn number_at(line: &[u8], at: usize) -> Number {
-    let mut value = 0;
-    let mut place = at;
-    while place < line.len() && line[place] != b' ' {
-        let digit = digit(line[place]);
-        if digit > 9 {
-            return Number::Bad;
-        }
-        value = value * 10 + wide(digit);
-        if value > LARGEST {
-            return Number::Bad;
-        }
-        place += 1;
-    }
-    ended(line, at, place, value)
-}
-
-// The blank is there, and a digit before it.
-fn ended(line: &[u8], at: usize, place: usize, value: usize) -> Number {
-    if place <= at {
-        return Number::Bad;
-    }
-    if place < line.len() {
-        Number::Of(value, place + 1)
-    } else {
-        Number::Bad
-    }
-}
-
-fn wide(b: u8) -> usize
-    ensures { result < 256 }
+// The number at the start of a line, and what stands behind its blank.
+pub fn number_at(line: &[u8]) -> Option<(usize, &[u8])>
+    ensures { IfSome result (λ r. length r.1.now < length line.now) }
 {
-    b as usize
-}
-
-pub fn digit_at(line: &[u8], at: usize) -> u8 {
-    if at < line.len() { digit(line[at]) } else { 16 }
-}
-
-// The value of a hexadecimal digit, 16 for any other byte.
-pub fn digit(b: u8) -> u8 {
-    match b {
-        b'0'..=b'9' => b - b'0',
-        b'A'..=b'F' => b - b'A' + 10,
-        b'a'..=b'f' => b - b'a' + 10,
-        _ => 16,
+    let blank = line.iter().position(|b| *b == b' ')?;
+    if blank == 0 {
+        return None;
     }
+    let value = value_of(&line[..blank])?;
+    Some((value, &line[blank + 1..]))
+}
+
+fn value_of(digits: &[u8]) -> Option<usize> {
+    digits.iter().try_fold(0usize, |value, b| {
+        let digit = char::from(*b).to_digit(10)?;
+        let more = value.checked_mul(10)?.checked_add(digit as usize)?;
+        (more <= LARGEST).then_some(more)
+    })
+}
+
+// The byte of two hexadecimal digits.
+pub fn byte_of(high: u8, low: u8) -> Option<u8> {
+    let high = char::from(high).to_digit(16)?;
+    let low = char::from(low).to_digit(16)?;
+    u8::try_from(high * 16 + low).ok()
 }

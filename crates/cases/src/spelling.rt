@@ -1,190 +1,104 @@
 // How a case spells its text. `~` with two hexadecimal digits is that byte. `~<`, a number, a blank, a piece and `~>` are
 // as many copies of the piece, one after the other; a piece holds no such copies. Any other byte is itself.
-use crate::number;
-use crate::number::Number;
+ghost use Rattle.std.specs.Prelude.{◌≤◌, ◌<◌, length, IfOk};
+
+use crate::{CaseError, number};
+use std::alloc::Global;
 
 // The most bytes of a text: a longer one is a bad case.
-pub const MOST: usize = 262200;
+const MOST: usize = 262200;
 
-#[derive(Clone, Copy)]
-pub enum Size {
-    Bytes(usize),
-    Bad,
-}
-
-// The place in the line, the size of the text so far, and where the open piece starts, with its number of copies; 0 where none
-// is open.
-#[derive(Clone, Copy)]
-struct Spelling {
-    at: usize,
-    size: usize,
-    start: usize,
+// A piece, and how many copies of it are asked for.
+#[derive(Drop)]
+struct Piece {
     times: usize,
+    bytes: Vec<u8>,
 }
 
-#[derive(Clone, Copy)]
-enum Stepped {
-    On(Spelling),
-    Bad,
+// What is spelled so far: the text, and the piece that is open.
+#[derive(Drop)]
+struct Spelling {
+    text: Vec<u8>,
+    open: Option<Piece>,
 }
 
-// Each step passes a byte of the line at least, so the turns do not run out before the line does.
-pub fn text_of(line: &[u8], from: usize, text: &mut [u8; MOST]) -> Size {
-    let mut s = Spelling {
-        at: from,
-        size: 0,
-        start: 0,
-        times: 0,
+// The text that a line spells.
+pub fn text_of(alloc: Global, line: &[u8]) -> Result<Vec<u8>, CaseError> {
+    let mut spelling = Spelling {
+        text: Vec::new(alloc),
+        open: None,
     };
-    let mut turns = line.len();
-    while turns > 0 && s.at < line.len() {
-        let step = step(line, text, s);
-        match step {
-            Stepped::On(next) => s = next,
-            Stepped::Bad => return Size::Bad,
-        }
-        turns -= 1;
+    let mut rest = line;
+    while !rest.is_empty() {
+        rest = spelling.step(alloc, rest)?;
     }
-    if s.times == 0 {
-        Size::Bytes(s.size)
-    } else {
-        Size::Bad
+    let Spelling { text, open } = spelling;
+    match open {
+        None => Ok(text),
+        Some(_) => Err(CaseError::Bad),
     }
 }
 
-// The text of a case: the first `size` bytes.
-pub fn part(text: &[u8; MOST], size: usize) -> &[u8] {
-    let all: &[u8] = text;
-    if size <= all.len() {
-        return &all[0..size];
-    }
-    all
-}
-
-fn step(line: &[u8], text: &mut [u8; MOST], s: Spelling) -> Stepped {
-    let at = s.at;
-    if at >= line.len() {
-        return Stepped::Bad;
-    }
-    if line[at] == b'~' {
-        spelled(line, text, s, at + 1)
-    } else {
-        put(text, s, line[at], at + 1)
-    }
-}
-
-// What stands behind a `~`.
-fn spelled(line: &[u8], text: &mut [u8; MOST], s: Spelling, at: usize) -> Stepped {
-    if at >= line.len() {
-        return Stepped::Bad;
-    }
-    match line[at] {
-        b'<' => open(line, s, at + 1),
-        b'>' => close(text, s, at + 1),
-        b => put_digits(
-            text,
-            s,
-            number::digit(b),
-            number::digit_at(line, at + 1),
-            at + 2,
-        ),
-    }
-}
-
-// The byte of two hexadecimal digits.
-fn put_digits(text: &mut [u8; MOST], s: Spelling, high: u8, low: u8, next: usize) -> Stepped {
-    if high > 15 {
-        return Stepped::Bad;
-    }
-    if low > 15 {
-        return Stepped::Bad;
-    }
-    put(text, s, high * 16 + low, next)
-}
-
-fn put(text: &mut [u8; MOST], s: Spelling, byte: u8, next: usize) -> Stepped {
-    let size = s.size;
-    if size < MOST {
-        text[size] = byte;
-        Stepped::On(Spelling {
-            at: next,
-            size: size + 1,
-            start: s.start,
-            times: s.times,
-        })
-    } else {
-        Stepped::Bad
-    }
-}
-
-fn open(line: &[u8], s: Spelling, at: usize) -> Stepped {
-    if s.times != 0 {
-        return Stepped::Bad;
-    }
-    let times = number::number_at(line, at);
-    match times {
-        Number::Of(n, next) => opened(s.size, n, next),
-        Number::Bad => Stepped::Bad,
-    }
-}
-
-// A piece has to stand there once at least.
-fn opened(size: usize, times: usize, next: usize) -> Stepped {
-    if times == 0 {
-        return Stepped::Bad;
-    }
-    Stepped::On(Spelling {
-        at: next,
-        size,
-        start: size,
-        times,
-    })
-}
-
-// The piece stands there once, and there has to be room for its copies.
-fn close(text: &mut [u8; MOST], s: Spelling, next: usize) -> Stepped {
-    if s.times == 0 {
-        return Stepped::Bad;
-    }
-    let size = copied(text, s.start, s.size, s.times - 1);
-    match size {
-        Size::Bytes(n) => Stepped::On(Spelling {
-            at: next,
-            size: n,
-            start: 0,
-            times: 0,
-        }),
-        Size::Bad => Stepped::Bad,
-    }
-}
-
-// Copies the piece from `start` to `end` behind itself as often as is asked.
-fn copied(text: &mut [u8; MOST], start: usize, end: usize, times: usize) -> Size {
-    let mut size = end;
-    for _ in 0..times {
-        let next = copy(text, start, end, size);
-        match next {
-            Size::Bytes(n) => size = n,
-            Size::Bad => return Size::Bad,
+impl Spelling {
+    // Takes what stands at the start of a line, and gives the rest.
+    fn step<'a>(&mut self, alloc: Global, line: &'a [u8]) -> Result<&'a [u8], CaseError>
+        ensures { IfOk result (λ r. 0 < length line.entry.now → length r.now < length line.entry.now) }
+    {
+        match line {
+            [b'~', b'<', rest @ ..] => self.open(alloc, rest),
+            [b'~', b'>', rest @ ..] => {
+                self.close()?;
+                Ok(rest)
+            }
+            [b'~', high, low, rest @ ..] => {
+                let byte = number::byte_of(*high, *low).ok_or(CaseError::Bad)?;
+                self.put(byte)?;
+                Ok(rest)
+            }
+            [b'~', ..] | [] => Err(CaseError::Bad),
+            [byte, rest @ ..] => {
+                self.put(*byte)?;
+                Ok(rest)
+            }
         }
     }
-    Size::Bytes(size)
+
+    fn put(&mut self, byte: u8) -> Result<(), CaseError> {
+        let bytes = match &mut self.open {
+            Some(piece) => &mut piece.bytes,
+            None => &mut self.text,
+        };
+        extend(bytes, &[byte])
+    }
+
+    // Opens a piece, which has to stand there once at least.
+    fn open<'a>(&mut self, alloc: Global, line: &'a [u8]) -> Result<&'a [u8], CaseError>
+        ensures { IfOk result (λ r. length r.now ≤ length line.entry.now) }
+    {
+        let (times, rest) = number::number_at(line).ok_or(CaseError::Bad)?;
+        if times == 0 || self.open.is_some() {
+            return Err(CaseError::Bad);
+        }
+        self.open = Some(Piece {
+            times,
+            bytes: Vec::new(alloc),
+        });
+        Ok(rest)
+    }
+
+    fn close(&mut self) -> Result<(), CaseError> {
+        let piece = self.open.take().ok_or(CaseError::Bad)?;
+        for _ in 0..piece.times {
+            extend(&mut self.text, &piece.bytes)?;
+        }
+        Ok(())
+    }
 }
 
-// Copies the bytes from `start` to `end` to `place`.
-fn copy(text: &mut [u8; MOST], start: usize, end: usize, place: usize) -> Size {
-    let mut from = start;
-    let mut to = place;
-    while from < end {
-        if to >= MOST {
-            return Size::Bad;
-        }
-        if from >= MOST {
-            return Size::Bad;
-        }
-        text[to] = text[from];
-        from += 1;
-        to += 1;
+fn extend(text: &mut Vec<u8>, bytes: &[u8]) -> Result<(), CaseError> {
+    if text.len() + bytes.len() > MOST {
+        return Err(CaseError::Bad);
     }
-    Size::Bytes(to)
+    text.extend_from_slice(bytes)?;
+    Ok(())
 }

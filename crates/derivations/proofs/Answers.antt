@@ -1,5 +1,6 @@
 -- A choice, read off the elements that it gives: a slash is answered by whether the element that it starts is a regular expression, a reserved word
 -- by whether it is a name.
+use Rattle.std.specs.Prelude.{Ok, Some}
 use mathlib.Core.Path.{◌≡◌, refl, sym, ap, ◌∙◌}
 use mathlib.Core.List.{List}
 use mathlib.Core.Bool.{Bool, true, false, cond, not, and-false, ◌&&◌}
@@ -11,7 +12,6 @@ use lib.ListN.{get_or}
 use Rattle.text.specs.Quoted.{byte}
 use Rattle.elements.specs.Elements.{stating, element_at, slash_after, slash_met, word_met, name_kind, word_kind, pattern_kind}
 use Rattle.elements.specs.declared.Element.{Element}
-use Rattle.elements.specs.declared.Next.{Next}
 use Rattle.elements.specs.declared.Stated.{Stated}
 use Rattle.elements.proofs.OwnBytes.{found_gap}
 use Rattle.elements.proofs.Slashes.{divide_found, pattern_found}
@@ -21,7 +21,7 @@ use Rattle.derivations.specs.Demand3.{is_reserved, answers_of}
 
 module _ (text : List ℕ) where
   -- a slash is met where an element starts with one
-  met_first : (place : ℕ) (given : Stated) (e : Element) → element_at text place given ≡ Next.Found e → slash_met text place ≡ eqb (get_or text e.first 0) (byte "/")
+  met_first : (place : ℕ) (given : Stated) (e : Element) → element_at text place given ≡ Ok (Some e) → slash_met text place ≡ eqb (get_or text e.first 0) (byte "/")
   unfolding slash_met
   met_first place given e f = ap (slash_after text) (found_gap text place given e f).0
 
@@ -35,14 +35,14 @@ module _ (text : List ℕ) where
       go true q k = rw (k (eqb-true e.kind name_kind q))
       go false q k = and-false (not (eqb e.which 0))
 
-  pub answer-kind : (place : ℕ) (answer : Bool) (e : Element) → slash_met text place ≡ true → element_at text place (stating answer false) ≡ Next.Found e
+  pub answer-kind : (place : ℕ) (answer : Bool) (e : Element) → slash_met text place ≡ true → element_at text place (stating answer false) ≡ Ok (Some e)
       → answer ≡ eqb e.kind pattern_kind
   answer-kind place true e m f = sym (eq-eqb e.kind pattern_kind (pattern_found text place false m e f))
   answer-kind place false e m f =
       let d = divide_found text place false m e f in
       sym (ne_eqb e.kind pattern_kind (λ p. absurd (omega (arith, d.kind))))
 
-  word-kind : (place : ℕ) (answer : Bool) (e : Element) → word_met text place ≡ true → element_at text place (stating false answer) ≡ Next.Found e
+  word-kind : (place : ℕ) (answer : Bool) (e : Element) → word_met text place ≡ true → element_at text place (stating false answer) ≡ Ok (Some e)
       → answer ≡ eqb e.kind name_kind
   word-kind place answer e m f = go answer ((found_reserved text place (stating false answer) e f).reserved m).0
     where

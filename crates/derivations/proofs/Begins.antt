@@ -1,4 +1,5 @@
 -- The elements of a text begin a program exactly as long as the machine follows them.
+use Rattle.std.specs.Prelude.{Ok, Some}
 use mathlib.Core.Path.{◌≡◌, refl, sym, ap, subst, ◌∙◌}
 use mathlib.Core.List.{List, [], ◌∷◌, ◌++◌}
 use mathlib.Core.Bool.{Bool, false, cond}
@@ -6,7 +7,6 @@ use Prim.Native.Nat.{ℕ, ◌+◌}
 use native.Mathlib.Omega.{arith}
 use Rattle.elements.specs.Elements.{stating, element_at}
 use Rattle.elements.specs.declared.Element.{Element}
-use Rattle.elements.specs.declared.Next.{Next}
 use Rattle.elements.specs.declared.Stated.{Stated}
 use Rattle.derivations.specs.Cuts.{is_closer, recorded, Cuts, cut_end, cut_element, cut_slash, cut_word, CutsInto}
 use Rattle.derivations.specs.Tokens.{Token, class_of, token_of, tokens_from, tokens}
@@ -55,7 +55,7 @@ tokens_append mark (e ∷ es) fs = ap (◌∷◌ (token_of mark e)) (tokens_appe
 
 -- the first elements of a text, as pieces
 module _ (s : List ℕ) where
-  one_more : (place : ℕ) (e g : Element) (es : List Element) (given : Stated) → element_at s place given ≡ Next.Found e → Pieces s es → recorded e ≡ g → Pieces s (g ∷ es)
+  one_more : (place : ℕ) (e g : Element) (es : List Element) (given : Stated) → element_at s place given ≡ Ok (Some e) → Pieces s es → recorded e ≡ g → Pieces s (g ∷ es)
   one_more place e g es given f rest q = subst (λ (x : Element). Pieces s (x ∷ es)) q (piece_more s place e es given f rest)
 
   first_pieces : {place : ℕ} {choice : List Bool} {all : List Element} → Cuts s place choice all → (es rest : List Element) → all ≡ es ++ rest → Pieces s es

@@ -1,4 +1,5 @@
 -- The spelling of a completion: each of its classes has an element of its own.
+use Rattle.std.specs.Prelude.{Ok, Some}
 use mathlib.Core.Path.{◌≡◌, refl, subst}
 use mathlib.Core.List.{List, [], ◌∷◌}
 use mathlib.Core.Bool.{Bool, true, false, cond}
@@ -12,7 +13,6 @@ use Rattle.gaps.specs.Gaps.{gap}
 use Rattle.literals.specs.Strings.{quote}
 use Rattle.elements.specs.Elements.{stating, element_at, element_from, named, delimiter}
 use Rattle.elements.specs.declared.Element.{Element}
-use Rattle.elements.specs.declared.Next.{Next}
 use Rattle.derivations.specs.Cuts.{is_closer, recorded}
 use Rattle.derivations.specs.Tokens.{class_of, tokens_from}
 use Rattle.grammar.proofs.Completion.{
@@ -47,7 +47,7 @@ neither true = refl
 neither false = refl
 
 -- a spelling by a text of its own
-made : (class : ℕ) (s : List ℕ) (e : Element) → element_at s 0 (stating false false) ≡ Next.Found e → class_of e ≡ class → Spelling class
+made : (class : ℕ) (s : List ℕ) (e : Element) → element_at s 0 (stating false false) ≡ Ok (Some e) → class_of e ≡ class → Spelling class
 unfolding class_of
 made class s e found c =
     record {

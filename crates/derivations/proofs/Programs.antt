@@ -1,4 +1,5 @@
 -- The prefix rule reads a program as its derivation cuts it.
+use Rattle.std.specs.Prelude.{Ok, Some, None}
 use mathlib.Core.Path.{◌≡◌, refl, sym, ◌∙◌}
 use mathlib.Core.Logic.{◌⊎◌, inl, inr}
 use mathlib.Core.List.{List, [], ◌∷◌, ◌++◌, append_assoc, append-nil}
@@ -15,7 +16,6 @@ use Rattle.vocabulary.proofs.RowLaws.{at_taken}
 use Rattle.signs.specs.Signs.{longest_sign, longest_of}
 use Rattle.elements.specs.Elements.{stating, element_at, slash_met, word_met, word_kind, sign_kind}
 use Rattle.elements.specs.declared.Element.{Element}
-use Rattle.elements.specs.declared.Next.{Next}
 use Rattle.elements.specs.declared.Stated.{Stated}
 use Rattle.elements.proofs.Bounds.{Placed, found_placed}
 use Rattle.elements.proofs.FoundKinds.{found_kind}
@@ -44,25 +44,25 @@ use Rattle.machine.proofs.Ran.{ran, anywhere}
 
 -- what is found where neither a slash nor a reserved word is met is found under all answers; where one is met, its own answer counts
 module _ (bytes : List ℕ) (place : ℕ) (e : Element) where
-  found_plain : slash_met bytes place ≡ false → word_met bytes place ≡ false → element_at bytes place (stating false false) ≡ Next.Found e
-      → (given : Stated) → element_at bytes place given ≡ Next.Found e
+  found_plain : slash_met bytes place ≡ false → word_met bytes place ≡ false → element_at bytes place (stating false false) ≡ Ok (Some e)
+      → (given : Stated) → element_at bytes place given ≡ Ok (Some e)
   found_plain s w f given = as_asked bytes place given ∙ rw (s, w) f
 
-  found_slash : (answer : Bool) → slash_met bytes place ≡ true → element_at bytes place (stating answer false) ≡ Next.Found e
-      → (given : Stated) → given.pattern ≡ answer → element_at bytes place given ≡ Next.Found e
+  found_slash : (answer : Bool) → slash_met bytes place ≡ true → element_at bytes place (stating answer false) ≡ Ok (Some e)
+      → (given : Stated) → given.pattern ≡ answer → element_at bytes place given ≡ Ok (Some e)
   found_slash answer m f given same = as_asked bytes place given ∙ rw (m, slash_no_word bytes place m, same) f
 
-  found_word : (answer : Bool) → word_met bytes place ≡ true → element_at bytes place (stating false answer) ≡ Next.Found e
-      → (given : Stated) → given.name ≡ answer → element_at bytes place given ≡ Next.Found e
+  found_word : (answer : Bool) → word_met bytes place ≡ true → element_at bytes place (stating false answer) ≡ Ok (Some e)
+      → (given : Stated) → given.name ≡ answer → element_at bytes place given ≡ Ok (Some e)
   found_word answer m f given same = as_asked bytes place given ∙ rw (m, word_no_slash bytes place m, same) f
 
 -- a slash that a derivation takes as a regular expression, or as a sign, is one for the machine
 module _ (bytes : List ℕ) (place : ℕ) (e : Element) (met : slash_met bytes place ≡ true) where
-  opened_class : element_at bytes place (stating true false) ≡ Next.Found e → class_of e ≡ pattern
+  opened_class : element_at bytes place (stating true false) ≡ Ok (Some e) → class_of e ≡ pattern
   unfolding class_of
   opened_class f = rw (pattern_found bytes place false met e f)
 
-  divided_class : element_at bytes place (stating false false) ≡ Next.Found e → T (eqb (class_of e) divide || eqb (class_of e) divide_assign)
+  divided_class : element_at bytes place (stating false false) ≡ Ok (Some e) → T (eqb (class_of e) divide || eqb (class_of e) divide_assign)
   unfolding class_of longest_sign longest_of Runs.same
   divided_class f =
       let d : Divide e = divide_found bytes place false met e f in
@@ -73,26 +73,26 @@ module _ (bytes : List ℕ) (place : ℕ) (e : Element) (met : slash_met bytes p
       go (inr w) k = rw (k, w) tt
 
   -- so that the prefix rule answers as the derivation does
-  answered : (answer : Bool) → element_at bytes place (stating answer false) ≡ Next.Found e → {limits : Limits} {levels : Levels} {is_open : Bool} {after : State}
+  answered : (answer : Bool) → element_at bytes place (stating answer false) ≡ Ok (Some e) → {limits : Limits} {levels : Levels} {is_open : Bool} {after : State}
       → Kept limits levels e is_open after → slash_opens levels ≡ answer
   answered true f k = k.pattern_opens (opened_class f)
   answered false f k = k.divide_divides (divided_class f)
 
 -- and a reserved word that it takes as a name, or as a word, is one
 module _ (bytes : List ℕ) (place : ℕ) (e : Element) (met : word_met bytes place ≡ true) where
-  name-class : element_at bytes place (stating false true) ≡ Next.Found e → class_of e ≡ word_name
+  name-class : element_at bytes place (stating false true) ≡ Ok (Some e) → class_of e ≡ word_name
   unfolding class_of
   name-class f =
       let r = (found_reserved bytes place (stating false true) e f).reserved met in
       rw (r.0, ne_eqb e.which 0 r.1)
 
-  word-class : element_at bytes place (stating false false) ≡ Next.Found e → T (is_in word_classes (class_of e))
+  word-class : element_at bytes place (stating false false) ≡ Ok (Some e) → T (is_in word_classes (class_of e))
   unfolding class_of
   word-class f =
       let k : e.kind ≡ word_kind = ((found_reserved bytes place (stating false false) e f).reserved met).0 in
       rw k (at_taken (λ number row. is_in word_classes (token_class row)) words tt e.which (word_spelling bytes place (stating false false) e f k).taken)
 
-  named : (answer : Bool) → element_at bytes place (stating false answer) ≡ Next.Found e → {limits : Limits} {levels : Levels} {is_open : Bool} {after : State}
+  named : (answer : Bool) → element_at bytes place (stating false answer) ≡ Ok (Some e) → {limits : Limits} {levels : Levels} {is_open : Bool} {after : State}
       → Kept limits levels e is_open after → word_is_name levels ≡ answer
   named true f k = k.name_named (name-class f)
   named false f k = k.word_kept (word-class f)
@@ -118,7 +118,7 @@ record Reads (bytes : List ℕ) (fuel : ℕ) (levels : Levels) (place : ℕ) (st
 module _ (bytes : List ℕ) where
   -- one element, which the derivation found
   module _ (fuel place n : ℕ) (state : State) (levels : Levels) (e : Element) (es : List Element)
-      (found : element_at bytes place (stated_by levels) ≡ Next.Found e)
+      (found : element_at bytes place (stated_by levels) ≡ Ok (Some e))
       (k : Kept (unlimited bytes) levels e (asks_in state) (consume state (token_of n (recorded e))))
       (few : count_so_far levels ≤ place) (shallow : depth levels ≤ place) where
     -- the machine behind it, and what is read behind it
@@ -158,7 +158,7 @@ module _ (bytes : List ℕ) where
             with_element fuel g (rest g.next g.follows (omega arith) (omega arith) fuel (omega arith) p.within)
 
   -- nothing is left
-  last : (fuel place n : ℕ) (state : State) (levels : Levels) → Outermost levels → element_at bytes place (stating false false) ≡ Next.End
+  last : (fuel place n : ℕ) (state : State) (levels : Levels) → Outermost levels → element_at bytes place (stating false false) ≡ Ok None
       → Reads bytes fuel levels place state n []
   unfolding read_on tokens_from
   last fuel place n state levels i none_left =
@@ -211,7 +211,7 @@ module _ (bytes : List ℕ) where
     shallow : depth next ≤ e.end
     within : e.end ≤ length bytes
 
-  behind : {place : ℕ} {levels : Levels} {e : Element} {is_open : Bool} {after : State} → element_at bytes place (stated_by levels) ≡ Next.Found e → Kept (unlimited bytes) levels e is_open after
+  behind : {place : ℕ} {levels : Levels} {e : Element} {is_open : Bool} {after : State} → element_at bytes place (stated_by levels) ≡ Ok (Some e) → Kept (unlimited bytes) levels e is_open after
       → count_so_far levels ≤ place → depth levels ≤ place → Behind place levels e after
   behind {place} {levels} {e} found k few shallow =
       let p : Placed bytes place e = found_placed bytes place (stated_by levels) e found in

@@ -1,4 +1,5 @@
 -- A reading that is accepted cuts the text by a choice: the prefix rule's answers.
+use Rattle.std.specs.Prelude.{Ok, Err, Some, None}
 use mathlib.Core.Path.{◌≡◌, refl, sym, subst, ◌∙◌}
 use mathlib.Core.List.{List, [], ◌∷◌, ◌++◌, append_assoc, append-nil}
 use mathlib.Core.Bool.{Bool, true, false, false≢true, ◌&&◌}
@@ -7,7 +8,7 @@ use native.Mathlib.Omega.{arith}
 use lib.ListN.{length}
 use Rattle.elements.specs.Elements.{stating, element_at, slash_met, word_met}
 use Rattle.elements.specs.declared.Element.{Element}
-use Rattle.elements.specs.declared.Next.{Next}
+use Rattle.elements.specs.Elements.{Next}
 use Rattle.elements.specs.declared.Stated.{Stated}
 use Rattle.elements.proofs.Bounds.{Placed, found_placed}
 use Rattle.elements.proofs.FoundKinds.{found_kind}
@@ -22,12 +23,12 @@ use Rattle.derivations.specs.TreeElements.{elements_of}
 use Rattle.derivations.proofs.SoFar.{elements_so_far, step_elements}
 
 -- one element more in front, whatever was stated
-pub cut_more : (bytes : List ℕ) (place : ℕ) (e : Element) (es : List Element) (given : Stated) → element_at bytes place given ≡ Next.Found e
+pub cut_more : (bytes : List ℕ) (place : ℕ) (e : Element) (es : List Element) (given : Stated) → element_at bytes place given ≡ Ok (Some e)
     → CutsInto bytes e.end es → CutsInto bytes place (recorded e ∷ es)
 cut_more bytes place e es given found rest = go (slash_met bytes place) (word_met bytes place) refl refl (sym (as_asked bytes place given) ∙ found)
   where
     go : (slash word : Bool) → slash_met bytes place ≡ slash → word_met bytes place ≡ word
-        → element_at bytes place (stating (slash && given.pattern) (word && given.name)) ≡ Next.Found e → CutsInto bytes place (recorded e ∷ es)
+        → element_at bytes place (stating (slash && given.pattern) (word && given.name)) ≡ Ok (Some e) → CutsInto bytes place (recorded e ∷ es)
     go true true s w f = absurd (false≢true (sym (slash_no_word bytes place s) ∙ w))
     go true false s w f = record { choice = given.pattern ∷ rest.choice; cut = cut_slash s f rest.cut }
     go false true s w f = record { choice = given.name ∷ rest.choice; cut = cut_word w f rest.cut }
@@ -40,7 +41,7 @@ record Follows (bytes : List ℕ) (levels : Levels) (place : ℕ) (trees : Trees
   same : elements_of trees ≡ elements_so_far levels ++ es
 
 module _ (bytes : List ℕ) (limits : Limits) (trees : Trees) where
-  ends : (levels : Levels) (place : ℕ) → element_at bytes place (stated_by levels) ≡ Next.End → ending levels ≡ accepted trees → Follows bytes levels place trees
+  ends : (levels : Levels) (place : ℕ) → element_at bytes place (stated_by levels) ≡ Ok None → ending levels ≡ accepted trees → Follows bytes levels place trees
   ends (whole_text trees) place e a =
       record {
         es = [];
@@ -57,7 +58,7 @@ module _ (bytes : List ℕ) (limits : Limits) (trees : Trees) where
       Rest : Type 0
       Rest = (after : Levels) (next : ℕ) → length bytes < next + fuel → next ≤ length bytes → read_on bytes limits fuel after next ≡ accepted trees → Follows bytes after next trees
 
-      stepped : (e : Element) (y : Step) → element_at bytes place (stated_by levels) ≡ Next.Found e → step limits levels e ≡ y → Rest → Follows bytes levels place trees
+      stepped : (e : Element) (y : Step) → element_at bytes place (stated_by levels) ≡ Ok (Some e) → step limits levels e ≡ y → Rest → Follows bytes levels place trees
       stepped e (stop n q) f s rest = absurd (let z : ◌≡◌ {A = ℕ} 0 1 = cc (read_stop bytes limits fuel levels place e f n q s) in omega arith)
       stepped e (more after) f s rest =
           let p : Placed bytes place e = found_placed bytes place (stated_by levels) e f in
@@ -71,9 +72,9 @@ module _ (bytes : List ℕ) (limits : Limits) (trees : Trees) where
           }
 
       found : (next : Next) → element_at bytes place (stated_by levels) ≡ next → Rest → Follows bytes levels place trees
-      found Next.End f rest = ends levels place f (sym (read_end bytes limits fuel levels place f) ∙ a)
-      found (Next.Fault n q) f rest = absurd (let z : ◌≡◌ {A = ℕ} 0 1 = cc (read_fault bytes limits fuel levels place n q f) in omega arith)
-      found (Next.Found e) f rest = stepped e (step limits levels e) f refl rest
+      found (Ok None) f rest = ends levels place f (sym (read_end bytes limits fuel levels place f) ∙ a)
+      found (Err fault) f rest = absurd (let z : ◌≡◌ {A = ℕ} 0 1 = cc (read_fault bytes limits fuel levels place fault f) in omega arith)
+      found (Ok (Some e)) f rest = stepped e (step limits levels e) f refl rest
 
   pub reading_cuts : reading bytes limits ≡ accepted trees → CutsInto bytes 0 (elements_of trees)
   unfolding reading elements_of

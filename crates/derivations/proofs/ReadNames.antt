@@ -1,4 +1,5 @@
 -- A reserved word that is a name has a record like any other name. Along an accepted reading the token machine takes both alike.
+use Rattle.std.specs.Prelude.{Ok, Some}
 use mathlib.Core.Path.{◌≡◌, refl, sym, ap, subst, ◌∙◌}
 use mathlib.Core.List.{List, [], ◌∷◌, ◌++◌, map, append_assoc, append-nil}
 use mathlib.Core.Bool.{Bool, true, false, cond}
@@ -8,7 +9,6 @@ use borrow.Author.Tests.{eqb-true}
 use lib.Dec.{T, eqb}
 use Rattle.elements.specs.Elements.{element_at, word_met, name_kind, word_kind}
 use Rattle.elements.specs.declared.Element.{Element}
-use Rattle.elements.specs.declared.Next.{Next}
 use Rattle.elements.specs.declared.Stated.{Stated}
 use Rattle.elements.proofs.FoundKinds.{found_kind}
 use Rattle.elements.proofs.Delimiters.{delimiter_byte, delimiter_which}
@@ -132,7 +132,7 @@ named_by_rule given met e r c = let k = word_name_class e c in go met given.name
 
 module _ (bytes : List ℕ) (limits : Limits) where
   -- one element: the machine goes the same way, and stays in step
-  module _ (levels after : Levels) (place : ℕ) (e : Element) (found : element_at bytes place (stated_by levels) ≡ Next.Found e)
+  module _ (levels after : Levels) (place : ℕ) (e : Element) (found : element_at bytes place (stated_by levels) ≡ Ok (Some e))
       (steps : step limits levels e ≡ more after) (n : ℕ) where
     same_step : {state : State} → InStep state levels → consume state (record_token (token_of n (recorded e))) ≡ consume state (token_of n (recorded e))
     unfolding class_of

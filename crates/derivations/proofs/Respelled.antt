@@ -1,4 +1,5 @@
 -- The elements of a text, spelled anew: the same kinds, newline flags and bytes.
+use Rattle.std.specs.Prelude.{Ok, Some}
 use mathlib.Core.Path.{◌≡◌, refl, sym, ap, subst, ◌∙◌}
 use mathlib.Core.List.{List, [], ◌∷◌, ◌++◌, append_assoc}
 use Prim.Native.Nat.{ℕ, ◌+◌, ◌-◌}
@@ -7,7 +8,6 @@ use lib.ListN.{length, take, drop, length-append}
 use lib.Seq.{take_at, drop_at}
 use Rattle.elements.specs.Elements.{element_at}
 use Rattle.elements.specs.declared.Element.{Element}
-use Rattle.elements.specs.declared.Next.{Next}
 use Rattle.elements.specs.declared.Stated.{Stated}
 use Rattle.derivations.specs.Cuts.{recorded}
 use Rattle.derivations.specs.Derivations.{SameElements, same_element}
@@ -30,7 +30,7 @@ pub record Pieces (s : List ℕ) (es : List Element) : Type 0 where
   pub same : (u : List ℕ) (more : List Piece) → SameElements s (u ++ spelled (pieces ++ more)) es (placed_from (length u) pieces)
 
 module _ (s : List ℕ) where
-  pub piece_more : (place : ℕ) (e : Element) (es : List Element) (given : Stated) → element_at s place given ≡ Next.Found e → Pieces s es → Pieces s (recorded e ∷ es)
+  pub piece_more : (place : ℕ) (e : Element) (es : List Element) (given : Stated) → element_at s place given ≡ Ok (Some e) → Pieces s es → Pieces s (recorded e ∷ es)
   piece_more place e es given f rest =
       let p : Piece = record { source = s; place = place; given = given; element = e; found = f; newline = e.newline } in
       record {

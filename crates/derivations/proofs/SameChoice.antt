@@ -1,12 +1,12 @@
 -- The elements that a text is cut into tell the choice.
+use Rattle.std.specs.Prelude.{Ok, Some}
 use mathlib.Core.Path.{◌≡◌, refl, sym, ap, subst, ◌∙◌}
 use mathlib.Core.List.{List, [], ◌∷◌}
 use mathlib.Core.Bool.{Bool, true, false, false≢true, cond}
 use Prim.Native.Nat.{ℕ}
 use native.Mathlib.Omega.{arith}
-use Rattle.elements.specs.Elements.{stating, element_at, slash_met, word_met, name_kind, word_kind}
+use Rattle.elements.specs.Elements.{Next, stating, element_at, slash_met, word_met, name_kind, word_kind}
 use Rattle.elements.specs.declared.Element.{Element}
-use Rattle.elements.specs.declared.Next.{Next}
 use Rattle.elements.proofs.Slashes.{divide_found, pattern_found}
 use Rattle.elements.proofs.StatedAnswers.{slash_no_word, found_reserved}
 use Rattle.derivations.specs.Cuts.{Cuts, cut_end, cut_element, cut_slash, cut_word}
@@ -18,14 +18,14 @@ kind_of_first (e ∷ es) = e.kind
 module _ (bytes : List ℕ) where
   -- a slash that is found of a kind was answered so, and so was a reserved word
   same_answer : (place : ℕ) (a b : Bool) (e f : Element) → slash_met bytes place ≡ true
-      → element_at bytes place (stating a false) ≡ Next.Found e → element_at bytes place (stating b false) ≡ Next.Found f → e.kind ≡ f.kind → a ≡ b
+      → element_at bytes place (stating a false) ≡ Ok (Some e) → element_at bytes place (stating b false) ≡ Ok (Some f) → e.kind ≡ f.kind → a ≡ b
   same_answer place true true e f m x y k = refl
   same_answer place false false e f m x y k = refl
   same_answer place true false e f m x y k = absurd (let p = pattern_found bytes place false m e x in let d = divide_found bytes place false m f y in omega (arith, d.kind))
   same_answer place false true e f m x y k = absurd (let p = pattern_found bytes place false m f y in let d = divide_found bytes place false m e x in omega (arith, d.kind))
 
   same_word : (place : ℕ) (a b : Bool) (e f : Element) → word_met bytes place ≡ true
-      → element_at bytes place (stating false a) ≡ Next.Found e → element_at bytes place (stating false b) ≡ Next.Found f → e.kind ≡ f.kind → a ≡ b
+      → element_at bytes place (stating false a) ≡ Ok (Some e) → element_at bytes place (stating false b) ≡ Ok (Some f) → e.kind ≡ f.kind → a ≡ b
   same_word place a b e f m x y k =
       go a b (sym ((found_reserved bytes place (stating false a) e x).reserved m).0 ∙ k ∙ ((found_reserved bytes place (stating false b) f y).reserved m).0)
     where
@@ -36,7 +36,7 @@ module _ (bytes : List ℕ) where
       go false true q = absurd (omega arith)
 
   -- the rest of both, from the same place on
-  behind : {choice : List Bool} {es : List Element} (e f : Element) → Next.Found e ≡ Next.Found f → Cuts bytes f.end choice es → Cuts bytes e.end choice es
+  behind : {choice : List Bool} {es : List Element} (e f : Element) → ◌≡◌ {A = Next} (Ok (Some e)) (Ok (Some f)) → Cuts bytes f.end choice es → Cuts bytes e.end choice es
   behind {choice} {es} e f same c = subst (λ (n : ℕ). Cuts bytes n choice es) (cc) c
 
   -- at a place stands the text's end, a slash, a reserved word or neither of these

@@ -1,4 +1,5 @@
 -- A text can be made of elements that were found elsewhere: each is written as its bytes, behind a blank or a line end.
+use Rattle.std.specs.Prelude.{Ok, Some, None}
 use mathlib.Core.Path.{◌≡◌, refl, ap, ◌∙◌}
 use mathlib.Core.List.{List, [], ◌∷◌, ◌++◌, append_assoc}
 use mathlib.Core.Bool.{Bool, true, false, cond, ◌||◌}
@@ -10,7 +11,6 @@ use Rattle.text.specs.Bytes.{blank, line_end}
 use Rattle.elements.specs.Elements.{stating, element_at}
 use Rattle.elements.specs.Lexemes.{lexeme_of}
 use Rattle.elements.specs.declared.Element.{Element}
-use Rattle.elements.specs.declared.Next.{Next}
 use Rattle.elements.specs.declared.Stated.{Stated}
 use Rattle.elements.proofs.Bounds.{Placed, found_placed, past_end}
 use Rattle.elements.proofs.Separators.{lined, blank_first, line_end_first}
@@ -24,7 +24,7 @@ pub record Piece : Type 0 where
   pub place : ℕ
   pub given : Stated
   pub element : Element
-  pub found : element_at source place given ≡ Next.Found element
+  pub found : element_at source place given ≡ Ok (Some element)
   pub newline : Bool
 
 -- its bytes, and what is written before them
@@ -74,18 +74,18 @@ starts (p ∷ ps) = record { head = before p; tail = spelling p ++ spelled ps; i
 -- a piece is found behind what was written
 module _ (u : List ℕ) (p : Piece) (rest : List ℕ) (r : Starts rest) where
   own : (b : ℕ) → element_at (u ++ (b ∷ (spelling p ++ rest))) (length u + 1) p.given
-      ≡ Next.Found (record { kind = p.element.kind; which = p.element.which; first = length u + 1; end = length u + 1 + (p.element.end - p.element.first); newline = false })
+      ≡ Ok (Some (record { kind = p.element.kind; which = p.element.which; first = length u + 1; end = length u + 1 + (p.element.end - p.element.first); newline = false }))
   own b =
       let size : length (u ++ (b ∷ [])) ≡ length u + 1 = length-append u (b ∷ []) in
       let o = own_bytes p.source p.place p.given p.element p.found r.head r.separates (u ++ (b ∷ [])) r.tail in
       rw r.is (rw (size, append_assoc u (b ∷ []) (spelling p ++ r.head ∷ r.tail)) at o)
 
-  found_again : element_at (u ++ (before p ∷ (spelling p ++ rest))) (length u) p.given ≡ Next.Found (moved (length u) p)
+  found_again : element_at (u ++ (before p ∷ (spelling p ++ rest))) (length u) p.given ≡ Ok (Some (moved (length u) p))
   unfolding blank line_end
   found_again = go p.newline
     where
       go : (newline : Bool) → element_at (u ++ (cond newline 0x0A 0x20 ∷ (spelling p ++ rest))) (length u) p.given
-          ≡ Next.Found (record { kind = p.element.kind; which = p.element.which; first = length u + 1; end = length u + 1 + (p.element.end - p.element.first); newline = newline })
+          ≡ Ok (Some (record { kind = p.element.kind; which = p.element.which; first = length u + 1; end = length u + 1 + (p.element.end - p.element.first); newline = newline }))
       go true = line_end_first u (spelling p ++ rest) 0x0A p.given refl ∙ ap lined (own 0x0A)
       go false = blank_first u (spelling p ++ rest) 0x20 p.given refl ∙ own 0x20
 
@@ -110,7 +110,7 @@ module _ (u : List ℕ) (p : Piece) (ps : List Piece) where
 pub spelled_cuts : (u : List ℕ) (ps : List Piece) → CutsInto (u ++ spelled ps) (length u) (placed_from (length u) ps)
 unfolding spelled blank line_end
 spelled_cuts u [] =
-    let past : element_at (u ++ (0x0A ∷ [])) (length u + 1) (stating false false) ≡ Next.End = past_end (u ++ (0x0A ∷ [])) (length u + 1) (stating false false) (omega (arith, length-append u (0x0A ∷ []))) in
+    let past : element_at (u ++ (0x0A ∷ [])) (length u + 1) (stating false false) ≡ Ok None = past_end (u ++ (0x0A ∷ [])) (length u + 1) (stating false false) (omega (arith, length-append u (0x0A ∷ []))) in
     record { choice = []; cut = cut_end (line_end_first u [] 0x0A (stating false false) refl ∙ ap lined past) }
 spelled_cuts u (p ∷ ps) =
     cut_more (u ++ spelled (p ∷ ps)) (length u) (moved (length u) p) (placed_from (length u + 1 + (p.element.end - p.element.first)) ps) p.given

@@ -1,12 +1,11 @@
 -- Demand 3: what its statements over derivations say (`derivations/proofs/Theorems.antt`). Document 02, U2: "The agreement of reading and derivation then
 -- reaches programs with lists.", U4: "Derivations range over this grammar too", and U6:
 -- "The agreement covers these too.": derivations have all of them (Grammar.antt).
-use Rattle.std.specs.Prelude.{ℕ, ◌+◌, ◌≤◌, ◌<◌, ◌≡◌, Bool, true, false, not, cond, ◌&&◌, ◌||◌, eqb, get_or}
+use Rattle.std.specs.Prelude.{ℕ, ◌+◌, ◌≤◌, ◌<◌, ◌≡◌, Bool, true, false, not, cond, ◌&&◌, ◌||◌, eqb, get_or, Ok, Some, None}
 use mathlib.Core.List.{List, [], ◌∷◌, Memᴰ}
 use Rattle.text.specs.Quoted.{byte}
 use Rattle.elements.specs.Elements.{stating, element_at, slash_met, word_met, name_kind, word_kind, pattern_kind}
 use Rattle.elements.specs.declared.Element.{Element}
-use Rattle.elements.specs.declared.Next.{Next}
 use Rattle.rule.specs.Trees.{Trees}
 use Rattle.rule.specs.Levels.{Levels, slash_opens, word_is_name}
 use Rattle.prefix.specs.Reading.{more, step, accepted, unlimited, unlimited_reading}
@@ -25,15 +24,15 @@ pub record ReadAs (text : List ℕ) (es : List Element) : Type 0 where
 -- levels before it, the rule's answer at each slash and each reserved word that is met is the choice's, and each element is the reading's
 -- next step
 pub data RuleTakes (text : List ℕ) : Levels → ℕ → List Bool → List Element → Type 0 where
-  takes_end : {levels : Levels} {place : ℕ} → element_at text place (stating false false) ≡ Next.End → RuleTakes text levels place [] []
+  takes_end : {levels : Levels} {place : ℕ} → element_at text place (stating false false) ≡ Ok None → RuleTakes text levels place [] []
   takes_element : {levels next : Levels} {place : ℕ} {e : Element} {choice : List Bool} {es : List Element} → slash_met text place ≡ false
-      → word_met text place ≡ false → element_at text place (stating false false) ≡ Next.Found e → step (unlimited text) levels e ≡ more next → RuleTakes text next e.end choice es
+      → word_met text place ≡ false → element_at text place (stating false false) ≡ Ok (Some e) → step (unlimited text) levels e ≡ more next → RuleTakes text next e.end choice es
       → RuleTakes text levels place choice (recorded e ∷ es)
   takes_slash : {levels next : Levels} {place : ℕ} {e : Element} {answer : Bool} {choice : List Bool} {es : List Element} → slash_met text place ≡ true
-      → slash_opens levels ≡ answer → element_at text place (stating answer false) ≡ Next.Found e → step (unlimited text) levels e ≡ more next
+      → slash_opens levels ≡ answer → element_at text place (stating answer false) ≡ Ok (Some e) → step (unlimited text) levels e ≡ more next
       → RuleTakes text next e.end choice es → RuleTakes text levels place (answer ∷ choice) (recorded e ∷ es)
   takes_word : {levels next : Levels} {place : ℕ} {e : Element} {answer : Bool} {choice : List Bool} {es : List Element} → word_met text place ≡ true
-      → word_is_name levels ≡ answer → element_at text place (stating false answer) ≡ Next.Found e → step (unlimited text) levels e ≡ more next
+      → word_is_name levels ≡ answer → element_at text place (stating false answer) ≡ Ok (Some e) → step (unlimited text) levels e ≡ more next
       → RuleTakes text next e.end choice es → RuleTakes text levels place (answer ∷ choice) (recorded e ∷ es)
 
 -- "any two grammar derivations take every slash alike and have one syntax tree"; every reserved word too

@@ -2,7 +2,7 @@
 use mathlib.Core.Path.{◌≡◌, refl}
 use mathlib.Core.Bool.{Bool, true, false, not, ◌&&◌}
 use mathlib.Core.List.{List}
-use Prim.Native.Nat.{ℕ, ◌+◌, ◌-◌, ◌*◌, ◌≤◌, ◌<◌}
+use Prim.Native.Nat.{ℕ, ◌+◌, ◌-◌, ◌≤◌, ◌<◌}
 use native.Mathlib.Omega.{arith}
 use borrow.Author.Tests.{eq-eqb, ne_eqb}
 use lib.Dec.{T, eqb, eqb→eq, leb, leb→le}
@@ -85,13 +85,14 @@ use Rattle.controls.specs.Machinery.Steps.{
   to_end,
 }
 use Rattle.controls.specs.Machinery.Written.{put_record}
-use Rattle.waiting.specs.Machinery.Waiting.{width, binding, Backed, Closes, Completes, stack_with, waiting_one, made_one, with_held, restarted}
+use Rattle.waiting.specs.Machinery.Waiting.{nothing_waits, popped, binding, Backed, Closes, Completes, stack_with, waiting_one, made_one, with_held, restarted}
 use Rattle.waiting.specs.declared.Level.{Level}
+use Rattle.waiting.specs.declared.Waiting.{Waiting}
 use Rattle.waiting.proofs.HoldLaws.{backed, uppermost, start_le, unstacked_held}
 use Rattle.waiting.proofs.OperatorLaws.{operator_small}
 use Rattle.frames.specs.Machinery.Stands.{Stands}
 use Rattle.frames.specs.Machinery.Effects.{MayAffect, Affects}
-use Rattle.frames.proofs.CarryLaws.{back_one, left_one, undone_one, carried, closes_lightens, carries_made, carries_back, carries_expression, left-one, carries_around}
+use Rattle.frames.proofs.CarryLaws.{back_one, undone_one, carried, closes_lightens, carries_made, carries_back, carries_expression, left-one, carries_around}
 use Rattle.frames.proofs.AtLaws.{AtWord, at_word, at_variable, at_value, nest_done}
 use Rattle.frames.proofs.EffectLaws.{
   keeps,
@@ -216,7 +217,7 @@ effect_kept effect class a b d e f g h i j k m n o p q =
       ne_eqb effect 15 q,
     )
 
-module _ {l : Level} {stack cells : List ℕ} where
+module _ {l : Level} {stack : List Waiting} {cells : List ℕ} where
   pub leaf_affects : (class mark : ℕ) {r : Level} {cells' : List ℕ} → (r ≡ made_one l) × (cells' ≡ put_record cells l.count class mark (l.count - l.start + 1))
       → Affects (take_leaf class) mark l stack cells r stack cells'
   leaf_affects class mark e from to g nests table stack₀ first floor passed s (to_leaf due) more = rw (e.0, e.1) (takes_leaf more class mark due s)
@@ -225,8 +226,8 @@ module _ {l : Level} {stack cells : List ℕ} where
       → Affects take_member mark l stack cells r stack cells'
   member_affects mark e from to g nests table stack₀ first floor passed s to_member more = rw (e.0, e.1) (takes_member more mark s)
 
-  operator_affected : (class mark : ℕ) {from to : Control} {g : Frame} {nests : List machine.Open} {table stack₀ : List ℕ} {first floor passed : ℕ} {left : Level} {after : List ℕ}
-      → mark ≤ most_trees → (l.top + 1) * width ≤ length stack → first + floor + passed < most_trees
+  operator_affected : (class mark : ℕ) {from to : Control} {g : Frame} {nests : List machine.Open} {table : List ℕ} {stack₀ : List Waiting} {first floor passed : ℕ} {left : Level} {after : List ℕ}
+      → mark ≤ most_trees → l.top < length stack → first + floor + passed < most_trees
       → (left.floor ≡ l.floor) × (left.held ≡ l.held) × Closes (threshold class + 1) l stack cells left after
       → Leads (take_operator class) from to → Fine class → Stands from g nests table stack₀ first floor passed l stack cells
       → Stands to (machine.affect (take_operator class) mark g) nests table stack₀ first floor (passed + 1) (waiting_one left)
@@ -238,25 +239,25 @@ module _ {l : Level} {stack cells : List ℕ} where
   operator_affected class mark small room more closes (to_comma takes ended) o s =
       takes_operator more some_target class mark small room o.tight o.some o.other closes.0 closes.1 closes.2 ended s
 
-  pub operator_affects : (class mark least : ℕ) {left r : Level} {after cells' : List ℕ} → mark ≤ most_trees → (l.top + 1) * width ≤ length stack → least ≡ threshold class
+  pub operator_affects : (class mark least : ℕ) {left r : Level} {after : List Waiting} {cells' : List ℕ} → mark ≤ most_trees → l.top < length stack → least ≡ threshold class
       → (left.floor ≡ l.floor) × (left.held ≡ l.held) × Closes (least + 1) l stack cells left cells'
       → (r ≡ waiting_one left) × (after ≡ stack_with stack left.top class mark left.start) → Affects (take_operator class) mark l stack cells r after cells'
   operator_affects class mark least small room tight closes e from to g nests table stack₀ first floor passed s leads more =
       rw (e.0, e.1) (operator_affected class mark small room more (closes.0, closes.1, rw tight at closes.2) leads (operator_fine leads) s)
 
-  prefix_affected : (kind mark : ℕ) {from to : Control} {g : Frame} {nests : List machine.Open} {table stack₀ : List ℕ} {first floor passed : ℕ} → mark ≤ most_trees
-      → (l.top + 1) * width ≤ length stack → first + floor + passed < most_trees → Leads (take_prefix kind) from to → 1 ≤ tightness kind
+  prefix_affected : (kind mark : ℕ) {from to : Control} {g : Frame} {nests : List machine.Open} {table : List ℕ} {stack₀ : List Waiting} {first floor passed : ℕ} → mark ≤ most_trees
+      → l.top < length stack → first + floor + passed < most_trees → Leads (take_prefix kind) from to → 1 ≤ tightness kind
       → Stands from g nests table stack₀ first floor passed l stack cells
       → Stands to (machine.affect (take_prefix kind) mark g) nests table stack₀ first floor (passed + 1) (waiting_one l) (stack_with stack l.top kind mark l.start) cells
   prefix_affected kind mark small room more (to_prefix class listed due takes) tight s = takes-prefix more kind mark small room tight due s
   prefix_affected kind mark small room more (to_new due) tight s = takes_new more mark small room due s
 
-  pub prefix_affects : (kind mark : ℕ) {by : ℕ} {r : Level} {after : List ℕ} → mark ≤ most_trees → (l.top + 1) * width ≤ length stack → by ≡ kind
+  pub prefix_affects : (kind mark : ℕ) {by : ℕ} {r : Level} {after : List Waiting} → mark ≤ most_trees → l.top < length stack → by ≡ kind
       → (r ≡ waiting_one l) × (after ≡ stack_with stack l.top by mark l.start) → Affects (take_prefix kind) mark l stack cells r after cells
   prefix_affects kind mark small room is e from to g nests table stack₀ first floor passed s leads more =
       rw (e.0, e.1, is) (prefix_affected kind mark small room more leads (prefix_tight leads) s)
 
-  postfix_affected : (kind mark : ℕ) {from to : Control} {g : Frame} {nests : List machine.Open} {table stack₀ : List ℕ} {first floor passed : ℕ} {left : Level} {after : List ℕ}
+  postfix_affected : (kind mark : ℕ) {from to : Control} {g : Frame} {nests : List machine.Open} {table : List ℕ} {stack₀ : List Waiting} {first floor passed : ℕ} {left : Level} {after : List ℕ}
       → first + floor + passed < most_trees → (left.floor ≡ l.floor) × (left.held ≡ l.held) × Closes (new_precedence + 1) l stack cells left after
       → Leads (take_postfix kind) from to → Stands from g nests table stack₀ first floor passed l stack cells
       → Stands to (machine.affect (take_postfix kind) mark g) nests table stack₀ first floor (passed + 1) (made_one left) stack
@@ -268,7 +269,7 @@ module _ {l : Level} {stack cells : List ℕ} where
       → (r ≡ made_one left) × (cells' ≡ put_record after left.count by mark (left.count - left.start + 1)) → Affects (take_postfix kind) mark l stack cells r stack cells'
   postfix_affects kind mark is closes e from to g nests table stack₀ first floor passed s leads more = rw (e.0, e.1, is) (postfix_affected kind mark more closes leads s)
 
-  pub label_affects : (mark : ℕ) {r : Level} {after : List ℕ} → (l.top + 1) * width ≤ length stack
+  pub label_affects : (mark : ℕ) {r : Level} {after : List Waiting} → l.top < length stack
       → (r ≡ waiting_one l) × (after ≡ stack_with stack l.top label_syntax l.held l.start) → Affects take_label mark l stack cells r after cells
   label_affects mark room e from to g nests table stack₀ first floor passed s to_label more = rw (e.0, e.1) (takes_label more mark room s)
 
@@ -279,7 +280,7 @@ module _ {l : Level} {stack cells : List ℕ} where
   pub name_affects : (mark : ℕ) {r : Level} → mark ≤ most_trees → r ≡ with_held mark l → Affects take_name mark l stack cells r stack cells
   name_affects mark small e from to g nests table stack₀ first floor passed s to_name more = rw e (holds_name more mark small s)
 
-  pub start_affects : (kind mark : ℕ) {by : ℕ} {r : Level} {after : List ℕ} → mark ≤ most_trees → (l.top + 1) * width ≤ length stack → by ≡ kind
+  pub start_affects : (kind mark : ℕ) {by : ℕ} {r : Level} {after : List Waiting} → mark ≤ most_trees → l.top < length stack → by ≡ kind
       → (r ≡ waiting_one l) × (after ≡ stack_with stack l.top by mark l.start) → Affects (start_statement kind) mark l stack cells r after cells
   start_affects kind mark small room is e from to g nests table stack₀ first floor passed s leads more =
       let b = begins kind (start_begins leads) in
@@ -294,7 +295,7 @@ module _ {l : Level} {stack cells : List ℕ} where
   pub value_affects : (mark : ℕ) {all : Level} {cells' : List ℕ} → Completes l stack cells all cells' → Affects end_value mark l stack cells all stack cells'
   value_affects mark completes from to g nests table stack₀ first floor passed s leads more = ends_value more mark completes (at_value leads s)
 
-  pub bare_affects : (mark k m : ℕ) {one all : Level} {cells' cells'' : List ℕ} → get_or stack ((l.top - 1) * width) 0 ≡ k → get_or stack ((l.top - 1) * width + 1) 0 ≡ m
+  pub bare_affects : (mark k m : ℕ) {one all : Level} {cells' cells'' : List ℕ} → (get_or stack (l.top - 1) nothing_waits).kind ≡ k → (get_or stack (l.top - 1) nothing_waits).mark ≡ m
       → (one ≡ made_one (back_one l)) × (cells' ≡ put_record cells l.count (k - 1) m (l.count - l.count + 1)) → Completes one stack cells' all cells''
       → Affects end_bare mark l stack cells all stack cells''
   bare_affects mark k m kind_at mark-at e completes from to g nests table stack₀ first floor passed s (to_bare_end {setting = setting}) more =
@@ -307,39 +308,39 @@ module _ {l : Level} {stack cells : List ℕ} where
   empty_affects mark e completes from to g nests table stack₀ first floor passed s to_empty more = ends_empty more mark (rw (e.0, e.1) at completes) s
 
   pub variable_affects : (mark m : ℕ) {whole one : Level} {after cells' : List ℕ} → (whole.floor ≡ l.floor) × (whole.held ≡ l.held) × Closes 2 l stack cells whole after
-      → get_or stack ((whole.top - 1) * width + 1) 0 ≡ m
-      → (one ≡ made_one (left_one whole stack)) × (cells' ≡ put_record after whole.count variable_syntax m (whole.count - get_or stack ((whole.top - 1) * width + 2) 0 + 1))
+      → (get_or stack (whole.top - 1) nothing_waits).mark ≡ m
+      → (one ≡ made_one (popped whole stack)) × (cells' ≡ put_record after whole.count variable_syntax m (whole.count - (get_or stack (whole.top - 1) nothing_waits).start + 1))
       → Affects end_variable mark l stack cells (restarted one) stack cells'
   variable_affects mark m closes mark-at e from to g nests table stack₀ first floor passed s (to_next_variable ended) more =
       rw (e.0, e.1) (ends_variable more mark closes.0 closes.1 closes.2 mark-at ended s)
 
-  pub else_affects : (mark : ℕ) {r : Level} {after : List ℕ} → mark ≤ most_trees → (l.top + 1) * width ≤ length stack
-      → (r ≡ waiting_one (undone_one l stack)) × (after ≡ stack_with stack l.top else_word mark (get_or stack ((l.top - 1) * width + 2) 0)) → Affects take_else mark l stack cells r after cells
+  pub else_affects : (mark : ℕ) {r : Level} {after : List Waiting} → mark ≤ most_trees → l.top < length stack
+      → (r ≡ waiting_one (undone_one l stack)) × (after ≡ stack_with stack l.top else_word mark (get_or stack (l.top - 1) nothing_waits).start) → Affects take_else mark l stack cells r after cells
   else_affects mark small room e from to g nests table stack₀ first floor passed s to_else more = rw (e.0, e.1) (takes_else more mark small room s)
 
   pub keep_affects : (mark : ℕ) → Affects keep mark l stack cells l stack cells
   keep_affects mark from to g nests table stack₀ first floor passed s leads more = keeps more mark leads s
 
 -- what the calls in between ask for
-module _ {kind by mark : ℕ} {l : Level} {stack cells : List ℕ} where
+module _ {kind by mark : ℕ} {l : Level} {stack : List Waiting} {cells : List ℕ} where
   pub prefix_asks : MayAffect (take_prefix kind) mark l stack cells → by ≡ kind
-      → ((l.top + 1) * width ≤ length stack) × (by < 65536) × (mark ≤ most_trees) × (l.start ≤ most_trees)
+      → (l.top < length stack) × (by < 65536) × (mark ≤ most_trees) × (l.start ≤ most_trees)
   prefix_asks may is =
       let s = may.somewhere.stands in
       (may.room, omega (arith, is, operator_small kind (prefix_tight may.leads)), omega (arith, may.marked), omega (arith, s.holds.counts, s.holds.few))
 
   pub start_asks : MayAffect (start_statement kind) mark l stack cells → by ≡ kind
-      → ((l.top + 1) * width ≤ length stack) × (by < 65536) × (mark ≤ most_trees) × (l.start ≤ most_trees)
+      → (l.top < length stack) × (by < 65536) × (mark ≤ most_trees) × (l.start ≤ most_trees)
   start_asks may is =
       let s = may.somewhere.stands in
       (may.room, omega (arith, is, (begins kind (start_begins may.leads)).small), omega (arith, may.marked), omega (arith, s.holds.counts, s.holds.few))
 
-pub threshold_small : {class mark : ℕ} {l : Level} {stack cells : List ℕ} → MayAffect (take_operator class) mark l stack cells → threshold class ≤ new_precedence
+pub threshold_small : {class mark : ℕ} {l : Level} {stack : List Waiting} {cells : List ℕ} → MayAffect (take_operator class) mark l stack cells → threshold class ≤ new_precedence
 threshold_small may = (operator_fine may.leads).small
 
-module _ {mark : ℕ} {l r : Level} {stack cells after : List ℕ} where
+module _ {mark : ℕ} {l r : Level} {stack : List Waiting} {cells after : List ℕ} where
   pub operator_asks : (least : ℕ) {class : ℕ} → MayAffect (take_operator class) mark l stack cells → (r.floor ≡ l.floor) × (r.held ≡ l.held) × Closes least l stack cells r after
-      → ((r.top + 1) * width ≤ length stack) × (class < 65536) × (mark ≤ most_trees) × (r.start ≤ most_trees)
+      → (r.top < length stack) × (class < 65536) × (mark ≤ most_trees) × (r.start ≤ most_trees)
   operator_asks least {class = class} may closes =
       let s = may.somewhere.stands in
       let light = closes_lightens _ s.holds closes.0 closes.2 in
@@ -361,36 +362,36 @@ module _ {mark : ℕ} {l r : Level} {stack cells after : List ℕ} where
       rw (e.0, e.1)
       (backed (carries_made (carries_expression (carried s) closes.0 closes.1 closes.2) kind mark (omega (arith, light, s.passes, may.more))).holds)
 
-pub empty_held : {mark : ℕ} {l one : Level} {stack cells cells' : List ℕ} → MayAffect end_empty mark l stack cells
+pub empty_held : {mark : ℕ} {l one : Level} {stack : List Waiting} {cells cells' : List ℕ} → MayAffect end_empty mark l stack cells
     → (one ≡ made_one l) × (cells' ≡ put_record cells l.count empty_syntax mark (l.count - l.start + 1)) → Backed one stack cells'
 empty_held {mark = mark} may e =
     let s = may.somewhere.stands in
     rw (e.0, e.1) (backed (carries_made (carried s) empty_syntax mark (omega (arith, s.passes, may.more))).holds)
 
 -- the word that waits uppermost, alone
-pub record Alone (l : Level) (stack cells : List ℕ) : Type 0 where
+pub record Alone (l : Level) (stack : List Waiting) (cells : List ℕ) : Type 0 where
   pub waits : 1 ≤ l.top
-  pub fits : l.top * width ≤ length stack
-  pub some : 1 ≤ get_or stack ((l.top - 1) * width) 0
-  pub marked : get_or stack ((l.top - 1) * width + 1) 0 ≤ most_trees
+  pub fits : l.top ≤ length stack
+  pub some : 1 ≤ (get_or stack (l.top - 1) nothing_waits).kind
+  pub marked : (get_or stack (l.top - 1) nothing_waits).mark ≤ most_trees
   pub holds : (k m : ℕ) {one : Level} {cells' : List ℕ} → (one ≡ made_one (back_one l)) × (cells' ≡ put_record cells l.count k m (l.count - l.count + 1)) → Backed one stack cells'
 
 -- the variable that waits uppermost, once its operators are closed
-pub record Joining (r : Level) (stack : List ℕ) : Type 0 where
+pub record Joining (r : Level) (stack : List Waiting) : Type 0 where
   pub waits : 1 ≤ r.top
-  pub fits : r.top * width ≤ length stack
-  pub marked : get_or stack ((r.top - 1) * width + 1) 0 ≤ most_trees
-  pub started : get_or stack ((r.top - 1) * width + 2) 0 ≤ r.count
+  pub fits : r.top ≤ length stack
+  pub marked : (get_or stack (r.top - 1) nothing_waits).mark ≤ most_trees
+  pub started : (get_or stack (r.top - 1) nothing_waits).start ≤ r.count
   pub room : r.count < most_syntax
 
 -- the statement before an `else`
-pub record Before (l : Level) (stack : List ℕ) : Type 0 where
+pub record Before (l : Level) (stack : List Waiting) : Type 0 where
   pub waits : 1 ≤ l.top
-  pub fits : l.top * width ≤ length stack
-  pub started : get_or stack ((l.top - 1) * width + 2) 0 ≤ most_trees
+  pub fits : l.top ≤ length stack
+  pub started : (get_or stack (l.top - 1) nothing_waits).start ≤ most_trees
 
-module _ {l : Level} {stack cells : List ℕ} where
-  word_alone : {setting : Setting} {g : Frame} {nests : List machine.Open} {table stack₀ : List ℕ} {first floor passed : ℕ}
+module _ {l : Level} {stack : List Waiting} {cells : List ℕ} where
+  word_alone : {setting : Setting} {g : Frame} {nests : List machine.Open} {table : List ℕ} {stack₀ : List Waiting} {first floor passed : ℕ}
       → AtWord setting g nests table stack₀ first floor passed l stack cells → first + floor + passed < most_trees → Alone l stack cells
   word_alone h more =
       let u = uppermost h.carries.holds in
@@ -402,7 +403,7 @@ module _ {l : Level} {stack cells : List ℕ} where
         holds = λ k m e. rw (e.0, e.1) (backed (carries_made (carries_back h.carries) k m (omega (arith, h.passes))).holds);
       }
 
-  alone : {from to : Control} {g : Frame} {nests : List machine.Open} {table stack₀ : List ℕ} {first floor passed : ℕ} → Leads end_bare from to
+  alone : {from to : Control} {g : Frame} {nests : List machine.Open} {table : List ℕ} {stack₀ : List Waiting} {first floor passed : ℕ} → Leads end_bare from to
       → Stands from g nests table stack₀ first floor passed l stack cells → first + floor + passed < most_trees → Alone l stack cells
   alone (to_bare_end {setting = setting}) s more = word_alone (at_word {setting = setting} s s.shaped refl) more
   alone (to_bare_jump {setting = setting}) s more = word_alone (at_word {setting = setting} s s.shaped refl) more
@@ -410,7 +411,7 @@ module _ {l : Level} {stack cells : List ℕ} where
   pub bare_asks : {mark : ℕ} → MayAffect end_bare mark l stack cells → Alone l stack cells
   bare_asks may = alone may.leads may.somewhere.stands may.more
 
-  joining : {from to : Control} {g : Frame} {nests : List machine.Open} {table stack₀ : List ℕ} {first floor passed : ℕ} {r : Level} {after : List ℕ} → Leads end_variable from to
+  joining : {from to : Control} {g : Frame} {nests : List machine.Open} {table : List ℕ} {stack₀ : List Waiting} {first floor passed : ℕ} {r : Level} {after : List ℕ} → Leads end_variable from to
       → Stands from g nests table stack₀ first floor passed l stack cells → (r.floor ≡ l.floor) × (r.held ≡ l.held) × Closes 2 l stack cells r after → Joining r stack
   joining (to_next_variable ended) s closes =
       let h = carries_expression (at_variable ended s).carries closes.0 closes.1 closes.2 in
@@ -427,7 +428,7 @@ module _ {l : Level} {stack cells : List ℕ} where
       → (r.floor ≡ l.floor) × (r.held ≡ l.held) × Closes 2 l stack cells r after → Joining r stack
   variable_asks may closes = joining may.leads may.somewhere.stands closes
 
-  before : {from to : Control} {g : Frame} {nests : List machine.Open} {table stack₀ : List ℕ} {first floor passed : ℕ} → Leads take_else from to
+  before : {from to : Control} {g : Frame} {nests : List machine.Open} {table : List ℕ} {stack₀ : List Waiting} {first floor passed : ℕ} → Leads take_else from to
       → Stands from g nests table stack₀ first floor passed l stack cells → Before l stack
   before to_else s = let a = carries_around s.shaped.4 (left-one refl) (nest_done s) in record { waits = a.waits; fits = a.fits; started = a.started }
 
@@ -435,11 +436,11 @@ module _ {l : Level} {stack cells : List ℕ} where
   else_asks may = before may.leads may.somewhere.stands
 
   -- neither what ends a bare statement nor what ends a variable takes account of the mark
-  pub bare_any : (mark : ℕ) {r : Level} {after cells' : List ℕ} → Affects end_bare 0 l stack cells r after cells' → Affects end_bare mark l stack cells r after cells'
+  pub bare_any : (mark : ℕ) {r : Level} {after : List Waiting} {cells' : List ℕ} → Affects end_bare 0 l stack cells r after cells' → Affects end_bare mark l stack cells r after cells'
   bare_any mark affects from to (frame done starts waiting operand) nests table stack₀ first floor passed s leads more =
       affects from to (frame done starts waiting operand) nests table stack₀ first floor passed s leads more
 
-  pub variable_any : (mark : ℕ) {r : Level} {after cells' : List ℕ} → Affects end_variable 0 l stack cells r after cells' → Affects end_variable mark l stack cells r after cells'
+  pub variable_any : (mark : ℕ) {r : Level} {after : List Waiting} {cells' : List ℕ} → Affects end_variable 0 l stack cells r after cells' → Affects end_variable mark l stack cells r after cells'
   variable_any mark affects from to (frame done starts waiting operand) nests table stack₀ first floor passed s leads more =
       affects from to (frame done starts waiting operand) nests table stack₀ first floor passed s leads more
 

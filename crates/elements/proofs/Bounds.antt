@@ -1,4 +1,5 @@
 -- Where elements and their faults lie: not before the place from which they are looked for, and within the text.
+use Rattle.std.specs.Prelude.{Result, Ok, Err, Some, None, Option}
 use mathlib.Core.Path.{◌≡◌, refl}
 use mathlib.Core.List.{List, [], ◌∷◌}
 use mathlib.Core.Bool.{Bool, true, false, cond, ◌&&◌, ◌||◌}
@@ -13,9 +14,10 @@ use Rattle.text.specs.Runs.{run}
 use Rattle.text.proofs.Laws.{run_le, run_some}
 use Rattle.words.specs.Words.{word_number, taken}
 use Rattle.signs.specs.Signs.{longest_sign}
-use Rattle.signs.specs.declared.Longest.{Longest}
+use Rattle.signs.specs.declared.Sign.{Sign}
 use Rattle.signs.proofs.Laws.{longest_fits}
-use Rattle.answers.specs.Faults.{open_string, open_pattern, bad_number, barred_word}
+use Rattle.answers.specs.Faults.{open_string, open_pattern, bad_number, barred_word, fault_number, fault_place}
+use Rattle.answers.specs.declared.faults.Fault.{Fault}
 use Rattle.gaps.specs.Gaps.{gap}
 use Rattle.numbers.specs.Numbers.{starts_number, number_from}
 use Rattle.literals.specs.Strings.{quote, string_rest}
@@ -37,9 +39,8 @@ use Rattle.elements.specs.Elements.{
   delimiter_kind,
 }
 use Rattle.gaps.specs.declared.Gap.{Gap}
-use Rattle.answers.specs.declared.Literal.{Literal}
 use Rattle.elements.specs.declared.Element.{Element}
-use Rattle.elements.specs.declared.Next.{Next}
+use Rattle.elements.specs.Elements.{Next}
 use Rattle.elements.specs.declared.Stated.{Stated}
 use Rattle.elements.proofs.Choices.{cond_both, cond_known}
 use Rattle.elements.proofs.Extents.{Faulted, GapIn, gap_in, LiteralIn, string_in, pattern_in, number_in, starts_some}
@@ -55,14 +56,14 @@ pub record Cut (newline : Bool) (first hi : ℕ) (e : Element) : Type 0 where
 
 -- an element cut there, or a fault from there on
 abbrev pub NextIn : Bool → ℕ → ℕ → Next → Type 0
-NextIn newline first hi Next.End = Unit
-NextIn newline first hi (Next.Found e) = Cut newline first hi e
-NextIn newline first hi (Next.Fault number at) = Faulted barred_word first hi number at
+NextIn newline first hi (Ok None) = Unit
+NextIn newline first hi (Ok (Some e)) = Cut newline first hi e
+NextIn newline first hi (Err fault) = Faulted barred_word first hi (fault_number fault) (fault_place fault)
 
 module _ (newline : Bool) (first hi b : ℕ) (s : List ℕ) (fits : first + 1 + length s ≡ hi) where
-  literal_in : (kind last low : ℕ) → last ≤ barred_word → first ≤ low → (l : Literal) → LiteralIn last first low hi l → NextIn newline first hi (literal_element kind newline first l)
-  literal_in kind last low m h (Literal.Ends end) p = record { start = refl; flag = refl; some = omega arith; within = p.1 }
-  literal_in kind last low m h (Literal.Fault number at) p = omega arith
+  literal_in : (kind last low : ℕ) → last ≤ barred_word → first ≤ low → (l : Result ℕ Fault) → LiteralIn last first low hi l → NextIn newline first hi (literal_element kind newline first l)
+  literal_in kind last low m h (Ok end) p = record { start = refl; flag = refl; some = omega arith; within = p.1 }
+  literal_in kind last low m h (Err fault) p = omega arith
 
   cut : (n : ℕ) → 1 ≤ n → n ≤ 1 + length s → (kind which : ℕ)
       → Cut newline first hi (record { kind = kind; which = which; first = first; end = first + n; newline = newline })
@@ -79,11 +80,11 @@ module _ (newline : Bool) (first hi b : ℕ) (s : List ℕ) (fits : first + 1 + 
       (cond_both (NextIn newline first hi) (taken word) (cut n h k word_kind word)
       (omega arith))
 
-  sign_in : (l : Longest) → longest_sign (b ∷ s) ≡ l → NextIn newline first hi (sign_or_stray newline first l)
-  sign_in Longest.None e = omega arith
-  sign_in (Longest.Sign number n) e =
-      let f = longest_fits (b ∷ s) number n e in
-      cut n f.0 (omega arith) (cond (delimiter number) delimiter_kind sign_kind) number
+  sign_in : (l : Option Sign) → longest_sign (b ∷ s) ≡ l → NextIn newline first hi (sign_or_stray newline first l)
+  sign_in None e = omega arith
+  sign_in (Some sign) e =
+      let f = longest_fits (b ∷ s) sign e in
+      cut sign.len f.0 (omega arith) (cond (delimiter sign.number) delimiter_kind sign_kind) sign.number
 
   cons_in : (stated : Stated) → NextIn newline first hi (element_from stated newline first (b ∷ s))
   unfolding element_from
@@ -112,21 +113,21 @@ pub record Placed (s : List ℕ) (place : ℕ) (e : Element) : Type 0 where
   pub within : e.end ≤ length s
 
 abbrev NextPlaced : List ℕ → ℕ → Next → Type 0
-NextPlaced s place Next.End = Unit
-NextPlaced s place (Next.Found e) = Placed s place e
-NextPlaced s place (Next.Fault number at) = Faulted barred_word place (length s) number at
+NextPlaced s place (Ok None) = Unit
+NextPlaced s place (Ok (Some e)) = Placed s place e
+NextPlaced s place (Err fault) = Faulted barred_word place (length s) (fault_number fault) (fault_place fault)
 
 module _ (s : List ℕ) (place : ℕ) (stated : Stated) where
   later : (newline : Bool) (first : ℕ) → place ≤ first → (n : Next) → NextIn newline first (length s) n → NextPlaced s place n
-  later newline first h Next.End p = tt
-  later newline first h (Next.Found e) p = record { from = omega arith; some = omega arith; within = p.within }
-  later newline first h (Next.Fault number at) p = omega arith
+  later newline first h (Ok None) p = tt
+  later newline first h (Ok (Some e)) p = record { from = omega arith; some = omega arith; within = p.within }
+  later newline first h (Err fault) p = omega arith
 
-  after_in : (g : Gap) → GapIn place place (length s) g → NextPlaced s place (after_gap s stated g)
-  after_in (Gap.Ends first newline) p =
-      later newline first p.0 (element_from stated newline first (drop first s))
-      (from_in stated newline first (length s) (drop first s) (omega (arith, length-drop first s)))
-  after_in (Gap.Fault number at) p = omega arith
+  after_in : (g : Result Gap Fault) → GapIn place place (length s) g → NextPlaced s place (after_gap s stated g)
+  after_in (Ok g) p =
+      later g.newline g.end p.0 (element_from stated g.newline g.end (drop g.end s))
+      (from_in stated g.newline g.end (length s) (drop g.end s) (omega (arith, length-drop g.end s)))
+  after_in (Err fault) p = omega arith
 
   at_in : place ≤ length s → NextPlaced s place (element_at s place stated)
   unfolding element_at
@@ -134,7 +135,7 @@ module _ (s : List ℕ) (place : ℕ) (stated : Stated) where
       after_in (gap place false (drop place s))
       (gap_in place place (length s) (omega arith) (drop place s) place false (omega arith) (omega (arith, length-drop place s)))
 
-  pub past_end : length s ≤ place → element_at s place stated ≡ Next.End
+  pub past_end : length s ≤ place → element_at s place stated ≡ Ok None
   unfolding element_at
   past_end h = rw (gap_past s place false h) (from_past stated false s place h)
 
@@ -145,12 +146,12 @@ module _ (s : List ℕ) (place : ℕ) (stated : Stated) where
       go true e = rw (past_end (leb-true (length s) place e)) tt
       go false e = at_in (omega (arith, leb-false (length s) place e))
 
-  pub found_placed : (e : Element) → element_at s place stated ≡ Next.Found e → Placed s place e
+  pub found_placed : (e : Element) → element_at s place stated ≡ Ok (Some e) → Placed s place e
   found_placed e f = rw f at placed
 
-  module _ (number at : ℕ) (f : element_at s place stated ≡ Next.Fault number at) where
-    pub fault_placed : (place ≤ at) × (at < length s)
-    fault_placed = let p : Faulted barred_word place (length s) number at = rw f at placed in (p.from, p.within)
+  module _ (fault : Fault) (f : element_at s place stated ≡ Err fault) where
+    pub fault_placed : (place ≤ fault_place fault) × (fault_place fault < length s)
+    fault_placed = let p : Faulted barred_word place (length s) (fault_number fault) (fault_place fault) = rw f at placed in (p.from, p.within)
 
-    pub fault_number : (2 ≤ number) × (number ≤ 7)
-    fault_number = let p : Faulted barred_word place (length s) number at = rw f at placed in (p.least, p.most)
+    pub fault_numbered : (2 ≤ fault_number fault) × (fault_number fault ≤ 7)
+    fault_numbered = let p : Faulted barred_word place (length s) (fault_number fault) (fault_place fault) = rw f at placed in (p.least, p.most)

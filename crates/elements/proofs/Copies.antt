@@ -1,5 +1,6 @@
 -- An element is the same at another place, behind another gap, and where the text is cut behind it and goes on with a
 -- blank or a line end.
+use Rattle.std.specs.Prelude.{Result, Ok, Err, Some, Option, None}
 use mathlib.Core.Path.{◌≡◌, refl, ap, ◌∙◌}
 use mathlib.Core.List.{List, [], ◌∷◌, ◌++◌}
 use mathlib.Core.Bool.{Bool, true, false, cond, and-false, ◌&&◌, ◌||◌}
@@ -13,9 +14,10 @@ use Rattle.text.specs.Bytes.{blank, line_end, letter, digit, name_byte}
 use Rattle.text.specs.Runs.{run}
 use Rattle.text.proofs.Laws.{run_own, run_le}
 use Rattle.words.specs.Words.{word_number, taken}
-use Rattle.signs.specs.Signs.{longest_sign}
-use Rattle.signs.specs.declared.Longest.{Longest}
+use Rattle.signs.specs.Signs.{found, longest_sign}
+use Rattle.signs.specs.declared.Sign.{Sign}
 use Rattle.signs.proofs.Laws.{longest_own}
+use Rattle.answers.specs.declared.faults.Fault.{Fault}
 use Rattle.numbers.specs.Numbers.{starts_number, number_from}
 use Rattle.literals.specs.Strings.{quote, string_rest}
 use Rattle.literals.specs.Patterns.{pattern_rest}
@@ -35,12 +37,11 @@ use Rattle.elements.specs.Elements.{
   sign_kind,
   delimiter_kind,
 }
-use Rattle.answers.specs.declared.Literal.{Literal}
 use Rattle.elements.specs.declared.Element.{Element}
-use Rattle.elements.specs.declared.Next.{Next}
+use Rattle.elements.specs.Elements.{Next}
 use Rattle.elements.specs.declared.Stated.{Stated}
 use Rattle.elements.proofs.Choices.{cond_both, cond_known, cond_follow}
-use Rattle.elements.proofs.Clashes.{no_element}
+use Rattle.elements.proofs.Clashes.{no_result}
 use Rattle.elements.proofs.Bounds.{Cut, from_in}
 use Rattle.elements.proofs.Shifts.{no_digit, no_name, string_own, pattern_own, number_size, number_own}
 use Rattle.numbers.proofs.NumberLaws.{dotted_two}
@@ -52,37 +53,37 @@ moved first newline size e = element e.kind e.which newline first (first + size)
 module _ (x : ℕ) (v : List ℕ) (separates : (blank x || line_end x) ≡ true) where
   -- an element of size k from `first` on, moved to `there`
   module _ (e : Element) (first there k : ℕ) (newline lined : Bool) (size : e.end ≡ first + k) where
-    same_size : (kind which end : ℕ) → element kind which newline first end ≡ Next.Found e → end ≡ first + k
+    same_size : (kind which end : ℕ) → element kind which newline first end ≡ Ok (Some e) → end ≡ first + k
     same_size kind which end f =
         let p : record { kind = kind; which = which; first = first; end = end; newline = newline } ≡ e = cc in
         ap (λ z. z.end) p ∙ size
 
-    found_own : (kind which end : ℕ) → element kind which newline first end ≡ Next.Found e
+    found_own : (kind which end : ℕ) → element kind which newline first end ≡ Ok (Some e)
         → element kind which lined there (there + k) ≡ moved there lined k e
     found_own kind which end f =
         let p : record { kind = kind; which = which; first = first; end = end; newline = newline } ≡ e = cc in
         rw (← p)
 
-    literal_ends : (kind : ℕ) (l : Literal) → literal_element kind newline first l ≡ Next.Found e → l ≡ Literal.Ends (first + k)
-    literal_ends kind (Literal.Ends end) f = ap Literal.Ends (same_size kind 0 end f)
-    literal_ends kind (Literal.Fault number at) f = no_element f
+    literal_ends : (kind : ℕ) (l : Result ℕ Fault) → literal_element kind newline first l ≡ Ok (Some e) → l ≡ Ok (first + k)
+    literal_ends kind (Ok end) f = ap Ok (same_size kind 0 end f)
+    literal_ends kind (Err fault) f = no_result f
 
-    literal_own : (kind : ℕ) (l m : Literal) → (l ≡ Literal.Ends (first + k) → m ≡ Literal.Ends (there + k))
-        → literal_element kind newline first l ≡ Next.Found e → literal_element kind lined there m ≡ moved there lined k e
-    literal_own kind (Literal.Ends end) m g f = rw (g (ap Literal.Ends (same_size kind 0 end f))) (found_own kind 0 end f)
-    literal_own kind (Literal.Fault number at) m g f = no_element f
+    literal_own : (kind : ℕ) (l m : Result ℕ Fault) → (l ≡ Ok (first + k) → m ≡ Ok (there + k))
+        → literal_element kind newline first l ≡ Ok (Some e) → literal_element kind lined there m ≡ moved there lined k e
+    literal_own kind (Ok end) m g f = rw (g (ap Ok (same_size kind 0 end f))) (found_own kind 0 end f)
+    literal_own kind (Err fault) m g f = no_result f
 
-    word_own : (asName : Bool) (word n : ℕ) → word_or_name asName word newline first n ≡ Next.Found e
+    word_own : (asName : Bool) (word n : ℕ) → word_or_name asName word newline first n ≡ Ok (Some e)
         → (n ≡ first + k) × (word_or_name asName word lined there (there + k) ≡ moved there lined k e)
     word_own asName word n f = (
-      cond_both (λ z. z ≡ Next.Found e → n ≡ first + k) (eqb word 0 || asName) (same_size name_kind word n)
-          (cond_both (λ z. z ≡ Next.Found e → n ≡ first + k) (taken word) (same_size word_kind word n) no_element) f,
+      cond_both (λ z. z ≡ Ok (Some e) → n ≡ first + k) (eqb word 0 || asName) (same_size name_kind word n)
+          (cond_both (λ z. z ≡ Ok (Some e) → n ≡ first + k) (taken word) (same_size word_kind word n) no_result) f,
       cond_follow (eqb word 0 || asName) (found_own name_kind word n)
-          (cond_follow (taken word) (found_own word_kind word n) no_element) f,
+          (cond_follow (taken word) (found_own word_kind word n) no_result) f,
     )
 
     module _ (s : List ℕ) where
-      named_own : (asName : Bool) → named asName newline first s ≡ Next.Found e → named asName lined there (take k s ++ x ∷ v) ≡ moved there lined k e
+      named_own : (asName : Bool) → named asName newline first s ≡ Ok (Some e) → named asName lined there (take k s ++ x ∷ v) ≡ moved there lined k e
       unfolding named
       named_own asName f =
           let n = run name_byte s in
@@ -92,14 +93,14 @@ module _ (x : ℕ) (v : List ℕ) (separates : (blank x || line_end x) ≡ true)
           let h : k ≤ length s = omega (arith, run_le name_byte s) in
           rw (r, take_at (take k s) (x ∷ v) k (length-take-le k s h)) (rw q at w.1)
 
-      sign_own : (l : Longest) → longest_sign s ≡ l → sign_or_stray newline first l ≡ Next.Found e
+      sign_own : (l : Option Sign) → longest_sign s ≡ l → sign_or_stray newline first l ≡ Ok (Some e)
           → sign_or_stray lined there (longest_sign (take k s ++ x ∷ v)) ≡ moved there lined k e
-      sign_own Longest.None g f = no_element f
-      sign_own (Longest.Sign number n) g f =
-          let kind = cond (delimiter number) delimiter_kind sign_kind in
-          let q : n ≡ k = omega (arith, same_size kind number (first + n) f) in
-          let own : longest_sign (take k s ++ x ∷ v) ≡ Longest.Sign number k = rw q at (longest_own s number n g x separates v) in
-          rw own (found_own kind number (first + n) f)
+      sign_own None g f = no_result f
+      sign_own (Some sign) g f =
+          let kind = cond (delimiter sign.number) delimiter_kind sign_kind in
+          let q : sign.len ≡ k = omega (arith, same_size kind sign.number (first + sign.len) f) in
+          let own : longest_sign (take k s ++ x ∷ v) ≡ found sign.number k = rw q at (longest_own s sign g x separates v) in
+          rw (own) (found_own kind sign.number (first + sign.len) f)
 
   -- no digit comes to stand behind a dot
   second_own : (d t : Bool) (s : List ℕ) (k : ℕ) → k ≤ length s → (d || (t && digit (get_or s 0 0))) ≡ false
@@ -118,7 +119,7 @@ module _ (x : ℕ) (v : List ℕ) (separates : (blank x || line_end x) ≡ true)
   second_kept false t (b ∷ s) (suc k) o h e = e
 
   module _ (e : Element) (first there : ℕ) (stated : Stated) (newline lined : Bool) where
-    pub from_own : (s : List ℕ) (k : ℕ) → k ≤ length s → e.end ≡ first + k → element_from stated newline first s ≡ Next.Found e
+    pub from_own : (s : List ℕ) (k : ℕ) → k ≤ length s → e.end ≡ first + k → element_from stated newline first s ≡ Ok (Some e)
         → element_from stated lined there (take k s ++ x ∷ v) ≡ moved there lined k e
     unfolding element_from
     from_own [] k h p f = absurd (let z : ◌≡◌ {A = ℕ} 0 1 = cc in omega arith)
@@ -137,7 +138,7 @@ module _ (x : ℕ) (v : List ℕ) (separates : (blank x || line_end x) ≡ true)
         let end = first + suc k in
         let ends = there + suc k in
         cond_follow (letter b) (named_own e first there (suc k) newline lined p (b ∷ s) stated.name)
-        (cond_known (λ z. z ≡ Next.Found e → numberOrOther ≡ moved there lined (suc k) e)
+        (cond_known (λ z. z ≡ Ok (Some e) → numberOrOther ≡ moved there lined (suc k) e)
         (starts_number (b ∷ s))
         (λ q g.
         let l = literal_ends e first there (suc k) newline lined p number_kind (number_from first (b ∷ s)) g in

@@ -1,4 +1,5 @@
 -- A delimiter that is found is one byte long, and `which` says which of the six it is.
+use Rattle.std.specs.Prelude.{Result, Ok, Err, Some, None, Option}
 use Rattle.signs.proofs.Laws.{longest_fits}
 use mathlib.Core.Path.{◌≡◌, refl}
 use mathlib.Core.List.{List, [], ◌∷◌}
@@ -12,30 +13,30 @@ use Rattle.text.specs.Bytes.{letter, name_byte}
 use Rattle.text.specs.Runs.{run, same}
 use Rattle.words.specs.Words.{word_number, taken}
 use Rattle.signs.specs.Signs.{longest_sign, longest_of}
-use Rattle.signs.specs.declared.Longest.{Longest}
+use Rattle.signs.specs.declared.Sign.{Sign}
 use Rattle.vocabulary.specs.Vocabulary.{spelling, signs, row_at}
 use Rattle.vocabulary.proofs.RowLaws.{at_row}
 use Rattle.signs.proofs.Spellings.{longest_spelled}
+use Rattle.answers.specs.declared.faults.Fault.{Fault}
 use Rattle.gaps.specs.Gaps.{gap}
 use Rattle.numbers.specs.Numbers.{starts_number, number_from}
 use Rattle.literals.specs.Strings.{quote, string_rest}
 use Rattle.literals.specs.Patterns.{pattern_rest}
 use Rattle.elements.specs.Elements.{literal_element, named, delimiter, sign_or_stray, element_from, after_gap, element_at, delimiter_kind, number_kind, string_kind, pattern_kind, sign_kind}
 use Rattle.gaps.specs.declared.Gap.{Gap}
-use Rattle.answers.specs.declared.Literal.{Literal}
 use Rattle.elements.specs.declared.Element.{Element}
-use Rattle.elements.specs.declared.Next.{Next}
+use Rattle.elements.specs.Elements.{Next}
 use Rattle.elements.specs.declared.Stated.{Stated}
 use Rattle.elements.proofs.Choices.{cond_both}
 
 abbrev OneByte : Next → Type 0
-OneByte Next.End = Unit {0}
-OneByte (Next.Found e) = e.kind ≡ delimiter_kind → (e.end ≡ e.first + 1) × (delimiter e.which ≡ true)
-OneByte (Next.Fault number at) = Unit {0}
+OneByte (Ok None) = Unit {0}
+OneByte (Ok (Some e)) = e.kind ≡ delimiter_kind → (e.end ≡ e.first + 1) × (delimiter e.which ≡ true)
+OneByte (Err fault) = Unit {0}
 
-literal_byte : (kind : ℕ) → 0 < kind → (newline : Bool) (first : ℕ) (l : Literal) → OneByte (literal_element kind newline first l)
-literal_byte kind h newline first (Literal.Ends end) = λ k. absurd (omega arith)
-literal_byte kind h newline first (Literal.Fault number place) = tt
+literal_byte : (kind : ℕ) → 0 < kind → (newline : Bool) (first : ℕ) (l : Result ℕ Fault) → OneByte (literal_element kind newline first l)
+literal_byte kind h newline first (Ok end) = λ k. absurd (omega arith)
+literal_byte kind h newline first (Err fault) = tt
 
 named_byte : (asName newline : Bool) (first : ℕ) (s : List ℕ) → OneByte (named asName newline first s)
 unfolding named
@@ -47,16 +48,16 @@ delimiter_short : (number : ℕ) → T (not (delimiter number) || leb (length (s
 unfolding delimiter longest_sign longest_of same
 delimiter_short number = at_row (λ n row. not (delimiter n) || leb (length (spelling row)) 1) signs tt number (rw (or-true (not (delimiter number))) tt)
 
-sign_byte : (newline : Bool) (first : ℕ) (s : List ℕ) (l : Longest) → longest_sign s ≡ l → OneByte (sign_or_stray newline first l)
-sign_byte newline first s Longest.None e = tt
-sign_byte newline first s (Longest.Sign number n) e =
+sign_byte : (newline : Bool) (first : ℕ) (s : List ℕ) (l : Option Sign) → longest_sign s ≡ l → OneByte (sign_or_stray newline first l)
+sign_byte newline first s None e = tt
+sign_byte newline first s (Some sign) e =
     λ k.
-    let is = only (delimiter number) refl k in
-    let long = (longest_spelled s number n e).long in
-    let short = leb→le (length (spelling (row_at signs number))) 1 (rw is at (delimiter_short number)) in
-    (omega (arith, (longest_fits s number n e).0), is)
+    let is = only (delimiter sign.number) refl k in
+    let long = (longest_spelled s sign e).long in
+    let short = leb→le (length (spelling (row_at signs sign.number))) 1 (rw is at (delimiter_short sign.number)) in
+    (omega (arith, (longest_fits s sign e).0), is)
   where
-    only : (b : Bool) → delimiter number ≡ b → cond b delimiter_kind sign_kind ≡ delimiter_kind → delimiter number ≡ true
+    only : (b : Bool) → delimiter sign.number ≡ b → cond b delimiter_kind sign_kind ≡ delimiter_kind → delimiter sign.number ≡ true
     only true d k = d
     only false d k = absurd (omega arith)
 
@@ -70,16 +71,16 @@ from_byte stated newline first (b ∷ s) =
     (cond_both OneByte (stated.pattern && eqb b (byte "/")) (literal_byte pattern_kind (omega arith) newline first (pattern_rest first false false (first + 1) s))
     (sign_byte newline first (b ∷ s) (longest_sign (b ∷ s)) refl))))
 
-after_byte : (s : List ℕ) (stated : Stated) (g : Gap) → OneByte (after_gap s stated g)
-after_byte s stated (Gap.Ends first newline) = from_byte stated newline first (drop first s)
-after_byte s stated (Gap.Fault number place) = tt
+after_byte : (s : List ℕ) (stated : Stated) (g : Result Gap Fault) → OneByte (after_gap s stated g)
+after_byte s stated (Ok g) = from_byte stated g.newline g.end (drop g.end s)
+after_byte s stated (Err fault) = tt
 
-found_delimiter : (s : List ℕ) (place : ℕ) (stated : Stated) (e : Element) → element_at s place stated ≡ Next.Found e
+found_delimiter : (s : List ℕ) (place : ℕ) (stated : Stated) (e : Element) → element_at s place stated ≡ Ok (Some e)
     → e.kind ≡ delimiter_kind → (e.end ≡ e.first + 1) × (delimiter e.which ≡ true)
 unfolding element_at
 found_delimiter s place stated e f = rw f at (after_byte s stated (gap place false (drop place s)))
 
-module _ (s : List ℕ) (place : ℕ) (stated : Stated) (e : Element) (f : element_at s place stated ≡ Next.Found e) (k : e.kind ≡ delimiter_kind) where
+module _ (s : List ℕ) (place : ℕ) (stated : Stated) (e : Element) (f : element_at s place stated ≡ Ok (Some e)) (k : e.kind ≡ delimiter_kind) where
   pub delimiter_byte : e.end ≡ e.first + 1
   delimiter_byte = (found_delimiter s place stated e f k).0
 

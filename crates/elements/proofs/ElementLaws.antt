@@ -1,4 +1,5 @@
 -- Laws of the element at a place: one for each kind of first byte.
+use Rattle.std.specs.Prelude.{Ok, Err, None, Option, Some}
 use mathlib.Core.Path.{◌≡◌, ap, ◌∙◌}
 use mathlib.Core.List.{List}
 use mathlib.Core.Bool.{Bool, true, false, ◌&&◌, ◌||◌}
@@ -14,8 +15,8 @@ use Rattle.text.specs.Runs.{run}
 use Rattle.text.proofs.Lists.{drop_at}
 use Rattle.words.specs.Words.{word_number, taken}
 use Rattle.signs.specs.Signs.{longest_sign}
-use Rattle.signs.specs.declared.Longest.{Longest}
-use Rattle.answers.specs.Faults.{stray, barred_word}
+use Rattle.signs.specs.declared.Sign.{Sign}
+use Rattle.answers.specs.declared.faults.Fault.{Fault}
 use Rattle.numbers.specs.Numbers.{number_from}
 use Rattle.literals.specs.Strings.{quote, string_rest}
 use Rattle.literals.specs.Patterns.{pattern_rest}
@@ -35,7 +36,6 @@ use Rattle.elements.specs.Elements.{
   sign_kind,
   delimiter_kind,
 }
-use Rattle.elements.specs.declared.Next.{Next}
 use Rattle.elements.specs.declared.Stated.{Stated}
 
 -- a name or word whose end and number are known
@@ -52,24 +52,24 @@ module _ (asName newline : Bool) (first end word : ℕ) (s : List ℕ) (e : end 
   pub named_word : (eqb word 0 || asName) ≡ false → taken word ≡ true → named asName newline first s ≡ element word_kind word newline first end
   named_word z t = known ∙ rw (z, t)
 
-  pub named_barred : (eqb word 0 || asName) ≡ false → taken word ≡ false → named asName newline first s ≡ Next.Fault barred_word first
+  pub named_barred : (eqb word 0 || asName) ≡ false → taken word ≡ false → named asName newline first s ≡ Err (Fault.BarredWord first)
   named_barred z t = known ∙ rw (z, t)
 
 -- a sign that is known
-module _ (newline : Bool) (first : ℕ) (l : Longest) where
-  pub sign_stray : l ≡ Longest.None → sign_or_stray newline first l ≡ Next.Fault stray first
+module _ (newline : Bool) (first : ℕ) (l : Option Sign) where
+  pub sign_stray : l ≡ None → sign_or_stray newline first l ≡ Err (Fault.Stray first)
   sign_stray e = ap (sign_or_stray newline first) e
 
-  module _ (number n : ℕ) (e : l ≡ Longest.Sign number n) where
-    pub sign_delimiter : delimiter number ≡ true → sign_or_stray newline first l ≡ element delimiter_kind number newline first (first + n)
+  module _ (sign : Sign) (e : l ≡ Some sign) where
+    pub sign_delimiter : delimiter sign.number ≡ true → sign_or_stray newline first l ≡ element delimiter_kind sign.number newline first (first + sign.len)
     sign_delimiter d = ap (sign_or_stray newline first) e ∙ rw d
 
-    pub sign_other : delimiter number ≡ false → sign_or_stray newline first l ≡ element sign_kind number newline first (first + n)
+    pub sign_other : delimiter sign.number ≡ false → sign_or_stray newline first l ≡ element sign_kind sign.number newline first (first + sign.len)
     sign_other d = ap (sign_or_stray newline first) e ∙ rw d
 
 -- the element whose first byte stands at i
 module _ (stated : Stated) (newline : Bool) (s : List ℕ) (i : ℕ) where
-  pub from_past : length s ≤ i → element_from stated newline i (drop i s) ≡ Next.End
+  pub from_past : length s ≤ i → element_from stated newline i (drop i s) ≡ Ok None
   unfolding element_from
   from_past h = rw (drop_of_length-le s h)
 

@@ -1,4 +1,5 @@
 -- Where gaps and literals end and where their faults lie: not before the place that they start from, and within the text.
+use Rattle.std.specs.Prelude.{Result, Ok, Err}
 use mathlib.Core.Path.{◌≡◌, refl}
 use mathlib.Core.List.{List, [], ◌∷◌}
 use mathlib.Core.Bool.{Bool, true, false, not, ◌&&◌, ◌||◌}
@@ -9,14 +10,14 @@ use lib.ListN.{length, get_or}
 use Rattle.text.specs.Quoted.{byte}
 use Rattle.text.specs.Bytes.{blank, line_end, illegal, digit, name_byte}
 use Rattle.text.proofs.Laws.{run_le}
-use Rattle.answers.specs.Faults.{open_string, open_pattern, open_comment, bad_number}
-use Rattle.gaps.specs.Gaps.{gap, after_slash, in_line, in_block}
+use Rattle.answers.specs.Faults.{open_string, open_pattern, open_comment, bad_number, fault_number, fault_place}
+use Rattle.answers.specs.declared.faults.Fault.{Fault}
+use Rattle.gaps.specs.Gaps.{ends, gap, after_slash, in_line, in_block}
 use Rattle.numbers.specs.Numbers.{number_length, number_from}
 use Rattle.numbers.proofs.NumberLaws.{number_some, number_within}
 use Rattle.literals.specs.Strings.{string_rest, backslash}
 use Rattle.literals.specs.Patterns.{pattern_rest}
 use Rattle.gaps.specs.declared.Gap.{Gap}
-use Rattle.answers.specs.declared.Literal.{Literal}
 use Rattle.elements.proofs.Choices.{cond_both}
 
 -- a fault from lo to before hi, whose number is one of elements or comments, up to `last`
@@ -27,9 +28,9 @@ pub record Faulted (last lo hi number at : ℕ) : Type 0 where
   pub most : number ≤ last
 
 -- a gap that ends from i to hi, or has its fault from lo to before hi
-abbrev pub GapIn : ℕ → ℕ → ℕ → Gap → Type 0
-GapIn lo i hi (Gap.Ends first newline) = (i ≤ first) × (first ≤ hi)
-GapIn lo i hi (Gap.Fault number at) = Faulted open_comment lo hi number at
+abbrev pub GapIn : ℕ → ℕ → ℕ → Result Gap Fault → Type 0
+GapIn lo i hi (Ok g) = (i ≤ g.end) × (g.end ≤ hi)
+GapIn lo i hi (Err fault) = Faulted open_comment lo hi (fault_number fault) (fault_place fault)
 
 module _ (lo low hi : ℕ) (l : lo ≤ low) where
   mutual
@@ -72,28 +73,28 @@ module _ (lo low hi : ℕ) (l : lo ≤ low) where
 
 -- no gap or comment ends before it starts
 module _ (s : List ℕ) (i first : ℕ) (newline m : Bool) where
-  pub gap_reach : gap i newline s ≡ Gap.Ends first m → i ≤ first
+  pub gap_reach : gap i newline s ≡ ends first m → i ≤ first
   gap_reach e =
-      let p : GapIn i i (i + length s) (Gap.Ends first m) =
+      let p : GapIn i i (i + length s) (ends first m) =
       rw e at (gap_in i i (i + length s) (omega arith) s i newline (omega arith) refl) in
       p.0
 
-  pub newline_reach : in_line i newline s ≡ Gap.Ends first m → i ≤ first
+  pub newline_reach : in_line i newline s ≡ ends first m → i ≤ first
   newline_reach e =
-      let p : GapIn i i (i + length s) (Gap.Ends first m) =
+      let p : GapIn i i (i + length s) (ends first m) =
       rw e at (newline_in i i (i + length s) (omega arith) s i newline (omega arith) refl) in
       p.0
 
-  pub block_reach : (slash : ℕ) (star : Bool) → slash < i → in_block slash i newline star s ≡ Gap.Ends first m → i ≤ first
+  pub block_reach : (slash : ℕ) (star : Bool) → slash < i → in_block slash i newline star s ≡ ends first m → i ≤ first
   block_reach slash star h e =
-      let p : GapIn 0 i (i + length s) (Gap.Ends first m) =
+      let p : GapIn 0 i (i + length s) (ends first m) =
       rw e at (block_in 0 i (i + length s) (omega arith) s slash i newline star (omega arith) h (omega arith) refl) in
       p.0
 
 -- a literal that ends past i and within hi, or has its fault, whose number is up to `last`, from lo to before hi
-abbrev pub LiteralIn : ℕ → ℕ → ℕ → ℕ → Literal → Type 0
-LiteralIn last lo i hi (Literal.Ends end) = (i < end) × (end ≤ hi)
-LiteralIn last lo i hi (Literal.Fault number at) = Faulted last lo hi number at
+abbrev pub LiteralIn : ℕ → ℕ → ℕ → ℕ → Result ℕ Fault → Type 0
+LiteralIn last lo i hi (Ok end) = (i < end) × (end ≤ hi)
+LiteralIn last lo i hi (Err fault) = Faulted last lo hi (fault_number fault) (fault_place fault)
 
 module _ (first low hi : ℕ) (l : first < low) where
   pub string_in : (s : List ℕ) (q i : ℕ) (taken : Bool) → low ≤ i → i + length s ≡ hi → LiteralIn open_string first low hi (string_rest q first taken i s)
@@ -123,15 +124,15 @@ module _ (first low hi : ℕ) (l : first < low) where
 
 -- a string or a regular expression has a byte behind its first
 module _ (s : List ℕ) (first i end : ℕ) (h : first < i) where
-  pub string_reach : (q : ℕ) (taken : Bool) → string_rest q first taken i s ≡ Literal.Ends end → i < end
+  pub string_reach : (q : ℕ) (taken : Bool) → string_rest q first taken i s ≡ Ok end → i < end
   string_reach q taken e =
-      let p : LiteralIn open_string first i (i + length s) (Literal.Ends end) =
+      let p : LiteralIn open_string first i (i + length s) (Ok end) =
       rw e at (string_in first i (i + length s) h s q i taken (omega arith) refl) in
       p.0
 
-  pub pattern_reach : (class taken : Bool) → pattern_rest first class taken i s ≡ Literal.Ends end → i < end
+  pub pattern_reach : (class taken : Bool) → pattern_rest first class taken i s ≡ Ok end → i < end
   pattern_reach class taken e =
-      let p : LiteralIn open_pattern first i (i + length s) (Literal.Ends end) =
+      let p : LiteralIn open_pattern first i (i + length s) (Ok end) =
       rw e at (pattern_in first i (i + length s) h s i class taken (omega arith) refl) in
       p.0
 

@@ -1,4 +1,5 @@
 -- The numbers that are found in a text, and the refusals with 6, by the grammar of ES5.1 section 7.8.3.
+use Rattle.std.specs.Prelude.{Result, Ok, Err, Some, None, Option}
 use mathlib.Core.Path.{◌≡◌, refl}
 use mathlib.Core.List.{List, [], ◌∷◌}
 use mathlib.Core.Bool.{Bool, true, false, ◌&&◌, ◌||◌}
@@ -11,8 +12,9 @@ use Rattle.text.specs.Quoted.{byte}
 use Rattle.text.specs.Bytes.{letter, name_byte}
 use Rattle.words.specs.Words.{taken}
 use Rattle.signs.specs.Signs.{longest_sign}
-use Rattle.signs.specs.declared.Longest.{Longest}
-use Rattle.answers.specs.Faults.{open_string, open_pattern, bad_number}
+use Rattle.signs.specs.declared.Sign.{Sign}
+use Rattle.answers.specs.Faults.{open_string, open_pattern, bad_number, fault_number, fault_place}
+use Rattle.answers.specs.declared.faults.Fault.{Fault}
 use Rattle.gaps.specs.Gaps.{gap}
 use Rattle.numbers.specs.Numbers.{starts_number, number_length, number_from}
 use Rattle.numbers.specs.NumericLiterals.{NumericLiteral}
@@ -35,9 +37,8 @@ use Rattle.elements.specs.Elements.{
 }
 use Rattle.elements.specs.Lexemes.{bytes_of, lexeme_of}
 use Rattle.gaps.specs.declared.Gap.{Gap}
-use Rattle.answers.specs.declared.Literal.{Literal}
 use Rattle.elements.specs.declared.Element.{Element}
-use Rattle.elements.specs.declared.Next.{Next}
+use Rattle.elements.specs.Elements.{Next}
 use Rattle.elements.specs.declared.Stated.{Stated}
 use Rattle.elements.proofs.Choices.{cond_both, cond_known}
 use Rattle.elements.proofs.Extents.{GapIn, gap_in, LiteralIn, string_in, pattern_in}
@@ -59,14 +60,14 @@ pub record RefusesNumber (s : List ℕ) (at : ℕ) : Type 0 where
 
 -- both, of what is met
 abbrev NextNumber : List ℕ → Next → Type 0
-NextNumber s Next.End = Unit {0}
-NextNumber s (Next.Found e) = e.kind ≡ number_kind → CutsNumber s e
-NextNumber s (Next.Fault number at) = number ≡ bad_number → RefusesNumber s at
+NextNumber s (Ok None) = Unit {0}
+NextNumber s (Ok (Some e)) = e.kind ≡ number_kind → CutsNumber s e
+NextNumber s (Err fault) = fault_number fault ≡ bad_number → RefusesNumber s (fault_place fault)
 
 module _ (s : List ℕ) (newline : Bool) (first : ℕ) where
-  number_next : starts_number (drop first s) ≡ true → (l : Literal)
+  number_next : starts_number (drop first s) ≡ true → (l : Result ℕ Fault)
       → CutBy (name_byte (get_or (drop first s) (number_length (drop first s)) 0)) first (drop first s) l → NextNumber s (literal_element number_kind newline first l)
-  number_next starts (Literal.Ends end) (follows, ends) = λ k.
+  number_next starts (Ok end) (follows, ends) = λ k.
       let rest = drop first s in
       let n = number_length rest in
       let whole : end - first ≡ n = omega arith in
@@ -75,15 +76,15 @@ module _ (s : List ℕ) (newline : Bool) (first : ℕ) where
         longest = λ later h p. omega (arith, number_longest rest (later - first) (omega (arith, length-drop first s)) p);
         apart = rw (ends, ← get_or-drop first s n 0) follows;
       }
-  number_next starts (Literal.Fault number at) (follows, is, here) = λ k.
+  number_next starts (Err fault) (follows, is) = λ k.
       let n = number_length (drop first s) in
-      rw here (record { starts = starts; literal = number_literal (drop first s) starts; followed = rw (← get_or-drop first s n 0) follows })
+      rw is (record { starts = starts; literal = number_literal (drop first s) starts; followed = rw (← get_or-drop first s n 0) follows })
 
   -- strings and regular expressions: their faults have numbers before 6
-  other_literal : (kind last low hi : ℕ) → (kind ≡ number_kind → ⊥) → last ≤ open_pattern → (l : Literal) → LiteralIn last first low hi l
+  other_literal : (kind last low hi : ℕ) → (kind ≡ number_kind → ⊥) → last ≤ open_pattern → (l : Result ℕ Fault) → LiteralIn last first low hi l
       → NextNumber s (literal_element kind newline first l)
-  other_literal kind last low hi n m (Literal.Ends end) p = λ k. absurd (n k)
-  other_literal kind last low hi n m (Literal.Fault number at) p = λ k. absurd (omega arith)
+  other_literal kind last low hi n m (Ok end) p = λ k. absurd (n k)
+  other_literal kind last low hi n m (Err fault) p = λ k. absurd (omega arith)
 
   named_next : (asName : Bool) (t : List ℕ) → NextNumber s (named asName newline first t)
   unfolding named
@@ -91,9 +92,9 @@ module _ (s : List ℕ) (newline : Bool) (first : ℕ) where
       cond_both (NextNumber s) (eqb (first_word t) 0 || asName) (λ k. absurd (omega arith))
       (cond_both (NextNumber s) (taken (first_word t)) (λ k. absurd (omega arith)) (λ k. absurd (omega arith)))
 
-  sign_next : (l : Longest) → NextNumber s (sign_or_stray newline first l)
-  sign_next Longest.None = λ k. absurd (omega arith)
-  sign_next (Longest.Sign number n) = λ k. absurd (cond_both (λ kind. kind ≡ number_kind → ⊥) (delimiter number) (λ k. omega arith) (λ k. omega arith) k)
+  sign_next : (l : Option Sign) → NextNumber s (sign_or_stray newline first l)
+  sign_next None = λ k. absurd (omega arith)
+  sign_next (Some sign) = λ k. absurd (cond_both (λ kind. kind ≡ number_kind → ⊥) (delimiter sign.number) (λ k. omega arith) (λ k. omega arith) k)
 
   from_next : (stated : Stated) (t : List ℕ) → drop first s ≡ t → NextNumber s (element_from stated newline first t)
   unfolding element_from
@@ -115,9 +116,9 @@ module _ (s : List ℕ) (newline : Bool) (first : ℕ) where
 
 module _ (s : List ℕ) (place : ℕ) (stated : Stated) where
   -- so have those of comments
-  after_next : (hi : ℕ) (g : Gap) → GapIn place place hi g → NextNumber s (after_gap s stated g)
-  after_next hi (Gap.Ends first newline) p = from_next s newline first stated (drop first s) refl
-  after_next hi (Gap.Fault number at) p = λ k. absurd (omega arith)
+  after_next : (hi : ℕ) (g : Result Gap Fault) → GapIn place place hi g → NextNumber s (after_gap s stated g)
+  after_next hi (Ok g) p = from_next s g.newline g.end stated (drop g.end s) refl
+  after_next hi (Err fault) p = λ k. absurd (omega arith)
 
   at_next : NextNumber s (element_at s place stated)
   unfolding element_at
@@ -127,9 +128,9 @@ module _ (s : List ℕ) (place : ℕ) (stated : Stated) where
       after_next hi (gap place false t) (gap_in place place hi (omega arith) t place false (omega arith) refl)
 
   -- a number that is found
-  pub number_found : (e : Element) → element_at s place stated ≡ Next.Found e → e.kind ≡ number_kind → CutsNumber s e
+  pub number_found : (e : Element) → element_at s place stated ≡ Ok (Some e) → e.kind ≡ number_kind → CutsNumber s e
   number_found e found = rw found at at_next
 
   -- a refusal with 6
-  pub number_refused : (at : ℕ) → element_at s place stated ≡ Next.Fault bad_number at → RefusesNumber s at
+  pub number_refused : (at : ℕ) → element_at s place stated ≡ Err (Fault.BadNumber at) → RefusesNumber s at
   number_refused at refused = (rw refused at at_next) refl

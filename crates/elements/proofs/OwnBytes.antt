@@ -1,5 +1,6 @@
 -- The bytes of an element determine it by themselves where a blank or a line end follows, and nothing past that byte
 -- matters to an element or to the gap before it.
+use Rattle.std.specs.Prelude.{Result, Ok, Err, Some}
 use mathlib.Core.Path.{◌≡◌, refl, sym, ap, ◌∙◌}
 use mathlib.Core.List.{List, [], ◌∷◌, ◌++◌, append_assoc}
 use mathlib.Core.Bool.{Bool, true, false, ◌&&◌, ◌||◌}
@@ -10,23 +11,23 @@ use lib.ListN.{length, take, drop, length-drop}
 use lib.Seq.{drop_at, drop-drop, drop-append_seam, take-add, length-take-le}
 use Rattle.text.specs.Quoted.{byte}
 use Rattle.text.specs.Bytes.{blank, line_end, illegal}
-use Rattle.gaps.specs.Gaps.{gap, after_slash, in_line, in_block}
+use Rattle.answers.specs.declared.faults.Fault.{Fault}
+use Rattle.gaps.specs.Gaps.{ends, gap, after_slash, in_line, in_block}
 use Rattle.elements.specs.Elements.{element, element_from, after_gap, element_at}
 use Rattle.gaps.specs.declared.Gap.{Gap}
 use Rattle.elements.specs.declared.Element.{Element}
-use Rattle.elements.specs.declared.Next.{Next}
 use Rattle.elements.specs.declared.Stated.{Stated}
 use Rattle.elements.proofs.Choices.{cond_both, cond_known}
-use Rattle.elements.proofs.Clashes.{no_element}
+use Rattle.elements.proofs.Clashes.{no_result}
 use Rattle.elements.proofs.Bounds.{Cut, from_in, Placed, found_placed}
 use Rattle.elements.proofs.Shifts.{gap_own}
 use Rattle.elements.proofs.Copies.{from_own}
 
 -- where a gap ends, no further gap starts
 module _ (text : List ℕ) where
-  abbrev Settled : Gap → Type 0
-  Settled (Gap.Ends first m) = (newline : Bool) → gap first newline (drop first text) ≡ Gap.Ends first newline
-  Settled (Gap.Fault number at) = Unit
+  abbrev Settled : Result Gap Fault → Type 0
+  Settled (Ok g) = (newline : Bool) → gap g.end newline (drop g.end text) ≡ ends g.end newline
+  Settled (Err fault) = Unit
 
   next : (b : ℕ) (s : List ℕ) (i n : ℕ) → n ≡ i + 1 → drop i text ≡ b ∷ s → drop n text ≡ s
   next b s i n p e = rw p (sym (drop-drop 1 i text) ∙ ap (drop 1) e)
@@ -72,35 +73,35 @@ cut_drop : (s w : List ℕ) (place k end : ℕ) → end ≡ place + k → place 
 cut_drop s w place k end p h =
     rw (p, take-add place k s, append_assoc) (drop_at (take place s) (take k (drop place s) ++ w) place (length-take-le place s h))
 
-module _ (s : List ℕ) (place : ℕ) (stated : Stated) (e : Element) (found : element_at s place stated ≡ Next.Found e) where
+module _ (s : List ℕ) (place : ℕ) (stated : Stated) (e : Element) (found : element_at s place stated ≡ Ok (Some e)) where
   -- the gap before an element, and the element behind it
-  pub found_gap : (gap place false (drop place s) ≡ Gap.Ends e.first e.newline)
-      × (element_from stated e.newline e.first (drop e.first s) ≡ Next.Found e)
+  pub found_gap : (gap place false (drop place s) ≡ ends e.first e.newline)
+      × (element_from stated e.newline e.first (drop e.first s) ≡ Ok (Some e))
   unfolding element_at
   found_gap = go (gap place false (drop place s)) refl found
     where
-      go : (g : Gap) → gap place false (drop place s) ≡ g → after_gap s stated g ≡ Next.Found e
-          → (gap place false (drop place s) ≡ Gap.Ends e.first e.newline)
-          × (element_from stated e.newline e.first (drop e.first s) ≡ Next.Found e)
-      go (Gap.Ends first newline) f a =
-          let hi = first + length (drop first s) in
-          let c : Cut newline first hi e = rw a at (from_in stated newline first hi (drop first s) refl) in
+      go : (g : Result Gap Fault) → gap place false (drop place s) ≡ g → after_gap s stated g ≡ Ok (Some e)
+          → (gap place false (drop place s) ≡ ends e.first e.newline)
+          × (element_from stated e.newline e.first (drop e.first s) ≡ Ok (Some e))
+      go (Ok g) f a =
+          let hi = g.end + length (drop g.end s) in
+          let c : Cut g.newline g.end hi e = rw a at (from_in stated g.newline g.end hi (drop g.end s) refl) in
           (rw (c.start, c.flag) f, rw (← c.start, ← c.flag) at a)
-      go (Gap.Fault number at) f a = no_element a
+      go (Err fault) f a = no_result a
 
   module _ (x : ℕ) (separates : (blank x || line_end x) ≡ true) where
     -- the element's bytes, moved behind u
     pub own_bytes : (u v : List ℕ)
         → element_at (u ++ (take (e.end - e.first) (drop e.first s) ++ (x ∷ v))) (length u) stated
-        ≡ Next.Found (record { kind = e.kind; which = e.which; first = length u; end = length u + (e.end - e.first); newline = false })
+        ≡ Ok (Some (record { kind = e.kind; which = e.which; first = length u; end = length u + (e.end - e.first); newline = false }))
     unfolding element_at
     own_bytes u v =
         let p : Placed s place e = found_placed s place stated e found in
         let size = e.end - e.first in
         let rest = drop e.first s in
         let fits : size ≤ length rest = omega (arith, length-drop e.first s) in
-        let settled : Settled s (Gap.Ends e.first e.newline) = rw found_gap.0 at (gap_settled s (drop place s) place false refl) in
-        let empty : gap (length u) false (take size rest ++ x ∷ v) ≡ Gap.Ends (length u) false =
+        let settled : Settled s (ends e.first e.newline) = rw found_gap.0 at (gap_settled s (drop place s) place false refl) in
+        let empty : gap (length u) false (take size rest ++ x ∷ v) ≡ ends (length u) false =
         gap_own x v separates e.first (length u) false rest size e.first (length u) false
         (omega arith) (omega arith) fits (settled false) in
         rw (drop-append_seam u (take size rest ++ x ∷ v), empty)
@@ -108,7 +109,7 @@ module _ (s : List ℕ) (place : ℕ) (stated : Stated) (e : Element) (found : e
         (from_own x v separates e e.first (length u) stated e.newline false rest size fits (omega arith) found_gap.1))
 
     -- the text up to the element's end, comments before the element included
-    pub prefix_only : (v : List ℕ) → element_at (take e.end s ++ (x ∷ v)) place stated ≡ Next.Found e
+    pub prefix_only : (v : List ℕ) → element_at (take e.end s ++ (x ∷ v)) place stated ≡ Ok (Some e)
     unfolding element_at
     prefix_only v =
         let p : Placed s place e = found_placed s place stated e found in
@@ -116,11 +117,11 @@ module _ (s : List ℕ) (place : ℕ) (stated : Stated) (e : Element) (found : e
         let span = e.end - place in
         let rest = drop e.first s in
         let fits : size ≤ length rest = omega (arith, length-drop e.first s) in
-        let before : gap place false (take span (drop place s) ++ x ∷ v) ≡ Gap.Ends e.first e.newline =
+        let before : gap place false (take span (drop place s) ++ x ∷ v) ≡ ends e.first e.newline =
         gap_own x v separates e.first e.first e.newline (drop place s) span place place false
         refl (omega arith) (omega (arith, length-drop place s)) found_gap.0 in
-        let ends : e.first + size ≡ e.end = omega arith in
+        let last : e.first + size ≡ e.end = omega arith in
         rw (cut_drop s (x ∷ v) place span e.end (omega arith) (omega arith), before)
         (rw (cut_drop s (x ∷ v) e.first size e.end (omega arith) (omega arith))
         (from_own x v separates e e.first e.first stated e.newline e.newline rest size fits (omega arith) found_gap.1
-        ∙ ap (element e.kind e.which e.newline e.first) ends))
+        ∙ ap (element e.kind e.which e.newline e.first) last))

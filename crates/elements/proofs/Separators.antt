@@ -1,4 +1,5 @@
 -- What a blank or a line end in front of an element does: the first nothing, the second sets the element's newline flag.
+use Rattle.std.specs.Prelude.{Result, Ok, Err, Some, None, Option}
 use mathlib.Core.Path.{◌≡◌, refl}
 use mathlib.Core.List.{List, [], ◌∷◌, ◌++◌}
 use mathlib.Core.Bool.{Bool, true, false, ◌&&◌, ◌||◌}
@@ -12,8 +13,9 @@ use Rattle.text.specs.Bytes.{blank, line_end, illegal, letter, name_byte}
 use Rattle.text.specs.Runs.{run}
 use Rattle.words.specs.Words.{word_number, taken}
 use Rattle.signs.specs.Signs.{longest_sign}
-use Rattle.signs.specs.declared.Longest.{Longest}
-use Rattle.gaps.specs.Gaps.{gap, after_slash, in_line, in_block}
+use Rattle.signs.specs.declared.Sign.{Sign}
+use Rattle.answers.specs.declared.faults.Fault.{Fault}
+use Rattle.gaps.specs.Gaps.{ends, gap, after_slash, in_line, in_block}
 use Rattle.numbers.specs.Numbers.{starts_number, number_from}
 use Rattle.literals.specs.Strings.{quote, string_rest}
 use Rattle.literals.specs.Patterns.{pattern_rest}
@@ -29,21 +31,20 @@ use Rattle.elements.specs.Elements.{
   pattern_kind,
 }
 use Rattle.gaps.specs.declared.Gap.{Gap}
-use Rattle.answers.specs.declared.Literal.{Literal}
-use Rattle.elements.specs.declared.Next.{Next}
+use Rattle.elements.specs.Elements.{Next}
 use Rattle.elements.specs.declared.Stated.{Stated}
 use Rattle.elements.proofs.Choices.{cond_map}
 use Rattle.gaps.proofs.GapLaws.{gap_blank, gap_line_end}
 
 -- an answer whose element, if it has one, stands behind a line end
 abbrev pub lined : Next → Next
-lined Next.End = Next.End
-lined (Next.Found e) = Next.Found (record { kind = e.kind; which = e.which; first = e.first; end = e.end; newline = true })
-lined (Next.Fault number at) = Next.Fault number at
+lined (Ok None) = Ok None
+lined (Ok (Some e)) = Ok (Some (record { kind = e.kind; which = e.which; first = e.first; end = e.end; newline = true }))
+lined (Err fault) = Err fault
 
-abbrev lined_gap : Gap → Gap
-lined_gap (Gap.Ends first newline) = Gap.Ends first true
-lined_gap (Gap.Fault number at) = Gap.Fault number at
+abbrev lined_gap : Result Gap Fault → Result Gap Fault
+lined_gap (Ok g) = ends g.end true
+lined_gap (Err fault) = Err fault
 
 -- a line end before a gap is one in it, and decides nothing else
 mutual
@@ -77,9 +78,9 @@ mutual
 
 -- the element does not depend on it otherwise
 module _ (newline : Bool) (first : ℕ) where
-  literal_lined : (kind : ℕ) (l : Literal) → literal_element kind true first l ≡ lined (literal_element kind newline first l)
-  literal_lined kind (Literal.Ends end) = refl
-  literal_lined kind (Literal.Fault number at) = refl
+  literal_lined : (kind : ℕ) (l : Result ℕ Fault) → literal_element kind true first l ≡ lined (literal_element kind newline first l)
+  literal_lined kind (Ok end) = refl
+  literal_lined kind (Err fault) = refl
 
   named_lined : (asName : Bool) (s : List ℕ) → named asName true first s ≡ lined (named asName newline first s)
   unfolding named
@@ -87,9 +88,9 @@ module _ (newline : Bool) (first : ℕ) where
       let word = word_number (take (run name_byte s) s) in
       cond_map lined (eqb word 0 || asName) refl (cond_map lined (taken word) refl refl)
 
-  sign_lined : (l : Longest) → sign_or_stray true first l ≡ lined (sign_or_stray newline first l)
-  sign_lined Longest.None = refl
-  sign_lined (Longest.Sign number n) = refl
+  sign_lined : (l : Option Sign) → sign_or_stray true first l ≡ lined (sign_or_stray newline first l)
+  sign_lined None = refl
+  sign_lined (Some sign) = refl
 
   from_lined : (stated : Stated) (s : List ℕ) → element_from stated true first s ≡ lined (element_from stated newline first s)
   unfolding element_from
@@ -101,9 +102,9 @@ module _ (newline : Bool) (first : ℕ) where
       (cond_map lined (stated.pattern && eqb b (byte "/")) (literal_lined pattern_kind (pattern_rest first false false (first + 1) s))
       (sign_lined (longest_sign (b ∷ s))))))
 
-after_lined : (s : List ℕ) (stated : Stated) (g : Gap) → after_gap s stated (lined_gap g) ≡ lined (after_gap s stated g)
-after_lined s stated (Gap.Ends first newline) = from_lined newline first stated (drop first s)
-after_lined s stated (Gap.Fault number at) = refl
+after_lined : (s : List ℕ) (stated : Stated) (g : Result Gap Fault) → after_gap s stated (lined_gap g) ≡ lined (after_gap s stated g)
+after_lined s stated (Ok g) = from_lined g.newline g.end stated (drop g.end s)
+after_lined s stated (Err fault) = refl
 
 module _ (s : List ℕ) (place : ℕ) (stated : Stated) (h : place < length s) where
   pub blank_skipped : blank (get_or s place 0) ≡ true → element_at s place stated ≡ element_at s (place + 1) stated

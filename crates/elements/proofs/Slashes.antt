@@ -1,5 +1,6 @@
 -- What the slash answer decides: nothing where no slash is met, and where one is met, between the sign `/` and a regular
 -- expression.
+use Rattle.std.specs.Prelude.{Result, Ok, Err, Some, None, Option}
 use mathlib.Core.Path.{◌≡◌, refl, sym, ap, ◌∙◌}
 use mathlib.Core.Logic.{◌⊎◌, inl, inr}
 use mathlib.Core.List.{List, [], ◌∷◌}
@@ -15,8 +16,9 @@ use Rattle.text.specs.Quoted.{byte}
 use Rattle.text.specs.Bytes.{letter, digit, name_byte}
 use Rattle.text.specs.Runs.{run, same}
 use Rattle.words.specs.Words.{word_number, taken}
-use Rattle.signs.specs.Signs.{longest_of, longest_sign}
-use Rattle.signs.specs.declared.Longest.{Longest}
+use Rattle.signs.specs.Signs.{found, longest_of, longest_sign}
+use Rattle.signs.specs.declared.Sign.{Sign}
+use Rattle.answers.specs.declared.faults.Fault.{Fault}
 use Rattle.gaps.specs.Gaps.{gap}
 use Rattle.numbers.specs.Numbers.{starts_number, number_from}
 use Rattle.literals.specs.Strings.{quote, string_rest}
@@ -39,20 +41,19 @@ use Rattle.elements.specs.Elements.{
   sign_kind,
 }
 use Rattle.gaps.specs.declared.Gap.{Gap}
-use Rattle.answers.specs.declared.Literal.{Literal}
 use Rattle.elements.specs.declared.Element.{Element}
-use Rattle.elements.specs.declared.Next.{Next}
+use Rattle.elements.specs.Elements.{Next}
 use Rattle.elements.specs.declared.Stated.{Stated}
 use Rattle.elements.proofs.Choices.{cond_both, cond_known}
-use Rattle.elements.proofs.Clashes.{no_element}
+use Rattle.elements.proofs.Clashes.{no_result}
 
 -- the longest sign that starts with a slash
-longest_slash : (s : List ℕ) → longest_sign (byte "/" ∷ s) ≡ cond (eqb (get_or s 0 0) (byte "=")) (Longest.Sign 48 2) (Longest.Sign 47 1)
+longest_slash : (s : List ℕ) → longest_sign (byte "/" ∷ s) ≡ cond (eqb (get_or s 0 0) (byte "=")) (found 48 2) (found 47 1)
 unfolding longest_sign longest_of same
 longest_slash [] = refl
 longest_slash (b ∷ s) = go (eqb b (byte "=")) refl
   where
-    go : (t : Bool) → eqb b (byte "=") ≡ t → longest_sign (byte "/" ∷ b ∷ s) ≡ cond t (Longest.Sign 48 2) (Longest.Sign 47 1)
+    go : (t : Bool) → eqb b (byte "=") ≡ t → longest_sign (byte "/" ∷ b ∷ s) ≡ cond t (found 48 2) (found 47 1)
     go true e = rw (eqb-true b (byte "=") e)
     go false e = rw (ne_eqb (byte "=") b (λ f. eqb-false b (byte "=") e (sym f)))
 
@@ -78,21 +79,21 @@ module _ (name newline : Bool) (first : ℕ) where
   unfolding element_from letter digit quote
   from_divided s = rw (longest_slash s) (go (eqb (get_or s 0 0) (byte "=")))
     where
-      go : (t : Bool) → sign_or_stray newline first (cond t (Longest.Sign 48 2) (Longest.Sign 47 1))
+      go : (t : Bool) → sign_or_stray newline first (cond t (found 48 2) (found 47 1))
           ≡ cond t (element sign_kind 48 newline first (first + 2)) (element sign_kind 47 newline first (first + 1))
       go true = rw slash_no_delimiter.1
       go false = rw slash_no_delimiter.0
 
 -- only a slash under the answer `true` gives a regular expression
 abbrev OpenedOnly : Bool → Next → Type 0
-OpenedOnly opens Next.End = Unit
-OpenedOnly opens (Next.Found e) = e.kind ≡ pattern_kind → opens ≡ true
-OpenedOnly opens (Next.Fault number at) = Unit
+OpenedOnly opens (Ok None) = Unit
+OpenedOnly opens (Ok (Some e)) = e.kind ≡ pattern_kind → opens ≡ true
+OpenedOnly opens (Err fault) = Unit
 
 module _ (opens newline : Bool) (first : ℕ) where
-  literal_only : (kind : ℕ) → (kind ≡ pattern_kind → opens ≡ true) → (l : Literal) → OpenedOnly opens (literal_element kind newline first l)
-  literal_only kind k (Literal.Ends end) = k
-  literal_only kind k (Literal.Fault number at) = tt
+  literal_only : (kind : ℕ) → (kind ≡ pattern_kind → opens ≡ true) → (l : Result ℕ Fault) → OpenedOnly opens (literal_element kind newline first l)
+  literal_only kind k (Ok end) = k
+  literal_only kind k (Err fault) = tt
 
   named_only : (asName : Bool) (s : List ℕ) → OpenedOnly opens (named asName newline first s)
   unfolding named
@@ -101,10 +102,10 @@ module _ (opens newline : Bool) (first : ℕ) where
       cond_both (OpenedOnly opens) (eqb word 0 || asName) (λ k. absurd (omega arith))
       (cond_both (OpenedOnly opens) (taken word) (λ k. absurd (omega arith)) tt)
 
-  sign_only : (l : Longest) → OpenedOnly opens (sign_or_stray newline first l)
-  sign_only Longest.None = tt
-  sign_only (Longest.Sign number n) =
-      cond_both (λ (kind : ℕ). kind ≡ pattern_kind → opens ≡ true) (delimiter number) (λ k. absurd (omega arith)) (λ k. absurd (omega arith))
+  sign_only : (l : Option Sign) → OpenedOnly opens (sign_or_stray newline first l)
+  sign_only None = tt
+  sign_only (Some sign) =
+      cond_both (λ (kind : ℕ). kind ≡ pattern_kind → opens ≡ true) (delimiter sign.number) (λ k. absurd (omega arith)) (λ k. absurd (omega arith))
 
 from_only : (stated : Stated) (newline : Bool) (first : ℕ) (s : List ℕ)
     → OpenedOnly (stated.pattern && eqb (get_or s 0 0) (byte "/")) (element_from stated newline first s)
@@ -139,19 +140,19 @@ pub record Divide (e : Element) : Type 0 where
 
 -- a slash that divides is a sign
 abbrev pub Divided : Next → Type 0
-Divided Next.End = ⊥
-Divided (Next.Found e) = Divide e
-Divided (Next.Fault number at) = ⊥
+Divided (Ok None) = ⊥
+Divided (Ok (Some e)) = Divide e
+Divided (Err fault) = ⊥
 
 -- a slash that opens: a regular expression, or its fault
 abbrev pub Opened : Next → Type 0
-Opened Next.End = ⊥
-Opened (Next.Found e) = e.kind ≡ pattern_kind
-Opened (Next.Fault number at) = Unit
+Opened (Ok None) = ⊥
+Opened (Ok (Some e)) = e.kind ≡ pattern_kind
+Opened (Err fault) = Unit
 
-literal_opened : (newline : Bool) (first : ℕ) (l : Literal) → Opened (literal_element pattern_kind newline first l)
-literal_opened newline first (Literal.Ends end) = refl
-literal_opened newline first (Literal.Fault number at) = tt
+literal_opened : (newline : Bool) (first : ℕ) (l : Result ℕ Fault) → Opened (literal_element pattern_kind newline first l)
+literal_opened newline first (Ok end) = refl
+literal_opened newline first (Err fault) = tt
 
 module _ (s : List ℕ) (place : ℕ) where
   -- where no slash is met, the answer does not matter
@@ -159,35 +160,35 @@ module _ (s : List ℕ) (place : ℕ) where
   unfolding element_at slash_met
   either_slash name = go (gap place false (drop place s))
     where
-      go : (g : Gap) → slash_after s g ≡ false → after_gap s (stating true name) g ≡ after_gap s (stating false name) g
-      go (Gap.Ends first newline) e = from_either name newline first (drop first s) (rw (byte_at s first) e)
-      go (Gap.Fault number at) e = refl
+      go : (g : Result Gap Fault) → slash_after s g ≡ false → after_gap s (stating true name) g ≡ after_gap s (stating false name) g
+      go (Ok g) e = from_either name g.newline g.end (drop g.end s) (rw (byte_at s g.end) e)
+      go (Err fault) e = refl
 
   -- where one is met, it is a sign or a regular expression
   pub slash_divides : (name : Bool) → slash_met s place ≡ true → Divided (element_at s place (stating false name))
   unfolding element_at slash_met
   slash_divides name = go (gap place false (drop place s))
     where
-      go : (g : Gap) → slash_after s g ≡ true → Divided (after_gap s (stating false name) g)
-      go (Gap.Ends first newline) e =
-          rw (here s first e, from_divided name newline first (drop (first + 1) s), byte_at s (first + 1))
-          (cond_both Divided (eqb (get_or s (first + 1) 0) (byte "="))
+      go : (g : Result Gap Fault) → slash_after s g ≡ true → Divided (after_gap s (stating false name) g)
+      go (Ok g) e =
+          rw (here s g.end e, from_divided name g.newline g.end (drop (g.end + 1) s), byte_at s (g.end + 1))
+          (cond_both Divided (eqb (get_or s (g.end + 1) 0) (byte "="))
           (record { kind = refl; which = inr refl })
           (record { kind = refl; which = inl refl }))
-      go (Gap.Fault number at) e = absurd (false≢true e)
+      go (Err fault) e = absurd (false≢true e)
 
   pub slash-opens : (name : Bool) → slash_met s place ≡ true → Opened (element_at s place (stating true name))
   unfolding element_at slash_met
   slash-opens name = go (gap place false (drop place s))
     where
-      go : (g : Gap) → slash_after s g ≡ true → Opened (after_gap s (stating true name) g)
-      go (Gap.Ends first newline) e =
-          rw (here s first e, from_opened name newline first (drop (first + 1) s))
-          (literal_opened newline first (pattern_rest first false false (first + 1) (drop (first + 1) s)))
-      go (Gap.Fault number at) e = absurd (false≢true e)
+      go : (g : Result Gap Fault) → slash_after s g ≡ true → Opened (after_gap s (stating true name) g)
+      go (Ok g) e =
+          rw (here s g.end e, from_opened name g.newline g.end (drop (g.end + 1) s))
+          (literal_opened g.newline g.end (pattern_rest g.end false false (g.end + 1) (drop (g.end + 1) s)))
+      go (Err fault) e = absurd (false≢true e)
 
   -- a regular expression is found only there
-  pub pattern_slash : (stated : Stated) (e : Element) → element_at s place stated ≡ Next.Found e → e.kind ≡ pattern_kind
+  pub pattern_slash : (stated : Stated) (e : Element) → element_at s place stated ≡ Ok (Some e) → e.kind ≡ pattern_kind
       → (stated.pattern ≡ true) × (slash_met s place ≡ true)
   unfolding element_at slash_met
   pattern_slash stated e = go (gap place false (drop place s))
@@ -196,15 +197,15 @@ module _ (s : List ℕ) (place : ℕ) where
       both true b h = (refl, h)
       both false b h = absurd (false≢true h)
 
-      go : (g : Gap) → after_gap s stated g ≡ Next.Found e → e.kind ≡ pattern_kind → (stated.pattern ≡ true) × (slash_after s g ≡ true)
-      go (Gap.Ends first newline) f k =
-          both stated.pattern (eqb (get_or s first 0) (byte "/")) (rw (f, byte_at s first) at (from_only stated newline first (drop first s)) k)
-      go (Gap.Fault number at) f k = no_element f
+      go : (g : Result Gap Fault) → after_gap s stated g ≡ Ok (Some e) → e.kind ≡ pattern_kind → (stated.pattern ≡ true) × (slash_after s g ≡ true)
+      go (Ok g) f k =
+          both stated.pattern (eqb (get_or s g.end 0) (byte "/")) (rw (f, byte_at s g.end) at (from_only stated g.newline g.end (drop g.end s)) k)
+      go (Err fault) f k = no_result f
 
   -- the same, by what was found
   module _ (name : Bool) (met : slash_met s place ≡ true) where
-    pub divide_found : (e : Element) → element_at s place (stating false name) ≡ Next.Found e → Divide e
+    pub divide_found : (e : Element) → element_at s place (stating false name) ≡ Ok (Some e) → Divide e
     divide_found e f = rw f at (slash_divides name met)
 
-    pub pattern_found : (e : Element) → element_at s place (stating true name) ≡ Next.Found e → e.kind ≡ pattern_kind
+    pub pattern_found : (e : Element) → element_at s place (stating true name) ≡ Ok (Some e) → e.kind ≡ pattern_kind
     pattern_found e f = rw f at (slash-opens name met)

@@ -1,4 +1,5 @@
 -- The bytes of a reserved word or sign that is found are the spelling of its row, which is taken.
+use Rattle.std.specs.Prelude.{Result, Ok, Err, Some, None, Option}
 use Rattle.signs.proofs.Laws.{longest_fits}
 use mathlib.Core.Path.{◌≡◌, refl}
 use mathlib.Core.List.{List, [], ◌∷◌}
@@ -17,12 +18,12 @@ use Rattle.vocabulary.proofs.RowLaws.{each_taken, at_taken, at_row}
 use Rattle.words.specs.Words.{word_number, taken}
 use Rattle.words.proofs.Spellings.{word_spelled}
 use Rattle.signs.specs.Signs.{longest_sign}
-use Rattle.signs.specs.declared.Longest.{Longest}
+use Rattle.signs.specs.declared.Sign.{Sign}
 use Rattle.signs.proofs.Spellings.{longest_spelled}
+use Rattle.answers.specs.declared.faults.Fault.{Fault}
 use Rattle.numbers.specs.Numbers.{starts_number, number_from}
 use Rattle.literals.specs.Strings.{quote, string_rest}
 use Rattle.literals.specs.Patterns.{pattern_rest}
-use Rattle.answers.specs.declared.Literal.{Literal}
 use Rattle.elements.specs.Elements.{
   literal_element,
   named,
@@ -39,7 +40,7 @@ use Rattle.elements.specs.Elements.{
 }
 use Rattle.elements.specs.Lexemes.{lexeme_of}
 use Rattle.elements.specs.declared.Element.{Element}
-use Rattle.elements.specs.declared.Next.{Next}
+use Rattle.elements.specs.Elements.{Next}
 use Rattle.elements.specs.declared.Stated.{Stated}
 use Rattle.elements.proofs.Choices.{cond_both, cond_known}
 use Rattle.elements.proofs.Bounds.{found_placed}
@@ -58,9 +59,9 @@ record ElementSpelled (s : List ℕ) (e : Element) : Type 0 where
   apart : e.kind ≡ sign_kind → delimiter e.which ≡ false
 
 abbrev NextSpelled : List ℕ → Next → Type 0
-NextSpelled s Next.End = Unit {0}
-NextSpelled s (Next.Found e) = ElementSpelled s e
-NextSpelled s (Next.Fault number at) = Unit {0}
+NextSpelled s (Ok None) = Unit {0}
+NextSpelled s (Ok (Some e)) = ElementSpelled s e
+NextSpelled s (Err fault) = Unit {0}
 
 -- neither a word nor a sign
 other_spelled : (s : List ℕ) (e : Element) → (e.kind ≡ word_kind → ⊥) → (e.kind ≡ sign_kind → ⊥) → ElementSpelled s e
@@ -82,9 +83,9 @@ sign_taken number h =
     one false false e t = absurd t
 
 module _ (newline : Bool) (first : ℕ) (s : List ℕ) where
-  literal_spelled : (kind : ℕ) → (kind ≡ word_kind → ⊥) → (kind ≡ sign_kind → ⊥) → (l : Literal) → NextSpelled s (literal_element kind newline first l)
-  literal_spelled kind w g (Literal.Ends end) = other_spelled s _ w g
-  literal_spelled kind w g (Literal.Fault number place) = tt
+  literal_spelled : (kind : ℕ) → (kind ≡ word_kind → ⊥) → (kind ≡ sign_kind → ⊥) → (l : Result ℕ Fault) → NextSpelled s (literal_element kind newline first l)
+  literal_spelled kind w g (Ok end) = other_spelled s _ w g
+  literal_spelled kind w g (Err fault) = tt
 
   named_spelled : (asName : Bool) → NextSpelled s (named asName newline first s)
   unfolding named taken
@@ -101,15 +102,15 @@ module _ (newline : Bool) (first : ℕ) (s : List ℕ) where
       })
       (λ barred. tt)
 
-  sign_spelled : (l : Longest) → longest_sign s ≡ l → NextSpelled s (sign_or_stray newline first l)
-  sign_spelled Longest.None e = tt
-  sign_spelled (Longest.Sign number n) e =
-      let is = longest_spelled s number n e in
-      let whole : first + n - first ≡ n = omega arith in
+  sign_spelled : (l : Option Sign) → longest_sign s ≡ l → NextSpelled s (sign_or_stray newline first l)
+  sign_spelled None e = tt
+  sign_spelled (Some sign) e =
+      let is = longest_spelled s sign e in
+      let whole : first + sign.len - first ≡ sign.len = omega arith in
       record {
-        word = λ k. absurd (no_word (delimiter number) k);
-        sign = λ k. rw whole (record { spelled = is.own; taken = sign_taken number (rw (← is.long) (longest_fits s number n e).0) });
-        apart = λ k. no_delimiter (delimiter number) k;
+        word = λ k. absurd (no_word (delimiter sign.number) k);
+        sign = λ k. rw whole (record { spelled = is.own; taken = sign_taken sign.number (rw (← is.long) (longest_fits s sign e).0) });
+        apart = λ k. no_delimiter (delimiter sign.number) k;
       }
     where
       no_word : (d : Bool) → cond d delimiter_kind sign_kind ≡ word_kind → ⊥
@@ -136,7 +137,7 @@ from_spelled stated newline first (b ∷ t) =
 abbrev pub by_ends : (ℕ → ℕ → ℕ → ℕ → Bool) → ℕ → Row → Bool
 by_ends test number row = test (length (spelling row)) (get_or (spelling row) 0 0) (get_or (spelling row) (length (spelling row) - 1) 0) number
 
-module _ (s : List ℕ) (place : ℕ) (stated : Stated) (e : Element) (found : element_at s place stated ≡ Next.Found e) where
+module _ (s : List ℕ) (place : ℕ) (stated : Stated) (e : Element) (found : element_at s place stated ≡ Ok (Some e)) where
   found_spelled : ElementSpelled (drop e.first s) e
   found_spelled = rw (found_gap s place stated e found).1 at (from_spelled stated e.newline e.first (drop e.first s))
 

@@ -3,18 +3,17 @@
 
 ghost use Rattle.std.specs.Prelude.{◌≡◌, ◌&&◌, ◌||◌, ◌+◌, ◌<◌, eqb, length, drop, get_or};
 ghost use Rattle.text.specs.Bytes.{digit};
-ghost use Rattle.text.specs.Machinery.Codes.{byte_codes, code_of};
+ghost use Rattle.text.specs.Machinery.Codes.{code_of};
 ghost use Rattle.numbers.specs.Numbers.{number_from};
-ghost use Rattle.elements.specs.Elements.{number_kind, literal_element, named, delimiter, sign_or_stray, element_from, Finds};
+ghost use Rattle.elements.specs.Elements.{element, number_kind, literal_element, named, delimiter, sign_or_stray, element_from, Finds};
 ghost use Rattle.signs.specs.Signs.{longest_sign};
 
-use answers::Literal;
-use answers::faults::{BARRED_WORD, STRAY};
-use gaps::Gap;
+use answers::faults::Fault;
 use literals::{patterns, strings};
-use signs::Longest;
+use text::Codes;
 
-// The kinds of elements, as document 01 numbers those of its tree records. A delimiter's group has a kind of its own.
+// The kinds of elements, as document 01 numbers those of its tree records. A delimiter's group has a kind of its own. Numbers, and no enum: the
+// tables that are lent from C hold them, and the definitions of elements give them.
 pub const DELIMITER: u32 = 0;
 
 pub const NAME: u32 = 1;
@@ -48,33 +47,44 @@ pub struct Stated {
     pub name: bool,
 }
 
-// What a text has from a place on: no element any more, an element, or a fault's number and place.
-#[derive(Clone, Copy)]
-pub enum Next {
-    End,
-    Found(Element),
-    Fault(u32, usize),
+// An element, as what is next.
+fn found(
+    kind: u32,
+    which: u32,
+    first: usize,
+    end: usize,
+    newline: bool,
+) -> Result<Option<Element>, Fault>
+    ensures { result ≡ element kind which newline first end }
+{
+    Ok(Some(Element {
+        kind,
+        which,
+        first,
+        end,
+        newline,
+    }))
 }
 
 // A literal that was cut, as an element.
-fn literal_element(kind: u32, first: usize, newline: bool, cut: Literal) -> Next
+fn literal_element(
+    kind: u32,
+    first: usize,
+    newline: bool,
+    cut: Result<usize, Fault>,
+) -> Result<Option<Element>, Fault>
     ensures { result ≡ literal_element kind newline first cut }
 {
-    match cut {
-        Literal::Ends(end) => Next::Found(Element {
-            kind,
-            which: 0,
-            first,
-            end,
-            newline,
-        }),
-        Literal::Fault(number, place) => Next::Fault(number, place),
-    }
+    found(kind, 0, first, cut?, newline)
 }
 
 // The number at `first`.
-fn number_element(codes: &[u8], text: &[u8], first: usize, newline: bool) -> Next
-    requires { codes.now ≡ byte_codes }
+fn number_element(
+    codes: &Codes,
+    text: &[u8],
+    first: usize,
+    newline: bool,
+) -> Result<Option<Element>, Fault>
     ensures { result ≡ literal_element number_kind newline first (number_from first (drop first text.now)) }
 {
     literal_element(
@@ -86,90 +96,56 @@ fn number_element(codes: &[u8], text: &[u8], first: usize, newline: bool) -> Nex
 }
 
 // The name or reserved word at `first`, where reserved words are names or not.
-fn name_element(codes: &[u8], text: &[u8], first: usize, newline: bool, as_name: bool) -> Next
-    requires { (codes.now ≡ byte_codes) × (first < length text.now) }
+fn name_element(
+    codes: &Codes,
+    text: &[u8],
+    first: usize,
+    newline: bool,
+    as_name: bool,
+) -> Result<Option<Element>, Fault>
+    requires { first < length text.now }
     ensures { result ≡ named as_name newline first (drop first text.now) }
 {
     let end = runs::name_end(codes, text, first);
     let which = words::word_number(&text[first..end]);
-    if which == 0 {
-        return Next::Found(Element {
-            kind: NAME,
-            which,
-            first,
-            end,
-            newline,
-        });
-    }
-    if as_name {
-        return Next::Found(Element {
-            kind: NAME,
-            which,
-            first,
-            end,
-            newline,
-        });
+    if which == 0 || as_name {
+        return found(NAME, which, first, end, newline);
     }
     if words::is_taken(which) {
-        return Next::Found(Element {
-            kind: WORD,
-            which,
-            first,
-            end,
-            newline,
-        });
+        return found(WORD, which, first, end, newline);
     }
-    Next::Fault(BARRED_WORD, first)
+    Err(Fault::BarredWord(first))
 }
 
 // Whether the sign of a number is a delimiter.
 fn is_delimiter(sign: u32) -> bool
     ensures { result ≡ delimiter sign }
 {
-    if sign == signs::OPEN_BRACE {
-        return true;
-    }
-    if sign == signs::CLOSE_BRACE {
-        return true;
-    }
-    if sign == signs::OPEN_PAREN {
-        return true;
-    }
-    if sign == signs::CLOSE_PAREN {
-        return true;
-    }
-    if sign == signs::OPEN_BRACKET {
-        return true;
-    }
-    sign == signs::CLOSE_BRACKET
+    matches!(
+        sign,
+        signs::OPEN_BRACE
+            | signs::CLOSE_BRACE
+            | signs::OPEN_PAREN
+            | signs::CLOSE_PAREN
+            | signs::OPEN_BRACKET
+            | signs::CLOSE_BRACKET
+    )
 }
 
 // The sign or delimiter at `first`.
-fn sign_element(text: &[u8], first: usize, newline: bool) -> Next
+fn sign_element(text: &[u8], first: usize, newline: bool) -> Result<Option<Element>, Fault>
     requires { first < length text.now }
     ensures { result ≡ sign_or_stray newline first (longest_sign (drop first text.now)) }
 {
-    let longest = signs::sign_at(text, first);
-    let Longest::Sign(which, len) = longest else {
-        return Next::Fault(STRAY, first);
+    let Some(sign) = signs::sign_at(text, first) else {
+        return Err(Fault::Stray(first));
     };
-    let end = first + len;
-    if is_delimiter(which) {
-        return Next::Found(Element {
-            kind: DELIMITER,
-            which,
-            first,
-            end,
-            newline,
-        });
-    }
-    Next::Found(Element {
-        kind: SIGN,
-        which,
-        first,
-        end,
-        newline,
-    })
+    let kind = if is_delimiter(sign.number) {
+        DELIMITER
+    } else {
+        SIGN
+    };
+    found(kind, sign.number, first, first + sign.len, newline)
 }
 
 // The byte behind a place; 0 past the text's end.
@@ -181,47 +157,36 @@ fn byte_after(text: &[u8], at: usize) -> u8
 }
 
 // Whether the byte `b` at a place is a dot directly before a digit.
-fn is_dot_before_digit(codes: &[u8], text: &[u8], b: u8, at: usize) -> bool
-    requires { (codes.now ≡ byte_codes) × (at < length text.now) }
+fn is_dot_before_digit(codes: &Codes, text: &[u8], b: u8, at: usize) -> bool
+    requires { at < length text.now }
     ensures { result ≡ (eqb b 46 && digit (get_or text.now (at + 1) 0)) }
 {
-    if b != b'.' {
-        return false;
-    }
-    text::code(codes, byte_after(text, at)) == text::DIGIT
+    b == b'.' && codes.of(byte_after(text, at)) == text::DIGIT
 }
 
 // Whether a number starts with the byte `b` of a code at a place. One test for both forms: a scanner with two callers is not set into the reading loop.
-fn starts_number(codes: &[u8], text: &[u8], code: u8, b: u8, at: usize) -> bool
-    requires { (codes.now ≡ byte_codes) × (at < length text.now) × (code ≡ code_of b) }
+fn starts_number(codes: &Codes, text: &[u8], code: u8, b: u8, at: usize) -> bool
+    requires { (at < length text.now) × (code ≡ code_of b) }
     ensures { result ≡ (digit b || (eqb b 46 && digit (get_or text.now (at + 1) 0))) }
 {
-    if code == text::DIGIT {
-        return true;
-    }
-    is_dot_before_digit(codes, text, b, at)
-}
-
-// Whether the byte `b` is a slash that opens a regular expression.
-fn is_pattern_slash(b: u8, pattern: bool) -> bool
-    ensures { result ≡ (pattern && eqb b 47) }
-{
-    if pattern {
-        return b == b'/';
-    }
-    false
+    code == text::DIGIT || is_dot_before_digit(codes, text, b, at)
 }
 
 // The element at `first`, where no blank, line end or comment starts.
-fn element_from(codes: &[u8], text: &[u8], first: usize, newline: bool, stated: Stated) -> Next
-    requires { codes.now ≡ byte_codes }
+fn element_from(
+    codes: &Codes,
+    text: &[u8],
+    first: usize,
+    newline: bool,
+    stated: Stated,
+) -> Result<Option<Element>, Fault>
     ensures { result ≡ element_from stated newline first (drop first text.now) }
 {
     if text.len() <= first {
-        return Next::End;
+        return Ok(None);
     }
     let b = text[first];
-    let code = text::code(codes, b);
+    let code = codes.of(b);
     if code == text::LETTER {
         return name_element(codes, text, first, newline, stated.name);
     }
@@ -236,7 +201,7 @@ fn element_from(codes: &[u8], text: &[u8], first: usize, newline: bool, stated: 
             strings::string_rest(codes, text, b, first, first + 1),
         );
     }
-    if is_pattern_slash(b, stated.pattern) {
+    if stated.pattern && b == b'/' {
         return literal_element(
             PATTERN,
             first,
@@ -248,20 +213,22 @@ fn element_from(codes: &[u8], text: &[u8], first: usize, newline: bool, stated: 
 }
 
 // The next element of a text from a place on, under stated answers, by a table of codes that is lent.
-pub fn element_by(codes: &[u8], text: &[u8], place: usize, stated: Stated) -> Next
-    requires { codes.now ≡ byte_codes }
+pub fn element_by(
+    codes: &Codes,
+    text: &[u8],
+    place: usize,
+    stated: Stated,
+) -> Result<Option<Element>, Fault>
     ensures { Finds text.now place stated result }
 {
-    match gaps::gap_from(codes, text, place) {
-        Gap::Ends(first, newline) => element_from(codes, text, first, newline, stated),
-        Gap::Fault(number, at) => Next::Fault(number, at),
-    }
+    let gap = gaps::gap_from(codes, text, place)?;
+    element_from(codes, text, gap.end, gap.newline, stated)
 }
 
 // The next element of a text from a place on, under stated answers. A place at or past the text's end has none.
-pub fn element_at(text: &[u8], place: usize, stated: Stated) -> Next
+pub fn element_at(text: &[u8], place: usize, stated: Stated) -> Result<Option<Element>, Fault>
     ensures { Finds text.now place stated result }
 {
-    let codes = text::codes();
+    let codes = Codes::new();
     element_by(&codes, text, place, stated)
 }

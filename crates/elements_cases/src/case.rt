@@ -3,56 +3,52 @@
 // and `p` where a reserved word is a name. `D`, `P`, `N` and `M` are the same of every prefix of the text, from the empty
 // one on; `e` and `r` are `d` and `p` with each element shown as its part of the text. `spelling.rt` of `cases` says how
 // the text is spelled.
-use cases::spelling;
-use cases::spelling::{MOST, Size};
+use cases::{CaseError, spelling};
 use elements::Stated;
+use std::alloc::Global;
 
 // The most bytes of a text: a longer one is a bad case.
 const MOST_CUT: usize = 256;
 
-// The size of the text, and what is stated of each element.
+// What is shown of a text: its elements, those of every prefix, or each element's part of the text.
 #[derive(Clone, Copy)]
-pub enum Case {
-    One(usize, Stated),
-    Prefixes(usize, Stated),
-    Parts(usize, Stated),
-    Bad,
+pub enum Shown {
+    Elements,
+    Prefixes,
+    Parts,
 }
 
-// The case of a line, its text at the start of `text`.
-pub fn case_of(line: &[u8], text: &mut [u8; MOST]) -> Case {
-    if line.len() < 2 {
-        return Case::Bad;
-    }
-    if line[1] != b' ' {
-        return Case::Bad;
-    }
-    let size = spelling::text_of(line, 2, text);
-    match size {
-        Size::Bytes(n) => case_by(line[0], n),
-        Size::Bad => Case::Bad,
-    }
+#[derive(Drop)]
+pub struct Case {
+    pub shown: Shown,
+    pub stated: Stated,
+    pub text: Vec<u8>,
 }
 
-fn case_by(letter: u8, size: usize) -> Case {
-    if size > MOST_CUT {
-        return Case::Bad;
+pub fn case_of(alloc: Global, line: &[u8]) -> Result<Case, CaseError> {
+    let [letter, b' ', spelled @ ..] = line else {
+        return Err(CaseError::Bad);
+    };
+    let (shown, stated) = asked(*letter).ok_or(CaseError::Bad)?;
+    let text = spelling::text_of(alloc, spelled)?;
+    if text.len() > MOST_CUT {
+        return Err(CaseError::Bad);
     }
-    match letter {
-        b'd' => Case::One(size, stated(false, false)),
-        b'p' => Case::One(size, stated(true, false)),
-        b'n' => Case::One(size, stated(false, true)),
-        b'm' => Case::One(size, stated(true, true)),
-        b'D' => Case::Prefixes(size, stated(false, false)),
-        b'P' => Case::Prefixes(size, stated(true, false)),
-        b'N' => Case::Prefixes(size, stated(false, true)),
-        b'M' => Case::Prefixes(size, stated(true, true)),
-        b'e' => Case::Parts(size, stated(false, false)),
-        b'r' => Case::Parts(size, stated(true, false)),
-        _ => Case::Bad,
-    }
+    Ok(Case {
+        shown,
+        stated,
+        text,
+    })
 }
 
-fn stated(pattern: bool, name: bool) -> Stated {
-    Stated { pattern, name }
+fn asked(letter: u8) -> Option<(Shown, Stated)> {
+    let shown = match letter {
+        b'd' | b'p' | b'n' | b'm' => Shown::Elements,
+        b'D' | b'P' | b'N' | b'M' => Shown::Prefixes,
+        b'e' | b'r' => Shown::Parts,
+        _ => return None,
+    };
+    let pattern = matches!(letter, b'p' | b'm' | b'P' | b'M' | b'r');
+    let name = matches!(letter, b'n' | b'm' | b'N' | b'M');
+    Some((shown, Stated { pattern, name }))
 }

@@ -1,64 +1,55 @@
-// A text is walked from its start, one turn after the other.
+// What is printed of a text is one line: its elements as `kind,which,first,end,line`, or their bytes between backquotes,
+// then `end` or `fault,number,place`, with a blank between.
 ghost use Rattle.std.specs.Prelude.{◌≡◌};
 ghost use Rattle.elements.specs.Lexemes.{lexeme_of};
 
-use crate::print;
-use crate::print::ROOM;
-use cases::spelling::MOST;
-use elements::{Element, Next, Stated};
+use elements::{Element, Stated};
 use std::io;
 use walk::Walk;
 
-// Every prefix of the text, so that a text ends anywhere.
-pub fn prefixes(rt: &impl Print, text: &[u8; MOST], size: usize, stated: Stated) -> io::Result<()> {
-    for n in 0..=size {
-        one(rt, text, n, stated, false)?;
-    }
-    Ok(())
+pub fn elements(rt: &impl Print, text: &[u8], stated: Stated) -> io::Result<()> {
+    walked(rt, text, stated, |e| element(rt, e))
 }
 
-// The first `size` bytes of the text. `parts` says whether an element is shown as its part of the text.
-pub fn one(
+pub fn parts(rt: &impl Print, text: &[u8], stated: Stated) -> io::Result<()> {
+    walked(rt, text, stated, |e| {
+        rt.write_all(b"`")?;
+        rt.write_all(part(text, e))?;
+        rt.write_all(b"` ")
+    })
+}
+
+// Shows each element of a text. An element holds a byte of its own, so the turns do not run out before the text does; a walk
+// that does not come to an end differs from every stored answer.
+fn walked<F: Fn(Element) -> io::Result<()>>(
     rt: &impl Print,
-    text: &[u8; MOST],
-    size: usize,
+    text: &[u8],
     stated: Stated,
-    parts: bool,
-) -> io::Result<()> {
-    let all: &[u8] = text;
-    if size <= all.len() {
-        let mut out = print::no_line();
-        let n = cut(&all[0..size], stated, parts, &mut out);
-        print::line(rt, &out, n)?;
-    }
-    Ok(())
-}
-
-// Each element holds a byte of its own, so the turns do not run out before the text does.
-fn cut(text: &[u8], stated: Stated, parts: bool, out: &mut [u8; ROOM]) -> usize {
-    let mut n = 0;
-    let mut place = 0;
-    let mut turns = text.len() + 1;
-    while turns > 0 {
-        let turn = walk::turn_at(text, place, stated);
-        let next = turn.next;
-        match next {
-            Next::End => return print::end(out, n),
-            Next::Fault(number, at) => return print::fault(out, n, number, at),
-            Next::Found(e) => n = show(text, e, parts, out, n),
+    show: F,
+) -> io::Result<()>
+    requires { F.IsAlwaysCallable show }
+{
+    let mut walk = Walk::new(text);
+    for _ in 0..=text.len() {
+        match walk.next(stated) {
+            Ok(Some(e)) => show(e)?,
+            Ok(None) => return println!(rt; "end"),
+            Err(fault) => return println!(rt; "fault,{},{}", fault.number(), fault.place()),
         }
-        place = turn.at;
-        turns -= 1;
     }
-    print::no_end(out, n)
+    println!(rt; "no end")
 }
 
-fn show(text: &[u8], e: Element, parts: bool, out: &mut [u8; ROOM], n: usize) -> usize {
-    if parts {
-        print::part(out, n, part(text, e))
-    } else {
-        print::element(out, n, e)
-    }
+fn element(rt: &impl Print, e: Element) -> io::Result<()> {
+    let Element {
+        kind,
+        which,
+        first,
+        end,
+        newline,
+    } = e;
+    let newline = u8::from(newline);
+    print!(rt; "{kind},{which},{first},{end},{newline} ")
 }
 
 // The part of a text that an element is.

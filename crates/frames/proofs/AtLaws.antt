@@ -54,6 +54,7 @@ use Rattle.machine.specs.Machinery.Machine.{
 }
 use Rattle.controls.specs.Machinery.Steps.{Due, due_operand, due_value, due_thrown, due_item, due_statement, due_start, due_test, due_step, due_member, Ended, ended_operand, ended_postfix, VariableEnded, ended_bare, ended_value, before_target, before_variable, PartEnded, no_start, ended_start, no_test, ended_test, Leads, to_return_end, to_variables_end, to_semicolon, to_item_end, to_next_part, to-object}
 use Rattle.waiting.specs.declared.Level.{Level}
+use Rattle.waiting.specs.declared.Waiting.{Waiting}
 use Rattle.frames.specs.Machinery.Stands.{InNest, InSetting, InVariables, Within, ItemsAlone, WordAlone, PartDue, written, Stands}
 use Rattle.frames.proofs.CarryLaws.{
   Carries,
@@ -61,7 +62,7 @@ use Rattle.frames.proofs.CarryLaws.{
 }
 
 -- where an operand is due, and where a statement is
-pub record AtOperand (ending : Ending) (g : Frame) (nests : List machine.Open) (table stack₀ : List ℕ) (first floor passed : ℕ) (l : Level) (stack cells : List ℕ) : Type 0 where
+pub record AtOperand (ending : Ending) (g : Frame) (nests : List machine.Open) (table : List ℕ) (stack₀ : List Waiting) (first floor passed : ℕ) (l : Level) (stack : List Waiting) (cells : List ℕ) : Type 0 where
   pub done : Syntax
   pub starts : List Pending
   pub waiting : List Pending
@@ -71,7 +72,7 @@ pub record AtOperand (ending : Ending) (g : Frame) (nests : List machine.Open) (
   pub passes : l.count + l.top ≤ first + floor + passed
 
 -- where one has ended
-pub record AtEnded (ending : Ending) (g : Frame) (nests : List machine.Open) (table stack₀ : List ℕ) (first floor passed : ℕ) (l : Level) (stack cells : List ℕ) : Type 0 where
+pub record AtEnded (ending : Ending) (g : Frame) (nests : List machine.Open) (table : List ℕ) (stack₀ : List Waiting) (first floor passed : ℕ) (l : Level) (stack : List Waiting) (cells : List ℕ) : Type 0 where
   pub done : Syntax
   pub starts : List Pending
   pub waiting : List Pending
@@ -81,7 +82,7 @@ pub record AtEnded (ending : Ending) (g : Frame) (nests : List machine.Open) (ta
   pub carries : Carries nests table stack₀ first floor done starts waiting operand l stack cells
   pub passes : l.count + l.top ≤ first + floor + passed
 
-pub record AtStatement (setting : Setting) (g : Frame) (nests : List machine.Open) (table stack₀ : List ℕ) (first floor passed : ℕ) (l : Level) (stack cells : List ℕ) : Type 0 where
+pub record AtStatement (setting : Setting) (g : Frame) (nests : List machine.Open) (table : List ℕ) (stack₀ : List Waiting) (first floor passed : ℕ) (l : Level) (stack : List Waiting) (cells : List ℕ) : Type 0 where
   pub done : Syntax
   pub starts : List Pending
   pub is : g ≡ frame done starts [] nil
@@ -90,7 +91,7 @@ pub record AtStatement (setting : Setting) (g : Frame) (nests : List machine.Ope
   pub passes : l.count + l.top ≤ first + floor + passed
 
 -- where a statement has but its word
-pub record AtWord (setting : Setting) (g : Frame) (nests : List machine.Open) (table stack₀ : List ℕ) (first floor passed : ℕ) (l : Level) (stack cells : List ℕ) : Type 0 where
+pub record AtWord (setting : Setting) (g : Frame) (nests : List machine.Open) (table : List ℕ) (stack₀ : List Waiting) (first floor passed : ℕ) (l : Level) (stack : List Waiting) (cells : List ℕ) : Type 0 where
   pub done : Syntax
   pub kind : ℕ
   pub mark : ℕ
@@ -102,7 +103,7 @@ pub record AtWord (setting : Setting) (g : Frame) (nests : List machine.Open) (t
   pub passes : l.count + l.top ≤ first + floor + passed
 
 -- where items, parts or clauses alone stand
-pub record AtNone (g : Frame) (nests : List machine.Open) (table stack₀ : List ℕ) (first floor passed : ℕ) (l : Level) (stack cells : List ℕ) : Type 0 where
+pub record AtNone (g : Frame) (nests : List machine.Open) (table : List ℕ) (stack₀ : List Waiting) (first floor passed : ℕ) (l : Level) (stack : List Waiting) (cells : List ℕ) : Type 0 where
   pub done : Syntax
   pub is : g ≡ frame done [] [] nil
   pub none : nests ≡ []
@@ -122,7 +123,7 @@ pub data Behind (done : Syntax) (nests : List machine.Open) : Control → Type 0
   behind-target : nests ≡ [] → Behind done nests (operand_due by_object some_target)
 
 -- where a value ends one of these
-pub record AtValue (to : Control) (g : Frame) (nests : List machine.Open) (table stack₀ : List ℕ) (first floor passed : ℕ) (l : Level) (stack cells : List ℕ) : Type 0 where
+pub record AtValue (to : Control) (g : Frame) (nests : List machine.Open) (table : List ℕ) (stack₀ : List Waiting) (first floor passed : ℕ) (l : Level) (stack : List Waiting) (cells : List ℕ) : Type 0 where
   pub done : Syntax
   pub starts : List Pending
   pub waiting : List Pending
@@ -133,7 +134,7 @@ pub record AtValue (to : Control) (g : Frame) (nests : List machine.Open) (table
   pub passes : l.count + l.top ≤ first + floor + passed
 
 -- where a variable has ended
-pub record AtVariable (place : Variables) (g : Frame) (nests : List machine.Open) (table stack₀ : List ℕ) (first floor passed : ℕ) (l : Level) (stack cells : List ℕ) : Type 0 where
+pub record AtVariable (place : Variables) (g : Frame) (nests : List machine.Open) (table : List ℕ) (stack₀ : List Waiting) (first floor passed : ℕ) (l : Level) (stack : List Waiting) (cells : List ℕ) : Type 0 where
   pub done : Syntax
   pub mark : ℕ
   pub word : ℕ
@@ -167,7 +168,7 @@ module _ {nests : List machine.Open} where
   in_target by_colon lone_target t done starts w = absurd t
   in_target (by_item items) lone_target t done starts w = absurd t
 
-module _ {g : Frame} {nests : List machine.Open} {table stack₀ : List ℕ} {first floor passed : ℕ} {l : Level} {stack cells : List ℕ} where
+module _ {g : Frame} {nests : List machine.Open} {table : List ℕ} {stack₀ : List Waiting} {first floor passed : ℕ} {l : Level} {stack : List Waiting} {cells : List ℕ} where
   pub at_part : {c : Control} {setting : Setting} (s : Stands c g nests table stack₀ first floor passed l stack cells)
       → PartDue setting s.done s.waiting s.operand nests → written c nil ≡ nil → AtStatement setting g nests table stack₀ first floor passed l stack cells
   at_part s shaped w =

@@ -1,7 +1,7 @@
 -- A level with the parts of its frame told apart from where it stands: what each operation on the level makes of them.
 use mathlib.Core.Path.{◌≡◌, refl, ◌∙◌, ap}
 use mathlib.Core.List.{List, [], ◌∷◌, ◌++◌}
-use Prim.Native.Nat.{ℕ, ◌+◌, ◌-◌, ◌*◌, ◌≤◌, ◌<◌}
+use Prim.Native.Nat.{ℕ, ◌+◌, ◌-◌, ◌≤◌, ◌<◌}
 use native.Mathlib.Omega.{arith}
 use lib.ListN.{length, get_or, length-set}
 use lib.Seq.{get_or-set_other}
@@ -12,8 +12,9 @@ use Rattle.machine.specs.Machinery.Machine as machine
 use Rattle.machine.specs.Machinery.Machine.{Pending, pending, Frame, frame, tightness, wrap, Control, nested, asking}
 use Rattle.controls.specs.Machinery.Numbers.{setting_by, behind_by, left_by}
 use Rattle.controls.specs.Machinery.Written.{put_record, put_syntax}
-use Rattle.waiting.specs.Machinery.Waiting.{width, binding, Shut, shut, close, lefts, Stacked, bare, above, Holds, HoldsShut, Closes, Completes, stack_with, stack_as, waiting_one, made_one, with_held, restarted}
+use Rattle.waiting.specs.Machinery.Waiting.{nothing_waits, popped, binding, Shut, shut, close, lefts, Stacked, bare, above, Holds, HoldsShut, Closes, Completes, stack_with, stack_as, waiting_one, made_one, with_held, restarted}
 use Rattle.waiting.specs.declared.Level.{Level}
+use Rattle.waiting.specs.declared.Waiting.{Waiting}
 use Rattle.waiting.proofs.HoldLaws.{start_le, bottom_top, floor_le, word_held, alone_held, uppermost, done_held, nest_done_held, nested_held, unstacked_held, asked_held, left_held, taken_back_held, left_alone_held, left_lone_held, undone_held}
 use Rattle.waiting.proofs.PutLaws.{made_held, made_both, valued_held, waits_held, answered_held, kind_held, stack_long, stack_kept}
 use Rattle.frames.specs.Machinery.Stands.{Operators, no_operators, more_operators, Beginnings, no_beginnings, more_beginnings, InNest, in-nest, Asked, asked, InNumbered, Within, asked_in, AskNumber, nest_in, Below, below_none, below_nest, below_asked, Shaped, written, HeldAt, owed, Kept, Stands}
@@ -22,22 +23,18 @@ use Rattle.frames.proofs.CloseLaws.{LighterBy, close_lightens, below_stops, Redu
 
 -- the level with so many records
 abbrev pub with_count : ℕ → Level → Level
-with_count n l = record { count = n; top = l.top; floor = l.floor; start = l.start; held = l.held }
+with_count n l = record l { count = n }
 
 -- the level with the uppermost part taken back
 abbrev pub back_one : Level → Level
-back_one l = record { count = l.count; top = l.top - 1; floor = l.floor; start = l.count; held = l.held }
-
--- and the level around a nest
-abbrev pub left_one : Level → List ℕ → Level
-left_one l stack = record { count = l.count; top = l.top - 1; floor = l.floor; start = get_or stack ((l.top - 1) * width + 2) 0; held = l.held }
+back_one l = record l { top = l.top - 1; start = l.count }
 
 -- the level where what is done in a nest is the operand again
-abbrev pub undone_one : Level → List ℕ → Level
-undone_one l stack = record { count = l.count; top = l.top; floor = l.floor; start = get_or stack ((l.top - 1) * width + 2) 0; held = l.held }
+abbrev pub undone_one : Level → List Waiting → Level
+undone_one l stack = record l { start = (get_or stack (l.top - 1) nothing_waits).start }
 
 -- the level carries statements done, beginnings of statements, operators, and what is written of an operand
-pub record Carries (nests : List machine.Open) (table stack₀ : List ℕ) (first floor : ℕ) (done : Syntax) (starts waiting : List Pending) (last : Syntax) (l : Level) (stack cells : List ℕ) : Type 0 where
+pub record Carries (nests : List machine.Open) (table : List ℕ) (stack₀ : List Waiting) (first floor : ℕ) (done : Syntax) (starts waiting : List Pending) (last : Syntax) (l : Level) (stack : List Waiting) (cells : List ℕ) : Type 0 where
   pub operators : Operators waiting
   pub beginnings : Beginnings starts
   pub base : Syntax
@@ -48,7 +45,7 @@ pub record Carries (nests : List machine.Open) (table stack₀ : List ℕ) (firs
   pub floored : l.floor ≡ floor
   pub kept : Kept stack₀ stack floor
 
-module _ {c : Control} {nests : List machine.Open} {table stack₀ : List ℕ} {first floor passed : ℕ} {l : Level} {stack cells : List ℕ} where
+module _ {c : Control} {nests : List machine.Open} {table : List ℕ} {stack₀ : List Waiting} {first floor passed : ℕ} {l : Level} {stack : List Waiting} {cells : List ℕ} where
   pub carried : {g : Frame} (s : Stands c g nests table stack₀ first floor passed l stack cells)
       → Carries nests table stack₀ first floor s.done s.starts s.waiting (written c s.operand) l stack cells
   carried s =
@@ -91,11 +88,11 @@ module _ {c : Control} {nests : List machine.Open} {table stack₀ : List ℕ} {
       }
 
 -- records so far and parts that wait, together
-stacked_top : {stack : List ℕ} {floor first : ℕ} {done : Syntax} {ps : List Pending} {top : ℕ} → Stacked stack floor first done ps top → top ≡ floor + length ps
+stacked_top : {stack : List Waiting} {floor first : ℕ} {done : Syntax} {ps : List Pending} {top : ℕ} → Stacked stack floor first done ps top → top ≡ floor + length ps
 stacked_top bare = omega arith
-stacked_top (above below fits k m s marked) = let h = stacked_top below in omega arith
+stacked_top (above below fits is marked) = let h = stacked_top below in omega arith
 
-pub holds_weigh : {table : List ℕ} {first : ℕ} {done : Syntax} {ps : List Pending} {operand : Syntax} {l : Level} {stack cells : List ℕ}
+pub holds_weigh : {table : List ℕ} {first : ℕ} {done : Syntax} {ps : List Pending} {operand : Syntax} {l : Level} {stack : List Waiting} {cells : List ℕ}
     → Holds table first done ps operand l stack cells
     → (l.count + l.top ≡ first + l.floor + (size (lefts done ps) + size operand + length ps)) × (l.top ≡ l.floor + length ps)
 holds_weigh h = let t = stacked_top h.stacked in (omega (arith, h.counts, h.starts), t)
@@ -106,7 +103,7 @@ pub record Lighter (l r : Level) : Type 0 where
   pub lower : r.top ≤ l.top
   pub started : r.start ≤ r.count
 
-pub closes_lightens : (least : ℕ) {table : List ℕ} {first : ℕ} {done : Syntax} {ps : List Pending} {operand : Syntax} {l r : Level} {stack cells after : List ℕ}
+pub closes_lightens : (least : ℕ) {table : List ℕ} {first : ℕ} {done : Syntax} {ps : List Pending} {operand : Syntax} {l r : Level} {stack : List Waiting} {cells after : List ℕ}
     → Holds table first done ps operand l stack cells → r.floor ≡ l.floor → Closes least l stack cells r after → Lighter l r
 closes_lightens least {table = table} {first = first} {done = done} {ps = ps} {operand = operand} {l = l} {r = r} {stack = stack} {after = after} h f closes =
     go (close least ps operand) (close_lightens least done ps operand) (closes table first done ps operand h)
@@ -127,23 +124,24 @@ beginnings_any : {kind mark : ℕ} {left after : Syntax} {ps : List Pending} →
 beginnings_any (more_beginnings {kind = kind} e more) = more_beginnings {kind = kind} e more
 
 -- the stack is the same, or with a part more above what waits
-same_stack : {stack : List ℕ} {top : ℕ} → Kept stack stack top
+same_stack : {stack : List Waiting} {top : ℕ} → Kept stack stack top
 same_stack = record { same_length = refl; same = λ k less. refl }
 
-more_stack : (stack : List ℕ) (top kind mark start : ℕ) → Kept stack (stack_with stack top kind mark start) top
+more_stack : (stack : List Waiting) (top kind mark start : ℕ) → Kept stack (stack_with stack top kind mark start) top
 more_stack stack top kind mark start = record { same_length = stack_long stack top kind mark start; same = stack_kept stack top kind mark start }
 
-other_stack : (stack : List ℕ) (top kind : ℕ) → Kept stack (stack_as stack top kind) (top - 1)
+other_stack : (stack : List Waiting) (top kind : ℕ) → Kept stack (stack_as stack top kind) (top - 1)
 other_stack stack top kind =
-    record { same_length = length-set stack ((top - 1) * width) kind; same = λ k less. get_or-set_other stack ((top - 1) * width) k kind 0 (λ e. absurd (omega arith)) }
+    let w = record (get_or stack (top - 1) nothing_waits) { kind = kind } in
+    record { same_length = length-set stack (top - 1) w; same = λ k less. get_or-set_other stack (top - 1) k w nothing_waits (λ e. absurd (omega arith)) }
 
-kept_under : {before middle after : List ℕ} {floor top : ℕ} → Kept before middle floor → Kept middle after top → floor ≤ top → Kept before after floor
+kept_under : {before middle after : List Waiting} {floor top : ℕ} → Kept before middle floor → Kept middle after top → floor ≤ top → Kept before after floor
 kept_under h k up = record { same_length = k.same_length ∙ h.same_length; same = λ i less. k.same i (omega arith) ∙ h.same i less }
 
-module _ {nests : List machine.Open} {table stack₀ : List ℕ} {first floor : ℕ} {done : Syntax} {starts waiting : List Pending} {last : Syntax} {l : Level} {stack cells : List ℕ}
+module _ {nests : List machine.Open} {table : List ℕ} {stack₀ : List Waiting} {first floor : ℕ} {done : Syntax} {starts waiting : List Pending} {last : Syntax} {l : Level} {stack : List Waiting} {cells : List ℕ}
     (h : Carries nests table stack₀ first floor done starts waiting last l stack cells) where
   -- other parts are carried, at the same floor
-  carries_other : {others : List machine.Open} {statements base next : Syntax} {begun operators tail : List Pending} {r : Level} {after cells' : List ℕ}
+  carries_other : {others : List machine.Open} {statements base next : Syntax} {begun operators tail : List Pending} {r : Level} {after : List Waiting} {cells' : List ℕ}
       → Operators operators → Beginnings begun → Below statements others base tail → Holds table first base (operators ++ (begun ++ tail)) next r after cells'
       → r.held ≤ most_trees → r.floor ≡ l.floor → Kept stack after l.top → Carries others table stack₀ first floor statements begun operators next r after cells'
   carries_other operators beginnings below k word f same =
@@ -178,7 +176,7 @@ module _ {nests : List machine.Open} {table stack₀ : List ℕ} {first floor : 
       }
 
   -- what is written behind the operators changes, and the stack may above them
-  carries_last : {next : Syntax} {r : Level} {after cells' : List ℕ} → Holds table first h.base (waiting ++ (starts ++ h.tail)) next r after cells'
+  carries_last : {next : Syntax} {r : Level} {after : List Waiting} {cells' : List ℕ} → Holds table first h.base (waiting ++ (starts ++ h.tail)) next r after cells'
       → r.held ≤ most_trees → r.floor ≡ l.floor → Kept stack after l.top → Carries nests table stack₀ first floor done starts waiting next r after cells'
   carries_last k word f same = carries_other h.operators h.beginnings h.below k word f same
 
@@ -189,20 +187,20 @@ module _ {nests : List machine.Open} {table stack₀ : List ℕ} {first floor : 
       → Carries nests table stack₀ first floor done starts waiting (node kind mark last nil) (made_one l) stack (put_record cells l.count kind mark (l.count - l.start + 1))
   carries_made kind mark room = carries_last (made_held kind mark h.holds room) h.worded refl same_stack
 
-  pub carries_valued : (n : ℕ) (value : Syntax) {after cells' : List ℕ} → Valued l n value stack after cells cells' → n + l.top ≤ most_trees
+  pub carries_valued : (n : ℕ) (value : Syntax) {after : List Waiting} {cells' : List ℕ} → Valued l n value stack after cells cells' → n + l.top ≤ most_trees
       → Carries nests table stack₀ first floor done starts waiting (snoc last value) (with_count n l) after cells'
   carries_valued n value v room =
       carries_last (valued_held value h.holds v.kept.same_length v.kept.same v.count_is v.cells_are room) h.worded refl v.kept
 
   -- the operand waits as the left side of an operator
-  pub carries_operator : (kind mark : ℕ) → l.count + l.top < most_trees → mark ≤ most_trees → (l.top + 1) * width ≤ length stack
+  pub carries_operator : (kind mark : ℕ) → l.count + l.top < most_trees → mark ≤ most_trees → l.top < length stack
       → 1 ≤ tightness kind → (kind ≡ new_word → last ≡ nil)
       → Carries nests table stack₀ first floor done starts (pending kind mark last ∷ waiting) nil (waiting_one l) (stack_with stack l.top kind mark l.start) cells
   carries_operator kind mark room marked fits binds alone =
       carries_other (more_operators binds alone h.operators) h.beginnings h.below (waits_held kind mark h.holds room marked fits) h.worded refl
       (more_stack stack l.top kind mark l.start)
 
-module _ {nests : List machine.Open} {table stack₀ : List ℕ} {first floor : ℕ} {done : Syntax} {starts : List Pending} {l : Level} {stack cells : List ℕ} where
+module _ {nests : List machine.Open} {table : List ℕ} {stack₀ : List Waiting} {first floor : ℕ} {done : Syntax} {starts : List Pending} {l : Level} {stack : List Waiting} {cells : List ℕ} where
   pub carries_alone : {waiting : List Pending} {value : Syntax} → Carries nests table stack₀ first floor done starts waiting (snoc nil value) l stack cells
       → Carries nests table stack₀ first floor done starts waiting value l stack cells
   carries_alone h = carries_last h (alone_held h.holds) h.worded refl same_stack
@@ -214,7 +212,7 @@ module _ {nests : List machine.Open} {table stack₀ : List ℕ} {first floor : 
 
   -- where no operator waits, the operand waits as the left side of a beginning of a statement
   pub carries_beginning : {last : Syntax} (kind mark : ℕ) → Carries nests table stack₀ first floor done starts [] last l stack cells
-      → l.count + l.top < most_trees → mark ≤ most_trees → (l.top + 1) * width ≤ length stack → binding kind ≡ 1
+      → l.count + l.top < most_trees → mark ≤ most_trees → l.top < length stack → binding kind ≡ 1
       → Carries nests table stack₀ first floor done (pending kind mark last ∷ starts) [] nil (waiting_one l) (stack_with stack l.top kind mark l.start) cells
   carries_beginning kind mark h room marked fits binds =
       carries_other h no_operators (more_beginnings binds h.beginnings) h.below (waits_held kind mark h.holds room marked fits) h.worded refl
@@ -222,7 +220,7 @@ module _ {nests : List machine.Open} {table stack₀ : List ℕ} {first floor : 
 
   -- and nothing as that of a nest
   pub carries_nest : (nest setting mark : ℕ) → Carries nests table stack₀ first floor done starts [] nil l stack cells → InNumbered nest setting done nests
-      → nest ≤ 4 → setting ≤ 5 → l.count + l.top < most_trees → mark ≤ most_trees → (l.top + 1) * width ≤ length stack
+      → nest ≤ 4 → setting ≤ 5 → l.count + l.top < most_trees → mark ≤ most_trees → l.top < length stack
       → Carries (nested (behind_by nest (setting_by setting)) (left_by nest) mark (frame done starts [] nil) ∷ nests) table stack₀ first floor nil [] [] nil
       (waiting_one l) (stack_with stack l.top (nest_in nest setting) mark l.start) cells
   carries_nest nest setting mark h within one few room marked fits =
@@ -231,7 +229,7 @@ module _ {nests : List machine.Open} {table stack₀ : List ℕ} {first floor : 
 
   -- the operand waits as the condition of an open `?`, behind which nothing stands yet
   pub carries_asked : {waiting : List Pending} {condition : Syntax} (kind mark : ℕ) → Carries nests table stack₀ first floor done starts waiting condition l stack cells
-      → Within (asked_in kind) done starts nests → AskNumber kind → l.count + l.top < most_trees → mark ≤ most_trees → (l.top + 1) * width ≤ length stack
+      → Within (asked_in kind) done starts nests → AskNumber kind → l.count + l.top < most_trees → mark ≤ most_trees → l.top < length stack
       → Carries (asking (asked_in kind) mark (frame done starts waiting condition) ∷ nests) table stack₀ first floor nil [] [] nil
       (waiting_one l) (stack_with stack l.top kind mark l.start) cells
   carries_asked kind mark h within many room marked fits =
@@ -241,7 +239,7 @@ module _ {nests : List machine.Open} {table stack₀ : List ℕ} {first floor : 
   -- an operator with no left side waits no more
   pub carries_dropped : {kind mark : ℕ} {waiting : List Pending} {last : Syntax}
       → Carries nests table stack₀ first floor done starts (pending kind mark nil ∷ waiting) last l stack cells
-      → Carries nests table stack₀ first floor done starts waiting last (left_one l stack) stack cells
+      → Carries nests table stack₀ first floor done starts waiting last (popped l stack) stack cells
   carries_dropped h = carries_other h (operators_rest h.operators) h.beginnings h.below (alone_held (unstacked_held h.holds)) h.worded refl same_stack
 
   -- a beginning with no left side is taken back, where nothing stands behind it
@@ -266,28 +264,28 @@ module _ {nests : List machine.Open} {table stack₀ : List ℕ} {first floor : 
   -- a beginning with what stands behind it joins the left side of the one around it
   pub carries_joined : {kind mark word spot : ℕ} {left others value : Syntax}
       → Carries nests table stack₀ first floor done (pending kind mark left ∷ pending word spot others ∷ starts) [] value l stack cells
-      → Carries nests table stack₀ first floor done (pending word spot (snoc others (node kind mark left value)) ∷ starts) [] nil (restarted (made_one (left_one l stack))) stack
-      (put_record cells l.count kind mark (l.count - get_or stack ((l.top - 1) * width + 2) 0 + 1))
+      → Carries nests table stack₀ first floor done (pending word spot (snoc others (node kind mark left value)) ∷ starts) [] nil (restarted (made_one (popped l stack))) stack
+      (put_record cells l.count kind mark (l.count - (get_or stack (l.top - 1) nothing_waits).start + 1))
   carries_joined {kind = kind} {mark = mark} h =
       let u = uppermost h.holds in
       carries_other h no_operators (beginnings_any (beginnings_rest h.beginnings)) h.below
       (nest_done_held (made_both kind mark (unstacked_held h.holds) (omega (arith, u.some, h.holds.few)))) h.worded refl same_stack
 
 -- a statement goes to those done, wherever those are
-record Followed (nests : List machine.Open) (table : List ℕ) (first : ℕ) (done : Syntax) (l : Level) (stack cells : List ℕ) : Type 0 where
+record Followed (nests : List machine.Open) (table : List ℕ) (first : ℕ) (done : Syntax) (l : Level) (stack : List Waiting) (cells : List ℕ) : Type 0 where
   base : Syntax
   tail : List Pending
   below : Below done nests base tail
   holds : Holds table first base tail nil l stack cells
 
-followed : {nests : List machine.Open} {table : List ℕ} {first : ℕ} {done base value : Syntax} {tail : List Pending} {l : Level} {stack cells : List ℕ}
+followed : {nests : List machine.Open} {table : List ℕ} {first : ℕ} {done base value : Syntax} {tail : List Pending} {l : Level} {stack : List Waiting} {cells : List ℕ}
     → Below done nests base tail → Holds table first base tail value l stack cells → Followed nests table first (snoc done value) (restarted l) stack cells
 followed below_none h = record { base = _; tail = []; below = below_none; holds = done_held h }
 followed (below_nest one few beginnings within below) h = record { base = _; tail = _; below = below_nest one few beginnings within below; holds = nest_done_held h }
 followed (below_asked many operators beginnings within below) h =
     record { base = _; tail = _; below = below_asked many operators beginnings within below; holds = nested_held (nest_done_held h) }
 
-module _ {nests : List machine.Open} {table stack₀ : List ℕ} {first floor : ℕ} {done : Syntax} {starts waiting : List Pending} {last : Syntax} {l r : Level} {stack cells after : List ℕ}
+module _ {nests : List machine.Open} {table : List ℕ} {stack₀ : List Waiting} {first floor : ℕ} {done : Syntax} {starts waiting : List Pending} {last : Syntax} {l r : Level} {stack : List Waiting} {cells after : List ℕ}
     (h : Carries nests table stack₀ first floor done starts waiting last l stack cells) where
   -- operators are closed: those that bind at least so tight, or all of them
   pub carries_closed : (least : ℕ) → r.floor ≡ l.floor → r.held ≡ l.held → Closes (least + 1) l stack cells r after
@@ -327,7 +325,7 @@ pub data LeftWith (done : Syntax) : Syntax → Type 0 where
 
 -- What is carried around a nest that is left with a value: the value is the operand there; or it is the left side of a `do`, which waits in place of the
 -- nest
-pub record Around (nests : List machine.Open) (table stack₀ : List ℕ) (first floor : ℕ) (value : Syntax) (l : Level) (stack cells : List ℕ) : Type 0 where
+pub record Around (nests : List machine.Open) (table : List ℕ) (stack₀ : List Waiting) (first floor : ℕ) (value : Syntax) (l : Level) (stack : List Waiting) (cells : List ℕ) : Type 0 where
   pub nest : ℕ
   pub setting : ℕ
   pub mark : ℕ
@@ -338,16 +336,16 @@ pub record Around (nests : List machine.Open) (table stack₀ : List ℕ) (first
   pub within : InNumbered nest setting done rest
   pub one : nest ≤ 4
   pub few : setting ≤ 5
-  pub stacked : get_or stack ((l.top - 1) * width) 0 ≡ nest_in nest setting
-  pub mark_is : get_or stack ((l.top - 1) * width + 1) 0 ≡ mark
+  pub stacked : (get_or stack (l.top - 1) nothing_waits).kind ≡ nest_in nest setting
+  pub mark_is : (get_or stack (l.top - 1) nothing_waits).mark ≡ mark
   pub marked : mark ≤ most_trees
-  pub started : get_or stack ((l.top - 1) * width + 2) 0 ≤ most_trees
+  pub started : (get_or stack (l.top - 1) nothing_waits).start ≤ most_trees
   pub waits : 1 ≤ l.top
-  pub fits : l.top * width ≤ length stack
-  pub carries : Carries rest table stack₀ first floor done starts [] value (left_one l stack) stack cells
+  pub fits : l.top ≤ length stack
+  pub carries : Carries rest table stack₀ first floor done starts [] value (popped l stack) stack cells
   pub joins : Carries rest table stack₀ first floor done (pending do_word mark value ∷ starts) [] nil (restarted l) (stack_as stack l.top do_word) cells
 
-module _ {table stack₀ : List ℕ} {first floor : ℕ} {l : Level} {stack cells : List ℕ} where
+module _ {table : List ℕ} {stack₀ : List Waiting} {first floor : ℕ} {l : Level} {stack : List Waiting} {cells : List ℕ} where
   pub carries_around : {nests : List machine.Open} {done value : Syntax} → InNest nests → LeftWith done value → Carries nests table stack₀ first floor done [] [] nil l stack cells
       → Around nests table stack₀ first floor value l stack cells
   unfolding binding
@@ -396,7 +394,7 @@ module _ {table stack₀ : List ℕ} {first floor : ℕ} {l : Level} {stack cell
           carries_other h no_operators no_beginnings (below_nest one few beginnings within below) (undone_held k) h.worded refl same_stack
 
 -- what is carried around an open `?` that is answered with a value
-pub record Answering (nests : List machine.Open) (table stack₀ : List ℕ) (first floor : ℕ) (value : Syntax) (l : Level) (stack cells : List ℕ) : Type 0 where
+pub record Answering (nests : List machine.Open) (table : List ℕ) (stack₀ : List Waiting) (first floor : ℕ) (value : Syntax) (l : Level) (stack : List Waiting) (cells : List ℕ) : Type 0 where
   pub kind : ℕ
   pub mark : ℕ
   pub done : Syntax
@@ -406,13 +404,13 @@ pub record Answering (nests : List machine.Open) (table stack₀ : List ℕ) (fi
   pub rest : List machine.Open
   pub is : nests ≡ asking (asked_in kind) mark (frame done starts waiting condition) ∷ rest
   pub within : Within (asked_in kind) done starts rest
-  pub stacked : get_or stack ((l.top - 1) * width) 0 ≡ kind
+  pub stacked : (get_or stack (l.top - 1) nothing_waits).kind ≡ kind
   pub many : AskNumber kind
   pub waits : 1 ≤ l.top
-  pub fits : l.top * width ≤ length stack
+  pub fits : l.top ≤ length stack
   pub carries : Carries rest table stack₀ first floor done starts (pending question mark (snoc condition value) ∷ waiting) nil (restarted l) (stack_as stack l.top question) cells
 
-pub carries_answered : {nests : List machine.Open} {table stack₀ : List ℕ} {first floor : ℕ} {value : Syntax} {l : Level} {stack cells : List ℕ}
+pub carries_answered : {nests : List machine.Open} {table : List ℕ} {stack₀ : List Waiting} {first floor : ℕ} {value : Syntax} {l : Level} {stack : List Waiting} {cells : List ℕ}
     → Asked nests → Carries nests table stack₀ first floor nil [] [] value l stack cells → Answering nests table stack₀ first floor value l stack cells
 carries_answered {table = table} {stack₀ = stack₀} {first = first} {floor = floor} {value = value} {l = l} {stack = stack} {cells = cells} inside h = go inside h.below h.holds
   where
@@ -445,7 +443,7 @@ pub record Written (table : List ℕ) (first floor : ℕ) (value : Syntax) (l : 
   pub cells_are : cells ≡ put_syntax table first value
   pub top_is : l.top ≡ floor
 
-module _ {table stack₀ : List ℕ} {first floor : ℕ} {l : Level} {stack cells : List ℕ} where
+module _ {table : List ℕ} {stack₀ : List Waiting} {first floor : ℕ} {l : Level} {stack : List Waiting} {cells : List ℕ} where
   pub all_written : {done last : Syntax} → Carries [] table stack₀ first floor done [] [] last l stack cells → Written table first floor (snoc done last) l cells
   all_written {done = done} {last = last} h = go h.below h.holds
     where

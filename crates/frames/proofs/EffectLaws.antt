@@ -2,7 +2,7 @@
 use mathlib.Core.Path.{◌≡◌, refl}
 use mathlib.Core.Bool.{Bool, true, false}
 use mathlib.Core.List.{List, [], ◌∷◌}
-use Prim.Native.Nat.{ℕ, ◌+◌, ◌-◌, ◌*◌, ◌≤◌, ◌<◌}
+use Prim.Native.Nat.{ℕ, ◌+◌, ◌-◌, ◌≤◌, ◌<◌}
 use native.Mathlib.Omega.{arith}
 use lib.ListN.{length, get_or}
 use Rattle.tables.specs.Records.{most_trees}
@@ -70,14 +70,14 @@ use Rattle.machine.specs.Machinery.Machine.{
 }
 use Rattle.controls.specs.Machinery.Steps.{Due, Ended, VariableEnded, Started, started_return, started_throw, started_jump, started_head, started_debugger, started_var, started_for, started_switch, Leads, to_start, to_variable, to_head_variable, to_case, to_default, to_catch, to_finally, to_finally_behind, to_initialiser, to_caught, to-test, to_jump_label, to_dot, to_hole, to_function_name, to_property, to_value, to-parameter, to_next_parameter}
 use Rattle.controls.specs.Machinery.Written.{put_record}
-use Rattle.waiting.specs.Machinery.Waiting.{width, binding, Closes, Completes, stack_with, waiting_one, made_one, with_held, restarted}
+use Rattle.waiting.specs.Machinery.Waiting.{nothing_waits, popped, binding, Closes, Completes, stack_with, waiting_one, made_one, with_held, restarted}
 use Rattle.waiting.specs.declared.Level.{Level}
+use Rattle.waiting.specs.declared.Waiting.{Waiting}
 use Rattle.waiting.proofs.HoldLaws.{uppermost}
 use Rattle.frames.specs.Machinery.Stands.{InSetting, InVariables, Stands}
 use Rattle.frames.proofs.CloseLaws.{below_stops, close_reduces, reduce_wraps}
 use Rattle.frames.proofs.CarryLaws.{
   back_one,
-  left_one,
   undone_one,
   Carries,
   carried,
@@ -98,7 +98,7 @@ use Rattle.frames.proofs.CarryLaws.{
 use Rattle.frames.proofs.AtLaws.{AtWord, Behind, behind-statement, behind_item, behind_start, behind_test, behind_clause, behind_tried, behind_handled, behind_finally, behind-target, AtValue, at_part, at_statement, at_none, at_operand, at_ended, at_variable, nest_done}
 
 -- a statement is complete, an item of a list, a clause, a block of a `try`, or a part of the head of a `for`
-pub behind : {nests : List machine.Open} {table stack₀ : List ℕ} {first floor passed : ℕ} {done value : Syntax} {to : Control} {l : Level} {stack cells : List ℕ} → Behind done nests to
+pub behind : {nests : List machine.Open} {table : List ℕ} {stack₀ : List Waiting} {first floor passed : ℕ} {done value : Syntax} {to : Control} {l : Level} {stack : List Waiting} {cells : List ℕ} → Behind done nests to
     → Carries nests table stack₀ first floor (snoc done value) [] [] nil l stack cells → l.count + l.top ≤ first + floor + passed → first + floor + passed ≤ most_trees
     → Stands to (frame (snoc done value) [] [] nil) nests table stack₀ first floor passed l stack cells
 behind (behind-statement (among scope) none) h passes few = stands nil h (refl, refl, refl, none) tt (omega arith) few
@@ -116,7 +116,7 @@ behind (behind_finally inside) h passes few = stands nil h (refl, refl, refl, in
 behind (behind-target none) h passes few = stands nil h (refl, (refl, none)) tt (omega arith) few
 
 -- a statement has begun
-begins : {nests : List machine.Open} {table stack₀ : List ℕ} {first floor passed : ℕ} {done : Syntax} {starts : List Pending} {kind mark : ℕ} {setting : Setting} {to : Control} {l : Level} {stack cells : List ℕ}
+begins : {nests : List machine.Open} {table : List ℕ} {stack₀ : List Waiting} {first floor passed : ℕ} {done : Syntax} {starts : List Pending} {kind mark : ℕ} {setting : Setting} {to : Control} {l : Level} {stack : List Waiting} {cells : List ℕ}
     → Started kind setting to → 1 ≤ kind → InSetting setting done nests → Carries nests table stack₀ first floor done (pending kind mark nil ∷ starts) [] nil l stack cells
     → l.count + l.top ≤ first + floor + passed → first + floor + passed ≤ most_trees
     → Stands to (frame done (pending kind mark nil ∷ starts) [] nil) nests table stack₀ first floor passed l stack cells
@@ -141,7 +141,7 @@ later-variables : (place : Variables) (nests : List machine.Open) (done : Syntax
 later-variables (in_statement setting) nests done within = within
 later-variables (in_head first) nests done within = within
 
-module _ {g : Frame} {nests : List machine.Open} {table stack₀ : List ℕ} {first floor passed : ℕ} {l : Level} {stack cells : List ℕ} (more : first + floor + passed < most_trees) where
+module _ {g : Frame} {nests : List machine.Open} {table : List ℕ} {stack₀ : List Waiting} {first floor passed : ℕ} {l : Level} {stack : List Waiting} {cells : List ℕ} (more : first + floor + passed < most_trees) where
   -- nothing changes
   pub keeps : {from to : Control} (mark : ℕ) → Leads keep from to → Stands from g nests table stack₀ first floor passed l stack cells
       → Stands to (machine.affect keep mark g) nests table stack₀ first floor (passed + 1) l stack cells
@@ -198,7 +198,7 @@ module _ {g : Frame} {nests : List machine.Open} {table stack₀ : List ℕ} {fi
       (omega (arith, s.passes)) (omega arith))
 
   -- a beginning of a statement waits, or of a variable, a clause, or what follows the block of a `try`
-  starts_variable : {place : Variables} (mark : ℕ) → mark ≤ most_trees → (l.top + 1) * width ≤ length stack
+  starts_variable : {place : Variables} (mark : ℕ) → mark ≤ most_trees → l.top < length stack
       → Stands (variable_due place) g nests table stack₀ first floor passed l stack cells
       → Stands (variable_named place) (machine.affect (start_statement variable_syntax) mark g) nests table stack₀ first floor (passed + 1) (waiting_one l)
       (stack_with stack l.top variable_syntax mark l.start) cells
@@ -209,7 +209,7 @@ module _ {g : Frame} {nests : List machine.Open} {table stack₀ : List ℕ} {fi
       (carries_beginning variable_syntax mark (rw (s.shaped.1, s.shaped.2) at (carried s)) (omega (arith, s.passes)) small fits refl)
       (record { mark = mark; others = s.starts; is = refl; var = s.shaped.0 }, refl, refl, s.shaped.3) tt (omega (arith, s.passes)) (omega arith))
 
-  pub starts_statement : {kind : ℕ} {from to : Control} (mark : ℕ) → mark ≤ most_trees → (l.top + 1) * width ≤ length stack
+  pub starts_statement : {kind : ℕ} {from to : Control} (mark : ℕ) → mark ≤ most_trees → l.top < length stack
       → Leads (start_statement kind) from to → 1 ≤ kind → binding kind ≡ 1 → Stands from g nests table stack₀ first floor passed l stack cells
       → Stands to (machine.affect (start_statement kind) mark g) nests table stack₀ first floor (passed + 1) (waiting_one l) (stack_with stack l.top kind mark l.start) cells
   starts_statement {kind = kind} mark small fits (to_start started) some binds s =
@@ -241,16 +241,16 @@ module _ {g : Frame} {nests : List machine.Open} {table stack₀ : List ℕ} {fi
       let h = at_part {setting = in_clause} s (s.shaped.1, s.shaped.2, s.shaped.3) refl in
       rw h.is (stands nil (carries_beginning finally_word mark h.carries (omega arith) small fits binds) (refl, refl, h.within) tt (omega arith) (omega arith))
 
-  pub takes_else : (mark : ℕ) → mark ≤ most_trees → (l.top + 1) * width ≤ length stack → Stands (statement_done if_nest) g nests table stack₀ first floor passed l stack cells
+  pub takes_else : (mark : ℕ) → mark ≤ most_trees → l.top < length stack → Stands (statement_done if_nest) g nests table stack₀ first floor passed l stack cells
       → Stands (statement_due true (in_nest else_nest)) (machine.affect take_else mark g) nests table stack₀ first floor (passed + 1) (waiting_one (undone_one l stack))
-      (stack_with stack l.top else_word mark (get_or stack ((l.top - 1) * width + 2) 0)) cells
+      (stack_with stack l.top else_word mark (get_or stack (l.top - 1) nothing_waits).start) cells
   unfolding binding
   takes_else mark small fits s =
       rw (s.is, s.shaped.1, s.shaped.3.is)
       (stands nil (carries_beginning else_word mark (carries_undone s.shaped.4 (nest_done s)) (omega (arith, s.passes)) small fits refl)
       (refl, refl, (refl, s.shaped.4)) tt (omega (arith, s.passes)) (omega arith))
 
-  pub takes_label : {setting : Setting} (mark : ℕ) → (l.top + 1) * width ≤ length stack → Stands (name_first setting) g nests table stack₀ first floor passed l stack cells
+  pub takes_label : {setting : Setting} (mark : ℕ) → l.top < length stack → Stands (name_first setting) g nests table stack₀ first floor passed l stack cells
       → Stands (statement_due true setting) (machine.affect take_label mark g) nests table stack₀ first floor (passed + 1) (waiting_one l)
       (stack_with stack l.top label_syntax l.held l.start) cells
   unfolding binding
@@ -260,7 +260,7 @@ module _ {g : Frame} {nests : List machine.Open} {table stack₀ : List ℕ} {fi
       (refl, refl, s.shaped.1) tt (omega (arith, s.passes)) (omega arith))
 
   -- an operator before its operand waits, with no left side
-  pub takes-prefix : {from : Control} {ending : Ending} {target : Target} (kind mark : ℕ) → mark ≤ most_trees → (l.top + 1) * width ≤ length stack → 1 ≤ tightness kind
+  pub takes-prefix : {from : Control} {ending : Ending} {target : Target} (kind mark : ℕ) → mark ≤ most_trees → l.top < length stack → 1 ≤ tightness kind
       → Due from ending target → Stands from g nests table stack₀ first floor passed l stack cells
       → Stands (operand_due ending no_target) (machine.affect (take_prefix kind) mark g) nests table stack₀ first floor (passed + 1) (waiting_one l)
       (stack_with stack l.top kind mark l.start) cells
@@ -269,7 +269,7 @@ module _ {g : Frame} {nests : List machine.Open} {table stack₀ : List ℕ} {fi
       rw h.is
       (stands nil (carries_operator h.carries kind mark (omega (arith, h.passes)) small fits tight (λ e. refl)) (refl, h.within) tt (omega (arith, h.passes)) (omega arith))
 
-  pub takes_new : {from : Control} {ending : Ending} {target : Target} (mark : ℕ) → mark ≤ most_trees → (l.top + 1) * width ≤ length stack
+  pub takes_new : {from : Control} {ending : Ending} {target : Target} (mark : ℕ) → mark ≤ most_trees → l.top < length stack
       → Due from ending target → Stands from g nests table stack₀ first floor passed l stack cells
       → Stands (member_due ending target) (machine.affect (take_prefix new_word) mark g) nests table stack₀ first floor (passed + 1) (waiting_one l)
       (stack_with stack l.top new_word mark l.start) cells
@@ -295,7 +295,7 @@ module _ {g : Frame} {nests : List machine.Open} {table stack₀ : List ℕ} {fi
 
   -- an operator waits, once those are closed that bind as tight
   pub takes_operator : {from : Control} {ending : Ending} (next : Target) (class mark : ℕ) {r : Level} {after : List ℕ} → mark ≤ most_trees
-      → (l.top + 1) * width ≤ length stack → 1 ≤ tightness class → 1 ≤ threshold class → (class ≡ new_word → ⊥) → r.floor ≡ l.floor → r.held ≡ l.held
+      → l.top < length stack → 1 ≤ tightness class → 1 ≤ threshold class → (class ≡ new_word → ⊥) → r.floor ≡ l.floor → r.held ≡ l.held
       → Closes (threshold class + 1) l stack cells r after → Ended from ending → Stands from g nests table stack₀ first floor passed l stack cells
       → Stands (operand_due ending next) (machine.affect (take_operator class) mark g) nests table stack₀ first floor (passed + 1) (waiting_one r)
       (stack_with stack r.top class mark r.start) after
@@ -330,7 +330,7 @@ module _ {g : Frame} {nests : List machine.Open} {table stack₀ : List ℕ} {fi
       (behind e.within (carries_statement e.carries completes) (omega (arith, lighter, e.passes)) (omega arith))
 
   pub ends-bare : {setting : Setting} (mark : ℕ) {k m : ℕ} {all : Level} {cells' : List ℕ} → AtWord setting g nests table stack₀ first floor passed l stack cells
-      → get_or stack ((l.top - 1) * width) 0 ≡ k → get_or stack ((l.top - 1) * width + 1) 0 ≡ m
+      → (get_or stack (l.top - 1) nothing_waits).kind ≡ k → (get_or stack (l.top - 1) nothing_waits).mark ≡ m
       → Completes (made_one (back_one l)) stack (put_record cells l.count (k - 1) m (l.count - l.count + 1)) all cells'
       → Stands (behind_statement setting) (machine.affect end_bare mark g) nests table stack₀ first floor (passed + 1) all stack cells'
   ends-bare {setting = setting} mark {k = k} {m = m} h kind_at mark-at completes =
@@ -353,10 +353,10 @@ module _ {g : Frame} {nests : List machine.Open} {table stack₀ : List ℕ} {fi
 
   -- a variable joins those before it
   pub ends_variable : {from : Control} {place : Variables} (mark : ℕ) {m : ℕ} {r : Level} {after : List ℕ} → r.floor ≡ l.floor → r.held ≡ l.held
-      → Closes 2 l stack cells r after → get_or stack ((r.top - 1) * width + 1) 0 ≡ m → VariableEnded from place
+      → Closes 2 l stack cells r after → (get_or stack (r.top - 1) nothing_waits).mark ≡ m → VariableEnded from place
       → Stands from g nests table stack₀ first floor passed l stack cells
-      → Stands (variable_due (later_variables place)) (machine.affect end_variable mark g) nests table stack₀ first floor (passed + 1) (restarted (made_one (left_one r stack))) stack
-      (put_record after r.count variable_syntax m (r.count - get_or stack ((r.top - 1) * width + 2) 0 + 1))
+      → Stands (variable_due (later_variables place)) (machine.affect end_variable mark g) nests table stack₀ first floor (passed + 1) (restarted (made_one (popped r stack))) stack
+      (put_record after r.count variable_syntax m (r.count - (get_or stack (r.top - 1) nothing_waits).start + 1))
   ends_variable {place = place} mark {m = m} f w closes mark-at ended s =
       let e = at_variable ended s in
       let h = carries_expression e.carries f w closes in

@@ -11,6 +11,7 @@ use Rattle.machine.specs.Machinery.Machine.{Pending, Frame, frame, wrap, reduce,
 use Rattle.controls.specs.Machinery.Steps.{in_group, Ends, ends_statements, ends_text, ends_expression, ends_item, ends_items, ends_no_parameter, ends_parameter, ends_head, ends_object, ends_no_step, ends_clauses, ends_caught}
 use Rattle.waiting.specs.Machinery.Waiting.{Closes}
 use Rattle.waiting.specs.declared.Level.{Level}
+use Rattle.waiting.specs.declared.Waiting.{Waiting}
 use Rattle.frames.specs.Machinery.Stands.{Within, Stands}
 use Rattle.frames.specs.Machinery.Effects.{IsValue, is_popped, is-head, is-program, EndedLevel}
 use Rattle.frames.proofs.CloseLaws.{reduce_wraps}
@@ -55,7 +56,7 @@ listed : {action : Action} {g : Frame} {value : Syntax} → PopsList action → 
 listed pops_list e = rw (← e) is_popped
 listed pops_head e = rw (← e) is-head
 
-module _ {g : Frame} {nests : List machine.Open} {table stack₀ : List ℕ} {first floor passed : ℕ} {l r : Level} {stack cells after : List ℕ} where
+module _ {g : Frame} {nests : List machine.Open} {table : List ℕ} {stack₀ : List Waiting} {first floor passed : ℕ} {l r : Level} {stack : List Waiting} {cells after : List ℕ} where
   ended : {c : Control} {action : Action} {value : Syntax} (s : Stands c g nests table stack₀ first floor passed l stack cells) → r.floor ≡ l.floor → Closes 2 l stack cells r after
       → IsValue action g value → nests ≡ [] → Written table first floor value r after → EndedLevel action g nests table first floor passed r.count after
   ended {value = value} s f closes is none w =

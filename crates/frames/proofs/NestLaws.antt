@@ -2,7 +2,7 @@
 use mathlib.Core.Path.{◌≡◌, refl, sym, ◌∙◌, ap}
 use mathlib.Core.Bool.{Bool, true, false, cond}
 use mathlib.Core.List.{List, [], ◌∷◌, ◌++◌}
-use Prim.Native.Nat.{ℕ, ◌+◌, ◌-◌, ◌*◌, ◌≤◌, ◌<◌}
+use Prim.Native.Nat.{ℕ, ◌+◌, ◌-◌, ◌≤◌, ◌<◌}
 use native.Mathlib.Omega.{arith}
 use borrow.Author.Tests.{ne_eqb, lt-ltb, le-ltb, ltb-true, ltb-false}
 use lib.Dec.{eqb, ltb}
@@ -16,8 +16,9 @@ use Rattle.controls.specs.Machinery.Numbers.{setting_by, control_by, control_of,
 use Rattle.controls.specs.Machinery.Steps.{Enters, enters_if, enters_do, enters_try, enters_case, enters_last_case, enters_default}
 use Rattle.controls.specs.declared.Control as code
 use Rattle.controls.specs.Machinery.Written.{put_record}
-use Rattle.waiting.specs.Machinery.Waiting.{width, Completes, stack_with, stack_as, waiting_one, made_one, with_held, restarted}
+use Rattle.waiting.specs.Machinery.Waiting.{Completes, stack_with, stack_as, waiting_one, made_one, with_held, restarted}
 use Rattle.waiting.specs.declared.Level.{Level}
+use Rattle.waiting.specs.declared.Waiting.{Waiting}
 use Rattle.frames.specs.Machinery.Stands.{InNest, in-nest, InNumbered, nest_in, owed, Stands}
 use Rattle.frames.specs.Machinery.Effects.{of_parameter, Heads, Moved, Leaving, leaving_statement, leaving_catch, leaving_try, leaving_case, leaving_default, leaving_clauses}
 use Rattle.frames.proofs.CloseLaws.{reduce_wraps}
@@ -58,7 +59,7 @@ pub name_takes : (setting : Setting) (g : Frame) (around : List machine.Open) (c
 name_takes setting g around class spot u other = rw (ne_eqb class colon other)
 
 -- what stands where a nest starts
-entered : {nests : List machine.Open} {table stack₀ : List ℕ} {first floor passed : ℕ} {l : Level} {stack cells : List ℕ} (nest mark : ℕ) → InNest nests → l.held ≡ mark
+entered : {nests : List machine.Open} {table : List ℕ} {stack₀ : List Waiting} {first floor passed : ℕ} {l : Level} {stack : List Waiting} {cells : List ℕ} (nest mark : ℕ) → InNest nests → l.held ≡ mark
     → Carries nests table stack₀ first floor nil [] [] nil l stack cells → l.count + l.top ≤ first + floor + passed → first + floor + passed ≤ most_trees
     → Stands (entered_by nest) (machine.affect (worded_by nest) mark empty) nests table stack₀ first floor passed l stack cells
 unfolding entered_by worded_by
@@ -72,7 +73,7 @@ entered {nests = nests} {table = table} {stack₀ = stack₀} {first = first} {f
     go false false false = stands nil h (refl, refl, refl, inside) tt (omega arith) few
 
 -- the frame around a nest that is opened
-pub record Outside (nest setting : ℕ) (f : Frame) (nests : List machine.Open) (table stack₀ : List ℕ) (first floor passed : ℕ) (l r : Level) (stack cells : List ℕ) : Type 0 where
+pub record Outside (nest setting : ℕ) (f : Frame) (nests : List machine.Open) (table : List ℕ) (stack₀ : List Waiting) (first floor passed : ℕ) (l r : Level) (stack : List Waiting) (cells : List ℕ) : Type 0 where
   pub done : Syntax
   pub starts : List Pending
   pub is : f ≡ frame done starts [] nil
@@ -81,7 +82,7 @@ pub record Outside (nest setting : ℕ) (f : Frame) (nests : List machine.Open) 
   pub passes : r.count + r.top ≤ first + floor + passed
   pub lower : r.top ≤ l.top
 
-module _ {g : Frame} {nests : List machine.Open} {table stack₀ : List ℕ} {first floor passed : ℕ} {l r : Level} {stack cells after : List ℕ} where
+module _ {g : Frame} {nests : List machine.Open} {table : List ℕ} {stack₀ : List Waiting} {first floor passed : ℕ} {l r : Level} {stack : List Waiting} {cells after : List ℕ} where
   statement_outside : {nest : ℕ} (setting mark : ℕ) → nest < 3 → Heads nest l stack cells r after → AtStatement (setting_by setting) g nests table stack₀ first floor passed l stack cells
       → Outside nest setting (machine.affect (outside_by nest) mark g) nests table stack₀ first floor passed l r stack after
   unfolding outside_by
@@ -143,7 +144,7 @@ module _ {g : Frame} {nests : List machine.Open} {table stack₀ : List ℕ} {fi
             passes = omega (arith, s.passes);
           })
 
-  pub enters : {from : Control} (nest setting mark : ℕ) → first + floor + passed < most_trees → nest ≤ 4 → setting ≤ 5 → mark ≤ most_trees → (l.top + 1) * width ≤ length stack
+  pub enters : {from : Control} (nest setting mark : ℕ) → first + floor + passed < most_trees → nest ≤ 4 → setting ≤ 5 → mark ≤ most_trees → l.top < length stack
       → Heads nest l stack cells r after → Enters nest (setting_by setting) from → Stands from g nests table stack₀ first floor passed l stack cells
       → Stands (entered_by nest) (machine.affect (worded_by nest) mark empty) (nested (behind_by nest (setting_by setting)) (left_by nest) mark (machine.affect (outside_by nest) mark g) ∷ nests) table stack₀ first floor (passed + 1)
       (with_held mark (waiting_one r)) (stack_with stack r.top (nest_in nest setting) mark r.start) after
@@ -213,7 +214,7 @@ module _ (nest mark : ℕ) (value done : Syntax) (starts : List Pending) where
   unfolding left_by
   try_closes e = rw e
 
-module _ {g : Frame} {nests : List machine.Open} {table stack₀ : List ℕ} {first floor passed : ℕ} {l : Level} {stack cells : List ℕ} where
+module _ {g : Frame} {nests : List machine.Open} {table : List ℕ} {stack₀ : List Waiting} {first floor passed : ℕ} {l : Level} {stack : List Waiting} {cells : List ℕ} where
   -- what is around a nest that is left
   pub nest_around : {class : ℕ} {from : Control} {value : Value} → Leaving class from value → Stands from g nests table stack₀ first floor passed l stack cells
       → Around nests table stack₀ first floor (value_of value g) l stack cells

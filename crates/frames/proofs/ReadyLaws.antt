@@ -2,7 +2,7 @@
 use mathlib.Core.Path.{◌≡◌, refl, sym, ◌∙◌}
 use mathlib.Core.Bool.{Bool, true, false, cond, not, ◌||◌}
 use mathlib.Core.List.{List, ◌++◌}
-use Prim.Native.Nat.{ℕ, ◌+◌, ◌-◌, ◌*◌, ◌/◌, ◌%◌, ◌≤◌, ◌<◌}
+use Prim.Native.Nat.{ℕ, ◌+◌, ◌-◌, ◌/◌, ◌%◌, ◌≤◌, ◌<◌}
 use native.Mathlib.Omega.{arith}
 use borrow.Author.Tests.{eq-eqb, ne_eqb, eqb-true, eqb-false, leb-true, le-leb}
 use lib.Dec.{eqb, leb}
@@ -18,13 +18,14 @@ use Rattle.controls.specs.declared.Control as code
 use Rattle.controls.specs.Machinery.Written.{put_record}
 use Rattle.controls.proofs.NumberLaws.{other_than}
 use Rattle.controls.proofs.StepLaws.{in-clause}
-use Rattle.waiting.specs.Machinery.Waiting.{width, nest_kind, settings, Backed, Completes, stack_with, stack_as, waiting_one, made_one, with_held, restarted}
+use Rattle.waiting.specs.Machinery.Waiting.{nothing_waits, popped, nest_kind, settings, Backed, Completes, stack_with, stack_as, waiting_one, made_one, with_held, restarted}
 use Rattle.waiting.specs.declared.Level.{Level}
+use Rattle.waiting.specs.declared.Waiting.{Waiting}
 use Rattle.waiting.proofs.HoldLaws.{backed, start_le}
 use Rattle.frames.specs.Machinery.Stands.{nest_in, owed}
 use Rattle.frames.specs.Machinery.Effects.{StandsSomewhere, MayEnter, EntersNest, Heads, Moved, Moves, may_be_done, ends_clause, is_done_at, is_done, Leaving, leaving_statement, leaving_catch, leaving_try, leaving_case, leaving_default, leaving_clauses, MayLeaveOne, Leaves, Names, Readies}
 use Rattle.frames.specs.declared.Standing.{Standing}
-use Rattle.frames.proofs.CarryLaws.{left_one, carries_made, completes_lightens, Around}
+use Rattle.frames.proofs.CarryLaws.{carries_made, completes_lightens, Around}
 use Rattle.frames.proofs.NestLaws.{outside, left_complete, left_do, try_closes, enters, plain_closes, names, nest_around, nest_owes, do_behind, name_takes, leaving_passes}
 
 -- what is done before a token, over the code's controls
@@ -85,7 +86,7 @@ pub record Done (at : code.Control) (class : ℕ) : Type 0 where
   pub may : may_be_done at.place ≡ true
 
 -- one move after the other
-moved_on : {from : Control} {class : ℕ} {c : code.Control} {between cells stack' cells' : List ℕ} {s : Level} {r : Standing} {g : Frame} {nests : List machine.Open} {table stack₀ : List ℕ} {first floor passed : ℕ}
+moved_on : {from : Control} {class : ℕ} {c : code.Control} {between : List Waiting} {cells : List ℕ} {stack' : List Waiting} {cells' : List ℕ} {s : Level} {r : Standing} {g : Frame} {nests : List machine.Open} {table : List ℕ} {stack₀ : List Waiting} {first floor passed : ℕ}
     → (m : Moved from class g nests table stack₀ first floor passed (record { control = c; level = s }) between cells)
     → Moved (control_of c) class m.frame_then m.nests_then table stack₀ first floor passed r stack' cells'
     → Moved from class g nests table stack₀ first floor passed r stack' cells'
@@ -103,16 +104,16 @@ one_more true = omega arith
 one_more false = omega arith
 
 -- the numbers of a nest tell it
-module _ {nests : List machine.Open} {table stack₀ : List ℕ} {first floor : ℕ} {value : Syntax} {l : Level} {stack cells : List ℕ} {number : ℕ}
-    (a : Around nests table stack₀ first floor value l stack cells) (at : get_or stack ((l.top - 1) * width) 0 - nest_kind ≡ number) where
+module _ {nests : List machine.Open} {table : List ℕ} {stack₀ : List Waiting} {first floor : ℕ} {value : Syntax} {l : Level} {stack : List Waiting} {cells : List ℕ} {number : ℕ}
+    (a : Around nests table stack₀ first floor value l stack cells) (at : (get_or stack (l.top - 1) nothing_waits).kind - nest_kind ≡ number) where
   nest_is : number / settings ≡ a.nest
   nest_is = omega (arith, a.stacked, a.one, a.few)
 
   setting_is : number % settings ≡ a.setting
   setting_is = omega (arith, a.stacked, a.one, a.few)
 
-module _ {l : Level} {stack cells : List ℕ} where
-  pub nest_enters : (nest setting mark : ℕ) {outside inside r : Level} {after cells' : List ℕ} → nest ≤ 4 → setting ≤ 5 → mark ≤ most_trees → (l.top + 1) * width ≤ length stack
+module _ {l : Level} {stack : List Waiting} {cells : List ℕ} where
+  pub nest_enters : (nest setting mark : ℕ) {outside inside r : Level} {after : List Waiting} {cells' : List ℕ} → nest ≤ 4 → setting ≤ 5 → mark ≤ most_trees → l.top < length stack
       → Heads nest l stack cells outside cells' → (inside ≡ waiting_one outside) × (after ≡ stack_with stack outside.top (nest_in nest setting) mark outside.start) → r ≡ with_held mark inside
       → EntersNest nest setting mark l stack cells r after cells'
   nest_enters nest setting mark one few small fits heads e f from g nests table stack₀ first floor passed s opens more =
@@ -120,7 +121,7 @@ module _ {l : Level} {stack cells : List ℕ} where
 
   -- what a nest's wait asks for
   pub enter_asks : {nest setting mark : ℕ} {r : Level} {cells' : List ℕ} → MayEnter nest setting mark l stack cells → Heads nest l stack cells r cells'
-      → ((r.top + 1) * width ≤ length stack) × (r.start ≤ most_trees)
+      → (r.top < length stack) × (r.start ≤ most_trees)
   enter_asks {setting = setting} {mark = mark} may heads =
       let h = outside setting mark heads may.opens may.somewhere.stands in
       (omega (arith, h.lower, may.room), omega (arith, h.carries.holds.counts, h.carries.holds.few))
@@ -130,23 +131,23 @@ module _ {l : Level} {stack cells : List ℕ} where
 
   -- what the record of a `try` asks for, and what then stands there
   pub try_asks : MayLeaveOne l stack cells
-      → (get_or stack ((l.top - 1) * width + 2) 0 ≤ l.count) × (l.count < most_syntax) × (get_or stack ((l.top - 1) * width + 1) 0 ≤ most_trees)
+      → ((get_or stack (l.top - 1) nothing_waits).start ≤ l.count) × (l.count < most_syntax) × ((get_or stack (l.top - 1) nothing_waits).mark ≤ most_trees)
   try_asks may =
       let a = around_may may in
       (start_le a.carries.holds, omega (arith, a.carries.holds.few), omega (arith, a.mark_is, a.marked))
 
   pub try_held : (m : ℕ) {one : Level} {cells₁ : List ℕ} → MayLeaveOne l stack cells
-      → (one ≡ made_one (left_one l stack)) × (cells₁ ≡ put_record cells l.count try_word m (l.count - get_or stack ((l.top - 1) * width + 2) 0 + 1)) → Backed one stack cells₁
+      → (one ≡ made_one (popped l stack)) × (cells₁ ≡ put_record cells l.count try_word m (l.count - (get_or stack (l.top - 1) nothing_waits).start + 1)) → Backed one stack cells₁
   try_held m may made =
       let a = around_may may in
       let room = leaving_passes may.leaving may.somewhere.stands in
       rw (made.0, made.1) (backed (carries_made a.carries try_word m (omega (arith, room.0, room.1, a.waits))).holds)
 
-  module _ (may : MayLeaveOne l stack cells) {number : ℕ} {c : code.Control} (at : get_or stack ((l.top - 1) * width) 0 - nest_kind ≡ number) where
+  module _ (may : MayLeaveOne l stack cells) {number : ℕ} {c : code.Control} (at : (get_or stack (l.top - 1) nothing_waits).kind - nest_kind ≡ number) where
     -- the number that stands for the nest tells which is left
     pub plain_leaves : {all : Level} {cells' : List ℕ} → (number / settings ≡ 1 → ⊥) → (number / settings ≡ 2 → ⊥)
         → (number / settings ≤ 4 → (number / settings ≡ 1 → ⊥) → control_of c ≡ behind_by (number / settings) (setting_by (number % settings)))
-        → Completes (left_one l stack) stack cells all cells' → Leaves l stack cells (record { control = c; level = all }) stack cells'
+        → Completes (popped l stack) stack cells all cells' → Leaves l stack cells (record { control = c; level = all }) stack cells'
     plain_leaves no-do no_try behinds completes =
         let b = around_may may in
         record {
@@ -162,14 +163,14 @@ module _ {l : Level} {stack cells : List ℕ} where
 
     pub try_leaves : (m : ℕ) {one all : Level} {cells₁ cells' : List ℕ} → number / settings ≡ 2
         → (number / settings ≤ 4 → (number / settings ≡ 1 → ⊥) → control_of c ≡ behind_by (number / settings) (setting_by (number % settings)))
-        → get_or stack ((l.top - 1) * width + 1) 0 ≡ m
-        → (one ≡ made_one (left_one l stack)) × (cells₁ ≡ put_record cells l.count try_word m (l.count - get_or stack ((l.top - 1) * width + 2) 0 + 1))
+        → (get_or stack (l.top - 1) nothing_waits).mark ≡ m
+        → (one ≡ made_one (popped l stack)) × (cells₁ ≡ put_record cells l.count try_word m (l.count - (get_or stack (l.top - 1) nothing_waits).start + 1))
         → Completes one stack cells₁ all cells' → Leaves l stack cells (record { control = c; level = all }) stack cells'
     try_leaves m {all = all} {cells' = cells'} two behinds marked made completes =
         let no-do : number / settings ≡ 1 → ⊥ = λ e. omega arith in
         let b = around_may may in
         let room = leaving_passes may.leaving may.somewhere.stands in
-        let done : Completes (made_one (left_one l stack)) stack (put_record cells l.count try_word m (l.count - get_or stack ((l.top - 1) * width + 2) 0 + 1)) all cells' = rw (made.0, made.1) at completes in
+        let done : Completes (made_one (popped l stack)) stack (put_record cells l.count try_word m (l.count - (get_or stack (l.top - 1) nothing_waits).start + 1)) all cells' = rw (made.0, made.1) at completes in
         record {
           fewer = omega (arith, completes_lightens (carries_made b.carries try_word m (omega (arith, room.0, room.1, b.waits))) done, b.waits, one_more (may_be_done c.place));
           no_name = nest_unnamed c (number / settings) (setting_by (number % settings)) (behinds (omega (arith, nest_is b at, b.one)) no-do);
@@ -183,7 +184,7 @@ module _ {l : Level} {stack cells : List ℕ} where
               (carries_made a.carries try_word m (omega (arith, p.0, p.1, a.waits))) (omega (arith, a.waits)) done;
         }
 
-    pub do_leaves : {r : Level} {stack' : List ℕ} → number / settings ≡ 1 → control_of c ≡ control_by 19 0 (number % settings) true
+    pub do_leaves : {r : Level} {stack' : List Waiting} → number / settings ≡ 1 → control_of c ≡ control_by 19 0 (number % settings) true
         → (r ≡ restarted l) × (stack' ≡ stack_as stack l.top do_word) → Leaves l stack cells (record { control = c; level = r }) stack' cells
     unfolding control_by
     do_leaves one behinds e =
@@ -202,7 +203,7 @@ module _ {l : Level} {stack cells : List ℕ} where
   pub moves_none : (at : code.Control) (class : ℕ) → Moves (control_of at) class l stack cells (record { control = at; level = l }) stack cells
   moves_none at class g nests table stack₀ first floor passed s = record { frame_then = g; nests_then = nests; stands = s; kind = refl; takes = λ around spot u. refl }
 
-  pub moves_on : {from : Control} {class : ℕ} {c : code.Control} {middle : Level} {between cells₁ stack' cells' : List ℕ} {r : Standing} → Done c class
+  pub moves_on : {from : Control} {class : ℕ} {c : code.Control} {middle : Level} {between : List Waiting} {cells₁ : List ℕ} {stack' : List Waiting} {cells' : List ℕ} {r : Standing} → Done c class
       → Moves from class l stack cells (record { control = c; level = middle }) between cells₁ → Leaves middle between cells₁ r stack' cells'
       → Moves from class l stack cells r stack' cells'
   moves_on {class = class} {c = c} done moves leaves g nests table stack₀ first floor passed s =
@@ -212,7 +213,7 @@ module _ {l : Level} {stack cells : List ℕ} where
   pub done_somewhere : {c : code.Control} {class : ℕ} → Done c class → StandsSomewhere (control_of c) l stack cells → MayLeaveOne l stack cells
   done_somewhere {c = c} {class = class} done h = record { class = class; from = control_of c; value = done.value; leaving = done.leaving; somewhere = h }
 
-  pub leaves_somewhere : {c : code.Control} {class : ℕ} {r : Standing} {stack' cells' : List ℕ} → Done c class → StandsSomewhere (control_of c) l stack cells
+  pub leaves_somewhere : {c : code.Control} {class : ℕ} {r : Standing} {stack' : List Waiting} {cells' : List ℕ} → Done c class → StandsSomewhere (control_of c) l stack cells
       → Leaves l stack cells r stack' cells' → StandsSomewhere (control_of r.control) r.level stack' cells'
   leaves_somewhere {c = c} {class = class} done h leaves =
       let m = leaves.moves class (control_of c) done.value done.leaving h.g h.nests h.table h.stack₀ h.first h.floor h.passed h.stands in

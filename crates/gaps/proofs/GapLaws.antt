@@ -1,4 +1,5 @@
 -- Laws of gaps and comments at a place of the text: one for each way that a byte is taken.
+use Rattle.std.specs.Prelude.{Err, IfOk, IsErrAnd, Result, Ok, Option, Some, None}
 use mathlib.Core.Path.{◌≡◌, refl, sym, ap, ◌∙◌}
 use mathlib.Core.List.{List, ◌∷◌}
 use mathlib.Core.Bool.{Bool, true, false, ◌||◌}
@@ -13,11 +14,10 @@ use Rattle.text.specs.Machinery.Codes.{turning, code_of, code_over}
 use Rattle.text.specs.Runs.{run}
 use Rattle.text.proofs.Lists.{drop_at}
 use Rattle.text.proofs.CodeLaws.{code_passed, code_line_end, code_illegal, code_apart, over_passed}
-use Rattle.answers.specs.Faults.{stray, open_comment}
-use Rattle.gaps.specs.Gaps.{gap, after_slash, in_line, in_block}
-use Rattle.gaps.specs.Machinery.Comments.{resumed, NotBefore}
+use Rattle.answers.specs.declared.faults.Fault.{Fault}
+use Rattle.gaps.specs.Gaps.{ends, gap, after_slash, in_line, in_block}
 use Rattle.gaps.specs.declared.Gap.{Gap}
-use Rattle.gaps.specs.declared.Comment.{Comment}
+use Rattle.gaps.specs.Machinery.Comments.{resumed}
 
 -- a line end is no blank, and no `*`
 pub line_end_cases : (P : ℕ → Type 0) (b : ℕ) → P 0x0A → P 0x0D → line_end b ≡ true → P b
@@ -37,11 +37,11 @@ not_star : (b : ℕ) → line_end b ≡ true → eqb b (byte "*") ≡ false
 not_star b e = line_end_cases (λ k. eqb k (byte "*") ≡ false) b refl refl e
 
 module _ (s : List ℕ) (i : ℕ) (newline : Bool) where
-  pub gap_past : length s ≤ i → gap i newline (drop i s) ≡ Gap.Ends i newline
+  pub gap_past : length s ≤ i → gap i newline (drop i s) ≡ ends i newline
   unfolding gap
   gap_past h = rw (drop_of_length-le s h)
 
-  pub newline_past : length s ≤ i → in_line i newline (drop i s) ≡ Gap.Ends i newline
+  pub newline_past : length s ≤ i → in_line i newline (drop i s) ≡ ends i newline
   unfolding in_line
   newline_past h = rw (drop_of_length-le s h)
 
@@ -55,7 +55,7 @@ module _ (s : List ℕ) (i : ℕ) (newline : Bool) where
     gap_line_end e = rw (drop_at s i h) (rw (not_blank (get_or s i 0) e, e, gap))
 
     module _ (f : blank (get_or s i 0) ≡ false) (g : line_end (get_or s i 0) ≡ false) where
-      pub gap_other : (get_or s i 0 ≡ byte "/" → ⊥) → gap i newline (drop i s) ≡ Gap.Ends i newline
+      pub gap_other : (get_or s i 0 ≡ byte "/" → ⊥) → gap i newline (drop i s) ≡ ends i newline
       unfolding gap
       gap_other e = rw (drop_at s i h) (rw (f, g, ne_eqb _ _ e, gap))
 
@@ -63,7 +63,7 @@ module _ (s : List ℕ) (i : ℕ) (newline : Bool) where
     unfolding blank
     gap_space e = gap_blank (rw e refl)
 
-    pub gap_over_slash : byte "/" < get_or s i 0 → gap i newline (drop i s) ≡ Gap.Ends i newline
+    pub gap_over_slash : byte "/" < get_or s i 0 → gap i newline (drop i s) ≡ ends i newline
     unfolding blank line_end
     gap_over_slash k =
         gap_other
@@ -77,7 +77,7 @@ module _ (s : List ℕ) (i : ℕ) (newline : Bool) where
       unfolding gap blank line_end
       gap_slash = rw (drop_at s i h) (rw e)
 
-      pub slash_last : i + 1 ≡ length s → gap i newline (drop i s) ≡ Gap.Ends i newline
+      pub slash_last : i + 1 ≡ length s → gap i newline (drop i s) ≡ ends i newline
       unfolding gap
       slash_last n = gap_slash ∙ rw (drop_of_length-le s {i = i + 1} (omega arith))
 
@@ -95,7 +95,7 @@ module _ (s : List ℕ) (i : ℕ) (newline : Bool) where
         unfolding gap
         slash_block d = gap_slash ∙ rw next (rw d)
 
-        pub slash_alone : (get_or s (i + 1) 0 ≡ byte "/" → ⊥) → (get_or s (i + 1) 0 ≡ byte "*" → ⊥) → gap i newline (drop i s) ≡ Gap.Ends i newline
+        pub slash_alone : (get_or s (i + 1) 0 ≡ byte "/" → ⊥) → (get_or s (i + 1) 0 ≡ byte "*" → ⊥) → gap i newline (drop i s) ≡ ends i newline
         unfolding gap
         slash_alone d n = gap_slash ∙ rw (next, ne_eqb _ _ d, ne_eqb _ _ n)
 
@@ -104,7 +104,7 @@ module _ (s : List ℕ) (i : ℕ) (newline : Bool) where
     unfolding in_line
     line_ends k = rw (drop_at s i h) (rw (not_blank (get_or s i 0) (code_line_end (get_or s i 0) k), code_line_end (get_or s i 0) k, gap))
 
-    pub newline_stray : code_of (get_or s i 0) ≡ 0 → in_line i newline (drop i s) ≡ Gap.Fault stray i
+    pub newline_stray : code_of (get_or s i 0) ≡ 0 → in_line i newline (drop i s) ≡ Err (Fault.Stray i)
     unfolding in_line
     newline_stray k =
         let f = code_illegal (get_or s i 0) k in
@@ -119,7 +119,7 @@ module _ (s : List ℕ) (i : ℕ) (newline : Bool) where
 -- In a `/*`. A `*` before the place matters only where a slash stands there, so that the loop needs no memory of it: it looks
 -- ahead at each `*`.
 module _ (slash : ℕ) (s : List ℕ) (i : ℕ) (newline : Bool) where
-  pub block_past : length s ≤ i → in_block slash i newline false (drop i s) ≡ Gap.Fault open_comment slash
+  pub block_past : length s ≤ i → in_block slash i newline false (drop i s) ≡ Err (Fault.OpenComment slash)
   unfolding in_block
   block_past h = rw (drop_of_length-le s h)
 
@@ -133,7 +133,7 @@ module _ (slash : ℕ) (s : List ℕ) (i : ℕ) (newline : Bool) where
       go false e = rw (drop_of_length-le s (ltb-false i (length s) e))
 
   module _ (h : i < length s) where
-    pub block_stray : code_of (get_or s i 0) ≡ 0 → in_block slash i newline false (drop i s) ≡ Gap.Fault stray i
+    pub block_stray : code_of (get_or s i 0) ≡ 0 → in_block slash i newline false (drop i s) ≡ Err (Fault.Stray i)
     unfolding in_block
     block_stray k =
         let f = code_illegal (get_or s i 0) k in
@@ -191,18 +191,22 @@ module _ (slash : ℕ) (s : List ℕ) (i : ℕ) (newline : Bool) (h : i < length
       closed j m q = rw (drop_at s j m) (rw q)
 
 -- a comment that does not end before a place does not end before an earlier one
-pub not_before_less : (m n : ℕ) → m ≤ n → (r : Comment) → NotBefore n r → NotBefore m r
-not_before_less m n h Comment.Absent p = tt
-not_before_less m n h (Comment.Ends end lined) p = omega arith
-not_before_less m n h (Comment.Fault number place) p = tt
+pub later : (m n : ℕ) → m ≤ n → (r : Result Gap Fault) → IfOk r (λ comment. n ≤ comment.end) → IfOk r (λ comment. m ≤ comment.end)
+later m n h (Ok comment) p = omega arith
+later m n h (Err fault) p = tt
+
+-- a fault that is handed on is the same
+pub handed : {T : Type 0} (r : Result T Fault) (fault : Fault) → IsErrAnd r (λ e. e ≡ fault) → r ≡ Err fault
+handed (Ok x) fault h = absurd h
+handed (Err e) fault h = ap Err h
 
 -- what the answer about a comment says of the gap
-module _ (s : List ℕ) (i : ℕ) (newline : Bool) (r : Comment) (known : gap i newline (drop i s) ≡ resumed s i newline r) where
-  pub gap_no_comment : r ≡ Comment.Absent → gap i newline (drop i s) ≡ Gap.Ends i newline
+module _ (s : List ℕ) (i : ℕ) (newline : Bool) (r : Result (Option Gap) Fault) (known : gap i newline (drop i s) ≡ resumed s i newline r) where
+  pub gap_no_comment : r ≡ Ok None → gap i newline (drop i s) ≡ ends i newline
   gap_no_comment e = known ∙ ap (resumed s i newline) e
 
-  pub gap_comment : (end : ℕ) (lined : Bool) → r ≡ Comment.Ends end lined → gap i newline (drop i s) ≡ gap end (newline || lined) (drop end s)
-  gap_comment end lined e = known ∙ ap (resumed s i newline) e
+  pub gap_comment : (comment : Gap) → r ≡ Ok (Some comment) → gap i newline (drop i s) ≡ gap comment.end (newline || comment.newline) (drop comment.end s)
+  gap_comment comment e = known ∙ ap (resumed s i newline) e
 
-  pub gap_fault : (number place : ℕ) → r ≡ Comment.Fault number place → gap i newline (drop i s) ≡ Gap.Fault number place
-  gap_fault number place e = known ∙ ap (resumed s i newline) e
+  pub gap_fault : (fault : Fault) → r ≡ Err fault → gap i newline (drop i s) ≡ Err fault
+  gap_fault fault e = known ∙ ap (resumed s i newline) e

@@ -1,46 +1,43 @@
 // What stands between elements: blanks, line ends and both comments.
 #![tactic(auto)]
 
-ghost use Rattle.std.specs.Prelude.{◌≡◌, Bool, true, false, ◌+◌, ◌<◌, length, drop, get_or};
-ghost use Rattle.text.specs.Machinery.Codes.{byte_codes};
+ghost use Rattle.std.specs.Prelude.{◌≡◌, Bool, true, false, ◌+◌, ◌<◌, ◌≤◌, IfOk, IfSome, length, drop, get_or};
 ghost use Rattle.gaps.specs.Gaps.{gap, in_line, in_block};
-ghost use Rattle.gaps.specs.Machinery.Comments.{resumed, NotBefore};
+ghost use Rattle.gaps.specs.Machinery.Comments.{behind, resumed};
 
-use answers::faults::{OPEN_COMMENT, STRAY};
+use answers::faults::Fault;
+use text::Codes;
 
-// Where a gap ends, and whether a line end lies in it; or the first fault in it.
+// Where a gap or a comment ends, and whether a line end lies in it.
 #[derive(Clone, Copy)]
-pub enum Gap {
-    Ends(usize, bool),
-    Fault(u32, usize),
-}
-
-// What stands at a slash: no comment; or where the comment there ends, and whether a line end lies in it; or its fault.
-#[derive(Clone, Copy)]
-pub enum Comment {
-    Absent,
-    Ends(usize, bool),
-    Fault(u32, usize),
+pub struct Gap {
+    pub end: usize,
+    pub newline: bool,
 }
 
 // The `//` that starts at `slash`: it ends before its line end.
-fn line_comment(codes: &[u8], text: &[u8], slash: usize) -> Comment
-    requires { (codes.now ≡ byte_codes) × (slash + 1 < length text.now) }
-    ensures { ((newline : Bool) → in_line (slash + 2) newline (drop (slash + 2) text.now) ≡ resumed text.now slash newline result) × NotBefore (slash + 2) result }
+fn line_comment(codes: &Codes, text: &[u8], slash: usize) -> Result<Gap, Fault>
+    requires { slash + 1 < length text.now }
+    ensures resumes { (newline : Bool) → in_line (slash + 2) newline (drop (slash + 2) text.now) ≡ behind text.now newline result }
+    ensures goes_on { IfOk result (λ comment. slash + 2 ≤ comment.end) }
 {
-    let i = runs::run_end(codes, text, slash + 2, text::LINE_END);
-    if i < text.len() {
-        if text::code(codes, text[i]) == text::ILLEGAL {
-            return Comment::Fault(STRAY, i);
+    let end = runs::run_end(codes, text, slash + 2, text::LINE_END);
+    if end < text.len() {
+        if codes.of(text[end]) == text::ILLEGAL {
+            return Err(Fault::Stray(end));
         }
     }
-    Comment::Ends(i, false)
+    Ok(Gap {
+        end,
+        newline: false,
+    })
 }
 
 // The `/*` that starts at `slash`.
-fn block_comment(codes: &[u8], text: &[u8], slash: usize) -> Comment
-    requires { (codes.now ≡ byte_codes) × (slash + 1 < length text.now) }
-    ensures { ((newline : Bool) → in_block slash (slash + 2) newline false (drop (slash + 2) text.now) ≡ resumed text.now slash newline result) × NotBefore (slash + 2) result }
+fn block_comment(codes: &Codes, text: &[u8], slash: usize) -> Result<Gap, Fault>
+    requires { slash + 1 < length text.now }
+    ensures resumes { (newline : Bool) → in_block slash (slash + 2) newline false (drop (slash + 2) text.now) ≡ behind text.now newline result }
+    ensures goes_on { IfOk result (λ comment. slash + 2 ≤ comment.end) }
 {
     let mut lined = false;
     let mut i = slash + 2;
@@ -50,14 +47,14 @@ fn block_comment(codes: &[u8], text: &[u8], slash: usize) -> Comment
             break;
         }
         let b = text[i];
-        let code = text::code(codes, b);
+        let code = codes.of(b);
         if code == text::LINE_END {
             lined = true;
             i += 1;
             continue;
         }
         if code == text::ILLEGAL {
-            return Comment::Fault(STRAY, i);
+            return Err(Fault::Stray(i));
         }
         if b != b'*' {
             i += 1;
@@ -71,32 +68,32 @@ fn block_comment(codes: &[u8], text: &[u8], slash: usize) -> Comment
             i += 1;
             continue;
         }
-        return Comment::Ends(i + 2, lined);
+        return Ok(Gap {
+            end: i + 2,
+            newline: lined,
+        });
     }
-    Comment::Fault(OPEN_COMMENT, slash)
+    Err(Fault::OpenComment(slash))
 }
 
 // The comment at a slash, if one starts there.
-fn comment_at(codes: &[u8], text: &[u8], slash: usize) -> Comment
-    requires { (codes.now ≡ byte_codes) × (slash < length text.now) × (get_or text.now slash 0 ≡ 47) }
-    ensures { ((newline : Bool) → gap slash newline (drop slash text.now) ≡ resumed text.now slash newline result) × NotBefore (slash + 1) result }
+fn comment_at(codes: &Codes, text: &[u8], slash: usize) -> Result<Option<Gap>, Fault>
+    requires { (slash < length text.now) × (get_or text.now slash 0 ≡ 47) }
+    ensures resumes { (newline : Bool) → gap slash newline (drop slash text.now) ≡ resumed text.now slash newline result }
+    ensures goes_on { IfOk result (λ found. IfSome found (λ comment. slash + 1 ≤ comment.end)) }
 {
     if slash + 1 == text.len() {
-        return Comment::Absent;
+        return Ok(None);
     }
-    let b = text[slash + 1];
-    if b == b'/' {
-        return line_comment(codes, text, slash);
+    match text[slash + 1] {
+        b'/' => Ok(Some(line_comment(codes, text, slash)?)),
+        b'*' => Ok(Some(block_comment(codes, text, slash)?)),
+        _ => Ok(None),
     }
-    if b == b'*' {
-        return block_comment(codes, text, slash);
-    }
-    Comment::Absent
 }
 
 // The gap from a place on. A blank, and what is over `/`, is told before the table: these are met most.
-pub fn gap_from(codes: &[u8], text: &[u8], from: usize) -> Gap
-    requires { codes.now ≡ byte_codes }
+pub fn gap_from(codes: &Codes, text: &[u8], from: usize) -> Result<Gap, Fault>
     ensures { result ≡ gap from false (drop from text.now) }
 {
     let mut newline = false;
@@ -108,9 +105,9 @@ pub fn gap_from(codes: &[u8], text: &[u8], from: usize) -> Gap
             continue;
         }
         if b'/' < b {
-            return Gap::Ends(i, newline);
+            break;
         }
-        let code = text::code(codes, b);
+        let code = codes.of(b);
         if code == text::BLANK {
             i += 1;
             continue;
@@ -121,21 +118,13 @@ pub fn gap_from(codes: &[u8], text: &[u8], from: usize) -> Gap
             continue;
         }
         if b != b'/' {
-            return Gap::Ends(i, newline);
+            break;
         }
-        let comment = comment_at(codes, text, i);
-        match comment {
-            Comment::Absent => {
-                return Gap::Ends(i, newline);
-            }
-            Comment::Ends(end, lined) => {
-                newline = newline || lined;
-                i = end;
-            }
-            Comment::Fault(number, place) => {
-                return Gap::Fault(number, place);
-            }
-        }
+        let Some(comment) = comment_at(codes, text, i)? else {
+            break;
+        };
+        newline = newline || comment.newline;
+        i = comment.end;
     }
-    Gap::Ends(i, newline)
+    Ok(Gap { end: i, newline })
 }

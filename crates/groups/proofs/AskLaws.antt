@@ -64,8 +64,9 @@ use Rattle.controls.specs.Machinery.Numbers.{setting_by, items_by, ending_by, ta
 use Rattle.controls.specs.Machinery.Steps.{Ended, ended_operand, ended_postfix}
 use Rattle.controls.specs.declared.Control as code
 use Rattle.controls.proofs.NumberLaws.{last_setting, item_ending}
-use Rattle.waiting.specs.Machinery.Waiting.{width, ask_kind, settings, Closes, stack_with, stack_as, waiting_one, restarted}
+use Rattle.waiting.specs.Machinery.Waiting.{nothing_waits, ask_kind, settings, Closes, stack_with, stack_as, waiting_one, restarted}
 use Rattle.waiting.specs.declared.Level.{Level}
+use Rattle.waiting.specs.declared.Waiting.{Waiting}
 use Rattle.frames.specs.Machinery.Stands.{AskNumber, asked_in}
 use Rattle.frames.specs.Machinery.Effects.{MayAsk, Asks, MayTurn, Turns}
 use Rattle.frames.proofs.CarryLaws.{closes_lightens}
@@ -245,15 +246,15 @@ colon_due : {c : Control} → c ≡ control_by 2 14 0 true → c ≡ operand_due
 unfolding control_by ending_by target_by
 colon_due e = e
 
-module _ (at : code.Control) {mark : ℕ} {l r : Level} {stack cells after : List ℕ} where
+module _ (at : code.Control) {mark : ℕ} {l r : Level} {stack : List Waiting} {cells after : List ℕ} where
   pub ask_asks : (least : ℕ) {number : ℕ} → MayAsk at mark l stack cells → (r.floor ≡ l.floor) × (r.held ≡ l.held) × Closes least l stack cells r after → number < 65536
-      → ((r.top + 1) * width ≤ length stack) × (number < 65536) × (mark ≤ most_trees) × (r.start ≤ most_trees)
+      → (r.top < length stack) × (number < 65536) × (mark ≤ most_trees) × (r.start ≤ most_trees)
   ask_asks least may closes small =
       let s = may.somewhere.stands in
       let light = closes_lightens _ s.holds closes.0 closes.2 in
       (omega (arith, light, may.room), small, omega (arith, may.marked), omega (arith, light, s.holds.few))
 
-  pub asks_there : {number : ℕ} {level : Level} {stack' : List ℕ} {c : code.Control} → mark ≤ most_trees → (l.top + 1) * width ≤ length stack
+  pub asks_there : {number : ℕ} {level : Level} {stack' : List Waiting} {c : code.Control} → mark ≤ most_trees → l.top < length stack
       → (r.floor ≡ l.floor) × (r.held ≡ l.held) × Closes (least_binary + 1) l stack cells r after
       → AskNumber number × (number < 65536) × (asked_in number ≡ ending_by at.ending at.setting)
       → (level ≡ waiting_one r) × (stack' ≡ stack_with stack r.top number mark r.start) → control_of c ≡ control_by 2 14 0 true
@@ -266,23 +267,23 @@ module _ (at : code.Control) {mark : ℕ} {l r : Level} {stack cells after : Lis
       }
 
 -- and its `:`
-pub record Turning (r : Level) (stack : List ℕ) : Type 0 where
+pub record Turning (r : Level) (stack : List Waiting) : Type 0 where
   pub waits : 1 ≤ r.top
-  pub fits : r.top * width ≤ length stack
-  pub many : AskNumber (get_or stack ((r.top - 1) * width) 0)
+  pub fits : r.top ≤ length stack
+  pub many : AskNumber (get_or stack (r.top - 1) nothing_waits).kind
 
 answer_due : {c : Control} (kind : ℕ) → AskNumber kind → c ≡ control_by 2 ((kind - ask_kind) / settings) ((kind - ask_kind) % settings) true → c ≡ operand_due (asked_in kind) some_target
 unfolding control_by asked_in target_by
 answer_due kind number e = e ∙ rw (ne_eqb ((kind - ask_kind) / settings) 5 number.1)
 
-module _ {l r : Level} {stack cells after : List ℕ} where
+module _ {l r : Level} {stack : List Waiting} {cells after : List ℕ} where
   pub turn_asks : MayTurn l stack cells → (r.floor ≡ l.floor) × (r.held ≡ l.held) × Closes 2 l stack cells r after → Turning r stack
   turn_asks may closes =
       let a = answering closes.0 closes.1 (at_ended may.ends may.somewhere.stands) closes.2 in
       record { waits = a.waits; fits = a.fits; many = rw a.stacked a.many }
 
-  pub turns_there : {level : Level} {stack' : List ℕ} {c : code.Control} (kind : ℕ) → (r.floor ≡ l.floor) × (r.held ≡ l.held) × Closes 2 l stack cells r after
-      → get_or stack ((r.top - 1) * width) 0 ≡ kind → (level ≡ restarted r) × (stack' ≡ stack_as stack r.top question)
+  pub turns_there : {level : Level} {stack' : List Waiting} {c : code.Control} (kind : ℕ) → (r.floor ≡ l.floor) × (r.held ≡ l.held) × Closes 2 l stack cells r after
+      → (get_or stack (r.top - 1) nothing_waits).kind ≡ kind → (level ≡ restarted r) × (stack' ≡ stack_as stack r.top question)
       → control_of c ≡ control_by 2 ((kind - ask_kind) / settings) ((kind - ask_kind) % settings) true → Turns l stack cells (record { control = c; level = level }) stack' after
   turns_there kind closes at e c-is from g nests table stack₀ first floor passed s ended more =
       let e' = at_ended ended s in

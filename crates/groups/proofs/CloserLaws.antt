@@ -18,11 +18,13 @@ use Rattle.controls.specs.declared.Control as code
 use Rattle.controls.proofs.LevelEnds.{parens_end, bracket_ends, item_ends}
 use Rattle.waiting.specs.Machinery.Waiting.{Backed}
 use Rattle.waiting.specs.declared.Level.{Level}
+use Rattle.waiting.specs.declared.Waiting.{Waiting}
 use Rattle.frames.specs.Machinery.Effects.{StandsSomewhere, Readies, EndsLevel, IsValue, is_popped, is-head, is-program}
 use Rattle.frames.specs.declared.Standing.{Standing}
 use Rattle.frames.proofs.ParameterLaws.{parameter_value}
 use Rattle.groups.specs.Machinery.Closers.{is_by_object, is_object, closed_state, pops_there, dies_there, ComesTo}
-use Rattle.groups.specs.declared.Parsed.TheVariants.{Done, Bad}
+use Rattle.std.proofs.Common.{Ok, Err}
+use Rattle.answers.specs.declared.faults.Fault.{Fault}
 
 no_finish : {A : Type 0} {value : Value} → finish ≡ pop value → A
 no_finish e = absurd (let z : ◌≡◌ {A = ℕ} 0 1 = cc in omega arith)
@@ -134,7 +136,7 @@ closes class place around mark u none is-head ends entry same = rw (none, same, 
 closes class place around mark u none is-program (ends_text e) entry same = rw (none, e)
 
 -- the level is readied for its closer, and the table asked whether it ends there
-module _ {at : code.Control} {class : ℕ} {l : Level} {stack cells : List ℕ} {s : Standing} {stack₁ cells₁ : List ℕ} (readies : Readies at class l stack cells s stack₁ cells₁) where
+module _ {at : code.Control} {class : ℕ} {l : Level} {stack : List Waiting} {cells : List ℕ} {s : Standing} {stack₁ : List Waiting} {cells₁ : List ℕ} (readies : Readies at class l stack cells s stack₁ cells₁) where
   pub may_end : StandsSomewhere (control_of at) l stack cells → Backed s.level stack₁ cells₁
   may_end w =
       let r = readies.moves w.g w.nests w.table w.stack₀ w.first w.floor w.passed w.stands in
@@ -146,7 +148,7 @@ module _ {at : code.Control} {class : ℕ} {l : Level} {stack cells : List ℕ} 
     answered e = subst (λ (x : Bool). Ends class (control_of s.control) x (look class (row (control_of s.control) false))) e (asked readies.settled end)
 
     pub ends : {place n : ℕ} {within : Bool} {cells₂ : List ℕ} → b ≡ true → EndsLevel s.level stack₁ cells₁ n cells₂ → within ≡ is_object (control_of s.control)
-        → ComesTo at class place l stack cells (Done n within) stack₁ cells₂
+        → ComesTo at class place l stack cells (Ok (record { count = n; within = within })) stack₁ cells₂
     ends {place = place} t finishes same g nests table stack₀ first floor passed stands =
         let r = readies.moves g nests table stack₀ first floor passed stands in
         let a = answered t in
@@ -162,7 +164,7 @@ module _ {at : code.Control} {class : ℕ} {l : Level} {stack cells : List ℕ} 
           plain = λ q. parameter_value a (r.kind ∙ q) e.value_is;
         })
 
-    pub dies : {place : ℕ} {stack' cells' : List ℕ} → b ≡ false → ComesTo at class place l stack cells (Bad place) stack' cells'
+    pub dies : {place : ℕ} {stack' : List Waiting} {cells' : List ℕ} → b ≡ false → ComesTo at class place l stack cells (Err (Fault.NoProgram place)) stack' cells'
     dies {place = place} t g nests table stack₀ first floor passed stands =
         let r = readies.moves g nests table stack₀ first floor passed stands in
         dies_there (λ around mark u.

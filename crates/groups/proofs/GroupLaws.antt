@@ -4,7 +4,7 @@ use mathlib.Core.Bool.{Bool, true, false, cond}
 use lib.Dec.{eqb}
 use mathlib.Core.List.{List, [], ◌∷◌, ◌++◌}
 use mathlib.Core.Logic.{◌⊎◌, inl, inr}
-use Prim.Native.Nat.{ℕ, ◌+◌, ◌-◌, ◌*◌, ◌≤◌, ◌<◌}
+use Prim.Native.Nat.{ℕ, ◌+◌, ◌-◌, ◌≤◌, ◌<◌}
 use native.Mathlib.Omega.{arith}
 use borrow.Author.Tests.{ne_eqb}
 use lib.ListN.{length, get_or}
@@ -59,29 +59,30 @@ use Rattle.machine.specs.Machinery.Machine.{
 use Rattle.controls.specs.Machinery.Numbers.{closing_by}
 use Rattle.controls.specs.Machinery.Steps.{Due, Spans, past_parens, past_object, past_array, past_index, past_call, past_condition, past_head, past_for, past_for_in, past_subject, past_clauses, past_tried, past_caught, past_handled, past_finally, past_test, past_parameter, past_unnamed, past_block, past_declaration, past_function}
 use Rattle.controls.specs.Machinery.Written.{put_record}
-use Rattle.waiting.specs.Machinery.Waiting.{width, binding, Holds, Backed, Completes, stack_with, stack_as, waiting_one, made_one, restarted}
+use Rattle.waiting.specs.Machinery.Waiting.{nothing_waits, popped, binding, Holds, Backed, Completes, stack_with, stack_as, waiting_one, made_one, restarted}
 use Rattle.waiting.specs.declared.Level.{Level}
+use Rattle.waiting.specs.declared.Waiting.{Waiting}
 use Rattle.waiting.proofs.HoldLaws.{backed, bottom_top, uppermost}
 use Rattle.waiting.proofs.CloseLaws.{Usable, usable}
 use Rattle.frames.specs.Machinery.Stands.{Operators, no_operators, more_operators, Beginnings, InSetting, Stands}
 use Rattle.frames.specs.Machinery.Effects.{Valued, MayClose, ClosesGroup}
 use Rattle.frames.proofs.CloseLaws.{Stops, stops_none, stops_at, below_stops, starts_stop}
-use Rattle.frames.proofs.CarryLaws.{with_count, left_one, carried, stands, carries_made, carries_valued, carries_alone, carries_both, carries_dropped, carries_headed, carries_headed_as, carries_beginning, carries_statement, completes_lightens}
+use Rattle.frames.proofs.CarryLaws.{with_count, carried, stands, carries_made, carries_valued, carries_alone, carries_both, carries_dropped, carries_headed, carries_headed_as, carries_beginning, carries_statement, completes_lightens}
 use Rattle.frames.proofs.AtLaws.{AtStatement, AtWord, Behind, behind-statement, behind_tried, behind_handled, behind_finally, at_part, at_statement, at_word, at_operand}
 use Rattle.frames.proofs.EffectLaws.{behind}
 
 -- the `new` that waits uppermost, with nothing on its left
-record NewWaits (stack : List ℕ) (top : ℕ) (waiting : List Pending) : Type 0 where
+record NewWaits (stack : List Waiting) (top : ℕ) (waiting : List Pending) : Type 0 where
   word : ℕ
   rest : List Pending
   is : waiting ≡ pending new_word word nil ∷ rest
-  word_is : get_or stack ((top - 1) * width + 1) 0 ≡ word
+  word_is : (get_or stack (top - 1) nothing_waits).mark ≡ word
   some : 1 ≤ top
 
-module _ {table : List ℕ} {first : ℕ} {base last : Syntax} {l : Level} {stack cells : List ℕ} where
+module _ {table : List ℕ} {first : ℕ} {base last : Syntax} {l : Level} {stack : List Waiting} {cells : List ℕ} where
   -- nothing else is of its kind
   none_newer : {least : ℕ} {ps : List Pending} → least ≤ new_precedence → Stops least ps → Holds table first base ps last l stack cells → l.floor < l.top
-      → get_or stack ((l.top - 1) * width) 0 ≡ new_word → ⊥
+      → (get_or stack (l.top - 1) nothing_waits).kind ≡ new_word → ⊥
   unfolding binding
   none_newer few stops_none h more is-new = let z = bottom_top h in omega arith
   none_newer few (stops_at {kind = kind} less) h more is-new =
@@ -91,7 +92,7 @@ module _ {table : List ℕ} {first : ℕ} {base last : Syntax} {l : Level} {stac
       omega (arith, b)
 
   new_waits : {waiting starts tail : List Pending} → Operators waiting → Beginnings starts → Stops 1 tail → Holds table first base (waiting ++ (starts ++ tail)) last l stack cells
-      → l.floor < l.top → get_or stack ((l.top - 1) * width) 0 ≡ new_word → NewWaits stack l.top waiting
+      → l.floor < l.top → (get_or stack (l.top - 1) nothing_waits).kind ≡ new_word → NewWaits stack l.top waiting
   new_waits no_operators beginnings stops h more is-new = absurd (none_newer (omega arith) (starts_stop beginnings stops) h more is-new)
   new_waits (more_operators {kind = kind} {mark = mark} {ps = ps} tight alone others) _ stops h more is-new =
       let u = uppermost h in
@@ -100,7 +101,7 @@ module _ {table : List ℕ} {first : ℕ} {base last : Syntax} {l : Level} {stac
 
   -- where none waits, arguments make a call
   makes_call : (waiting below : List Pending) (mark : ℕ) (value done : Syntax) (starts : List Pending) (operand : Syntax)
-      → Holds table first base (waiting ++ below) last l stack cells → (l.floor < l.top → get_or stack ((l.top - 1) * width) 0 ≡ new_word → ⊥)
+      → Holds table first base (waiting ++ below) last l stack cells → (l.floor < l.top → (get_or stack (l.top - 1) nothing_waits).kind ≡ new_word → ⊥)
       → called mark value done starts waiting operand ≡ frame done starts waiting (node call_syntax mark operand value)
   makes_call [] below mark value done starts operand h none = refl
   makes_call (pending kind word left ∷ waiting) below mark value done starts operand h none =
@@ -110,7 +111,7 @@ makes_construct : {waiting rest : List Pending} {word : ℕ} (mark : ℕ) (value
     → called mark value done starts waiting operand ≡ frame done starts rest (node construct_syntax word operand value)
 makes_construct mark value done starts operand e = rw e
 
-module _ {g : Frame} {nests : List machine.Open} {table stack₀ : List ℕ} {first floor passed next n : ℕ} {l : Level} {stack_before stack cells_before cells : List ℕ} (value : Syntax)
+module _ {g : Frame} {nests : List machine.Open} {table : List ℕ} {stack₀ : List Waiting} {first floor passed next n : ℕ} {l : Level} {stack_before stack : List Waiting} {cells_before cells : List ℕ} (value : Syntax)
     (valued : Valued l n value stack_before stack cells_before cells) (fits : n + l.top < first + floor + next) (few : first + floor + next ≤ most_trees) where
   -- the value is the operand's only part: with nothing of its kind before it
   pub closes_alone : {from : Control} {ending : Ending} {target : Target} (closing : Closing) (kind mark : ℕ)
@@ -145,7 +146,7 @@ module _ {g : Frame} {nests : List machine.Open} {table stack₀ : List ℕ} {fi
       (omega arith) few)
 
   -- arguments
-  pub closes_call : {ending : Ending} {target : Target} (mark : ℕ) → (l.floor < l.top → get_or stack ((l.top - 1) * width) 0 ≡ new_word → ⊥)
+  pub closes_call : {ending : Ending} {target : Target} (mark : ℕ) → (l.floor < l.top → (get_or stack (l.top - 1) nothing_waits).kind ≡ new_word → ⊥)
       → Stands (operand_done ending target) g nests table stack₀ first floor passed l stack_before cells_before
       → Stands (operand_done ending target) (machine.close to_call mark value g) nests table stack₀ first floor next (made_one (with_count n l)) stack
       (put_record cells n call_syntax mark (n - l.start + 1))
@@ -154,10 +155,10 @@ module _ {g : Frame} {nests : List machine.Open} {table stack₀ : List ℕ} {fi
       rw (s.is, makes_call s.waiting (s.starts ++ h.tail) mark value s.done s.starts s.operand h.holds none)
       (stands (node call_syntax mark s.operand value) (carries_both call_syntax mark h (omega arith)) s.shaped tt (omega arith) few)
 
-  pub closes_construct : {ending : Ending} {target : Target} (mark word : ℕ) → l.floor < l.top → get_or stack ((l.top - 1) * width) 0 ≡ new_word
-      → get_or stack ((l.top - 1) * width + 1) 0 ≡ word → Stands (operand_done ending target) g nests table stack₀ first floor passed l stack_before cells_before
-      → Stands (operand_done ending target) (machine.close to_call mark value g) nests table stack₀ first floor next (made_one (left_one (with_count n l) stack)) stack
-      (put_record cells n construct_syntax word (n - get_or stack ((l.top - 1) * width + 2) 0 + 1))
+  pub closes_construct : {ending : Ending} {target : Target} (mark word : ℕ) → l.floor < l.top → (get_or stack (l.top - 1) nothing_waits).kind ≡ new_word
+      → (get_or stack (l.top - 1) nothing_waits).mark ≡ word → Stands (operand_done ending target) g nests table stack₀ first floor passed l stack_before cells_before
+      → Stands (operand_done ending target) (machine.close to_call mark value g) nests table stack₀ first floor next (made_one (popped (with_count n l) stack)) stack
+      (put_record cells n construct_syntax word (n - (get_or stack (l.top - 1) nothing_waits).start + 1))
   closes_construct mark word more is-new is_IsWord s =
       let h = carries_valued (carried s) n value valued (omega arith) in
       let w = new_waits h.operators h.beginnings (below_stops h.below) h.holds more is-new in
@@ -167,7 +168,7 @@ module _ {g : Frame} {nests : List machine.Open} {table stack₀ : List ℕ} {fi
       (carries_both construct_syntax w.word (carries_dropped (rw w.is at h)) (omega (arith, w.some))) s.shaped tt (omega (arith, w.some)) few)
 
   -- the value waits as a beginning's left side
-  pub closes_condition : (mark : ℕ) → (l.top + 1) * width ≤ length stack → Stands if_first g nests table stack₀ first floor passed l stack_before cells_before
+  pub closes_condition : (mark : ℕ) → l.top < length stack → Stands if_first g nests table stack₀ first floor passed l stack_before cells_before
       → Stands (statement_due true (in_nest if_nest)) (machine.close to_condition mark value g) nests table stack₀ first floor next (waiting_one (with_count n l))
       (stack_with stack l.top if_syntax l.held l.start) cells
   unfolding binding
@@ -310,7 +311,7 @@ unfolding closing_by
 closing_for closing e = rw e
 
 -- a statement that is a block, or a block of a `try`
-block_closed : {from to : Control} {g : Frame} {nests : List machine.Open} {table stack₀ : List ℕ} {first floor passed next n : ℕ} {l : Level} {stack_before stack cells_before cells : List ℕ} (mark : ℕ) (value : Syntax)
+block_closed : {from to : Control} {g : Frame} {nests : List machine.Open} {table : List ℕ} {stack₀ : List Waiting} {first floor passed next n : ℕ} {l : Level} {stack_before stack : List Waiting} {cells_before cells : List ℕ} (mark : ℕ) (value : Syntax)
     {all : Level} {cells' : List ℕ} → Stands from g nests table stack₀ first floor passed l stack_before cells_before → Spans to_block from to → Valued l n value stack_before stack cells_before cells
     → n + l.top < first + floor + next → first + floor + next ≤ most_trees → Completes (made_one (with_count n l)) stack (put_record cells n block_syntax mark (n - l.start + 1)) all cells'
     → Stands to (machine.close to_block mark value g) nests table stack₀ first floor next all stack cells'
@@ -323,21 +324,21 @@ block_closed mark value s past_handled valued fits few completes =
 block_closed mark value s past_finally valued fits few completes =
     closes_block value valued fits few mark completes (λ done within. behind_finally within) (at_part {setting = in_clause} s s.shaped refl)
 
-module _ {l : Level} {stack cells : List ℕ} (mark n : ℕ) where
+module _ {l : Level} {stack : List Waiting} {cells : List ℕ} (mark n : ℕ) where
   pub parens_close : {r : Level} {cells' : List ℕ} → (r ≡ made_one (with_count n l)) × (cells' ≡ put_record cells n parenthesised_syntax mark (n - l.start + 1)) → ClosesGroup 0 mark n l stack cells r stack cells'
   unfolding closing_by
   parens_close e from to g nests table stack₀ first floor passed next value stack_before cells_before s (past_parens due) valued none fits few =
       rw (e.0, e.1) (closes_alone value valued fits few to_parens parenthesised_syntax mark (λ done starts waiting. refl) due s)
 
-  pub call_closes : {r : Level} {cells' : List ℕ} → (l.floor < l.top → get_or stack ((l.top - 1) * width) 0 ≡ new_word → ⊥)
+  pub call_closes : {r : Level} {cells' : List ℕ} → (l.floor < l.top → (get_or stack (l.top - 1) nothing_waits).kind ≡ new_word → ⊥)
       → (r ≡ made_one (with_count n l)) × (cells' ≡ put_record cells n call_syntax mark (n - l.start + 1)) → ClosesGroup 1 mark n l stack cells r stack cells'
   unfolding closing_by
   call_closes none-new e from to g nests table stack₀ first floor passed next value stack_before cells_before s past_call valued none fits few =
       rw (e.0, e.1) (closes_call value valued fits few mark none-new s)
 
-  pub construct_closes : {r : Level} {cells' : List ℕ} (word : ℕ) → l.floor < l.top → get_or stack ((l.top - 1) * width) 0 ≡ new_word
-      → get_or stack ((l.top - 1) * width + 1) 0 ≡ word
-      → (r ≡ made_one (left_one (with_count n l) stack)) × (cells' ≡ put_record cells n construct_syntax word (n - get_or stack ((l.top - 1) * width + 2) 0 + 1))
+  pub construct_closes : {r : Level} {cells' : List ℕ} (word : ℕ) → l.floor < l.top → (get_or stack (l.top - 1) nothing_waits).kind ≡ new_word
+      → (get_or stack (l.top - 1) nothing_waits).mark ≡ word
+      → (r ≡ made_one (popped (with_count n l) stack)) × (cells' ≡ put_record cells n construct_syntax word (n - (get_or stack (l.top - 1) nothing_waits).start + 1))
       → ClosesGroup 1 mark n l stack cells r stack cells'
   unfolding closing_by
   construct_closes word more is-new is_IsWord e from to g nests table stack₀ first floor passed next value stack_before cells_before s past_call valued none fits few =
@@ -348,7 +349,7 @@ module _ {l : Level} {stack cells : List ℕ} (mark n : ℕ) where
   object_closes e from to g nests table stack₀ first floor passed next value stack_before cells_before s (past_object due) valued none fits few =
       rw (e.0, e.1) (closes_alone value valued fits few to_object object_syntax mark (λ done starts waiting. refl) due s)
 
-  pub condition_closes : {r : Level} {after : List ℕ} → (l.top + 1) * width ≤ length stack
+  pub condition_closes : {r : Level} {after : List Waiting} → l.top < length stack
       → (r ≡ waiting_one (with_count n l)) × (after ≡ stack_with stack l.top if_syntax l.held l.start) → ClosesGroup 3 mark n l stack cells r after cells
   unfolding closing_by
   condition_closes room e from to g nests table stack₀ first floor passed next value stack_before cells_before s past_condition valued none fits few =
@@ -393,7 +394,7 @@ module _ {l : Level} {stack cells : List ℕ} (mark n : ℕ) where
   for_closes from to g nests table stack₀ first floor passed next value stack_before cells_before s (past_for {setting = setting}) valued none fits few =
       closes_for value valued fits few mark (at_word {setting = setting} s s.shaped refl)
 
-  pub for_in_closes : {r : Level} {after : List ℕ} → (r ≡ restarted (with_count n l)) × (after ≡ stack_as stack l.top for_in_syntax) → ClosesGroup 15 mark n l stack cells r after cells
+  pub for_in_closes : {r : Level} {after : List Waiting} → (r ≡ restarted (with_count n l)) × (after ≡ stack_as stack l.top for_in_syntax) → ClosesGroup 15 mark n l stack cells r after cells
   unfolding closing_by
   for_in_closes e from to g nests table stack₀ first floor passed next value stack_before cells_before s (past_for_in {setting = setting}) valued none fits few =
       rw (e.0, e.1) (closes_for_in value valued fits few mark (at_word {setting = setting} s s.shaped refl))
@@ -412,7 +413,7 @@ module _ {l : Level} {stack cells : List ℕ} (mark n : ℕ) where
   unfolding closing_by
   test_closes from to g nests table stack₀ first floor passed next value stack_before cells_before s past_test valued none fits few = closes_test value valued fits few mark s
 
-  index_closed : {from to : Control} {g : Frame} {nests : List machine.Open} {table stack₀ : List ℕ} {first floor passed next : ℕ} {stack_before cells_before : List ℕ} (value : Syntax)
+  index_closed : {from to : Control} {g : Frame} {nests : List machine.Open} {table : List ℕ} {stack₀ : List Waiting} {first floor passed next : ℕ} {stack_before : List Waiting} {cells_before : List ℕ} (value : Syntax)
       → Stands from g nests table stack₀ first floor passed l stack_before cells_before → Spans to_index from to → Valued l n value stack_before stack cells_before cells
       → n + l.top < first + floor + next → first + floor + next ≤ most_trees
       → Stands to (machine.close to_index mark value g) nests table stack₀ first floor next (made_one (with_count n l)) stack
@@ -430,28 +431,28 @@ by_either f g (inl a) = f a
 by_either f g (inr b) = g b
 
 -- what the call in between asks for
-pub group_held : {closing mark n : ℕ} {l r : Level} {stack cells cells' : List ℕ} (kind m : ℕ) → MayClose closing mark n l stack cells
+pub group_held : {closing mark n : ℕ} {l r : Level} {stack : List Waiting} {cells cells' : List ℕ} (kind m : ℕ) → MayClose closing mark n l stack cells
     → (r ≡ made_one (with_count n l)) × (cells' ≡ put_record cells n kind m (n - l.start + 1)) → Backed r stack cells'
 group_held {n = n} kind m may e =
     rw (e.0, e.1)
     (backed (carries_made (carries_valued (carried may.somewhere.stands) n may.value may.valued (omega (arith, may.more))) kind m (omega (arith, may.more))).holds)
 
-pub call_asks : {closing mark n : ℕ} {l : Level} {stack cells : List ℕ} → MayClose closing mark n l stack cells → l.floor < l.top → Usable (with_count n l) stack
+pub call_asks : {closing mark n : ℕ} {l : Level} {stack : List Waiting} {cells : List ℕ} → MayClose closing mark n l stack cells → l.floor < l.top → Usable (with_count n l) stack
 call_asks {n = n} may more = usable (backed (carries_valued (carried may.somewhere.stands) n may.value may.valued (omega (arith, may.more))).holds) more
 
-pub valued_backed : {closing mark n : ℕ} {l : Level} {stack cells : List ℕ} → MayClose closing mark n l stack cells → Backed (with_count n l) stack cells
+pub valued_backed : {closing mark n : ℕ} {l : Level} {stack : List Waiting} {cells : List ℕ} → MayClose closing mark n l stack cells → Backed (with_count n l) stack cells
 valued_backed {n = n} may = backed (carries_valued (carried may.somewhere.stands) n may.value may.valued (omega (arith, may.more))).holds
 
 -- the `for` that waits uppermost
-pub record ForWaits (l : Level) (stack : List ℕ) : Type 0 where
+pub record ForWaits (l : Level) (stack : List Waiting) : Type 0 where
   pub waits : 1 ≤ l.top
-  pub fits : l.top * width ≤ length stack
+  pub fits : l.top ≤ length stack
 
-for_waits : {from to : Control} {g : Frame} {nests : List machine.Open} {table stack₀ : List ℕ} {first floor passed : ℕ} {l : Level} {stack cells : List ℕ} → Spans to_for_in from to
+for_waits : {from to : Control} {g : Frame} {nests : List machine.Open} {table : List ℕ} {stack₀ : List Waiting} {first floor passed : ℕ} {l : Level} {stack : List Waiting} {cells : List ℕ} → Spans to_for_in from to
     → Stands from g nests table stack₀ first floor passed l stack cells → ForWaits l stack
 for_waits (past_for_in {setting = setting}) s =
     let u = uppermost (at_word {setting = setting} s s.shaped refl).carries.holds in record { waits = u.some; fits = u.fits }
 
-pub for_asks : {mark n : ℕ} {l : Level} {stack cells : List ℕ} → MayClose 15 mark n l stack cells → ForWaits l stack
+pub for_asks : {mark n : ℕ} {l : Level} {stack : List Waiting} {cells : List ℕ} → MayClose 15 mark n l stack cells → ForWaits l stack
 unfolding closing_by
 for_asks may = let w = for_waits may.spans may.somewhere.stands in record { waits = w.waits; fits = omega (arith, w.fits, may.valued.kept.same_length) }

@@ -2,7 +2,7 @@
 use mathlib.Core.Path.{◌≡◌, refl, sym, ◌∙◌, ap}
 use mathlib.Core.Bool.{Bool, true, false, cond, not, ◌&&◌}
 use mathlib.Core.List.{List, [], ◌∷◌, ◌++◌}
-use Prim.Native.Nat.{ℕ, ◌+◌, ◌*◌, ◌≤◌, ◌<◌}
+use Prim.Native.Nat.{ℕ, ◌+◌, ◌≤◌, ◌<◌}
 use native.Mathlib.Omega.{arith}
 use borrow.Author.Tests.{lt-ltb, ne_eqb}
 use lib.Dec.{T, eqb, ltb}
@@ -16,7 +16,8 @@ use Rattle.controls.specs.Machinery.Numbers.{control_of, inside_by}
 use Rattle.machine.specs.Machinery.Classes.{is_opener, is_end, is_single}
 use Rattle.controls.specs.declared.Control as code
 use Rattle.controls.specs.Machinery.Written.{put_syntax}
-use Rattle.waiting.specs.Machinery.Waiting.{width, bare}
+use Rattle.waiting.specs.Machinery.Waiting.{bare}
+use Rattle.waiting.specs.declared.Waiting.{Waiting}
 use Rattle.waiting.specs.declared.Level.{Level}
 use Rattle.frames.specs.Machinery.Stands.{Shaped, written, HeldAt, owed, Stands, no_operators, no_beginnings, below_none}
 use Rattle.frames.specs.Machinery.Effects.{StandsSomewhere, Moved, Readies, TurnedTo, of_parameter}
@@ -24,11 +25,13 @@ use Rattle.frames.specs.declared.Standing.{Standing}
 use Rattle.segments.specs.Machinery.Segments.{Segment, inside, count_of, class_at, size_at, place_at, line_at, tokens_at, spot_at, closer_spot, Fine}
 use Rattle.segments.proofs.SegmentLaws.{at_openers, element_then, group_then, end_then}
 use Rattle.groups.specs.Machinery.Closers.{closer_token, pops_there, dies_there, AtCloser, ComesTo}
+use Rattle.std.proofs.Common.{Result}
+use Rattle.answers.specs.declared.faults.Fault.{Fault}
 use Rattle.groups.specs.declared.Parsed.{Parsed}
 use Rattle.levels.specs.Machinery.Runs.{Through, Ran, ran_through, ran_dead, MayRun}
 
 -- where the run of a level is, before a record: what stands around it is behind the nests that are open on it
-pub record Underway (p : Segment) (from : Control) (count top : ℕ) (table before : List ℕ) (c : Control) (l : Level) (at : ℕ) (cells stack : List ℕ) : Type 0 where
+pub record Underway (p : Segment) (from : Control) (count top : ℕ) (table : List ℕ) (before : List Waiting) (c : Control) (l : Level) (at : ℕ) (cells : List ℕ) (stack : List Waiting) : Type 0 where
   pub g : Frame
   pub nests : List Open
   pub runs : (around : List Open) (u : List Token)
@@ -36,10 +39,10 @@ pub record Underway (p : Segment) (from : Control) (count top : ℕ) (table befo
   pub stands : Stands c g nests table before count top at l stack cells
   pub kind : of_parameter c ≡ of_parameter from
   pub low : count + top ≤ p.base
-  pub deep : (p.base + count_of p.cells) * width ≤ length stack
+  pub deep : p.base + count_of p.cells ≤ length stack
   pub within : at ≤ count_of p.cells
 
-abbrev pub somewhere : {p : Segment} {from : Control} {count top : ℕ} {table before : List ℕ} {c : Control} {l : Level} {at : ℕ} {cells stack : List ℕ}
+abbrev pub somewhere : {p : Segment} {from : Control} {count top : ℕ} {table : List ℕ} {before : List Waiting} {c : Control} {l : Level} {at : ℕ} {cells : List ℕ} {stack : List Waiting}
     → Underway p from count top table before c l at cells stack → StandsSomewhere c l stack cells
 somewhere {count = count} {top = top} {table = table} {before = before} {at = at} h =
     record { g = h.g; nests = h.nests; table = table; stack₀ = before; first = count; floor = top; passed = at; stands = h.stands }
@@ -74,7 +77,7 @@ fresh_inside closing =
     (either (eqb closing 14) (fresh (refl, refl, refl, refl, refl) refl (λ word. tt) refl)
     (fresh (refl, (refl, refl, refl)) refl (λ word. tt) refl))))))))))))
 
-pub starts_underway : {p : Segment} {closer count top : ℕ} {table stack : List ℕ} {l : Level} (closing : ℕ) → MayRun p closer count top stack
+pub starts_underway : {p : Segment} {closer count top : ℕ} {table : List ℕ} {stack : List Waiting} {l : Level} (closing : ℕ) → MayRun p closer count top stack
     → l.count ≡ count → l.top ≡ top → l.floor ≡ top → l.start ≡ count → l.held ≡ 0
     → Underway p (inside_by closing) count top table stack (inside_by closing) l 0 table stack
 unfolding put_syntax
@@ -141,7 +144,7 @@ popped true place value behind closing mark f around = refl
 popped false place value behind closing mark f around = refl
 
 -- at a record of a class
-module _ {p : Segment} (fine : Fine p) {from : Control} {count top : ℕ} {table before : List ℕ} {c : Control} {l : Level} {at : ℕ} {cells stack : List ℕ}
+module _ {p : Segment} (fine : Fine p) {from : Control} {count top : ℕ} {table : List ℕ} {before : List Waiting} {c : Control} {l : Level} {at : ℕ} {cells : List ℕ} {stack : List Waiting}
     (h : Underway p from count top table before c l at cells stack) (class : ℕ) (is : class_at p.text p.cells at ≡ class) (here : at < count_of p.cells) where
   -- the tokens from there on start with the record's
   first_token : (u : List Token) → (rest : List Token) × (tokens_at p at ++ u ≡ token class (spot_at p at) ∷ rest)
@@ -155,7 +158,7 @@ module _ {p : Segment} (fine : Fine p) {from : Control} {count top : ℕ} {table
       go false e = (_, element_then fine at class is u (rw (lt-ltb 0 class known, e) tt))
 
   -- the machine stands elsewhere before the token, and takes it the same way
-  module _ {control : code.Control} {s : Standing} {stack' cells' : List ℕ} (at-control : control_of control ≡ c) (readies : Readies control class l stack cells s stack' cells') where
+  module _ {control : code.Control} {s : Standing} {stack' : List Waiting} {cells' : List ℕ} (at-control : control_of control ≡ c) (readies : Readies control class l stack cells s stack' cells') where
     readied : Moved (control_of control) class h.g h.nests table before count top at s stack' cells'
     readied = readies.moves h.g h.nests table before count top at (rw at-control h.stands)
 
@@ -183,7 +186,7 @@ module _ {p : Segment} (fine : Fine p) {from : Control} {count top : ℕ} {table
   singly : T (is_single class) → (u : List Token) → tokens_at p at ++ u ≡ token class (spot_at p at) ∷ (tokens_at p (at + 1) ++ u)
   singly single u = element_then fine at class is u (single_known class single)
 
-  module _ (single : T (is_single class)) {l' : Level} {cells' stack' : List ℕ} where
+  module _ (single : T (is_single class)) {l' : Level} {cells' : List ℕ} {stack' : List Waiting} where
     pub goes_on : {to : Control} {effect : Effect} → look class (row c (line_at p.cells at)) ≡ goto to effect
         → Stands to (affect effect (p.base + at) h.g) h.nests table before count top (at + 1) l' stack' cells'
         → of_parameter to ≡ of_parameter c → length stack' ≡ length stack
@@ -238,7 +241,7 @@ module _ {p : Segment} (fine : Fine p) {from : Control} {count top : ℕ} {table
       within = omega arith;
     }
 
-  module _ (single : T (is_single class)) {cells' stack' : List ℕ} where
+  module _ (single : T (is_single class)) {cells' : List ℕ} {stack' : List Waiting} where
     pub goes_turning : {r : Standing} → look class (row c (line_at p.cells at)) ≡ turn → (s : TurnedTo h.g h.nests table before count top (at + 1) r stack' cells')
         → false ≡ of_parameter c → length stack' ≡ length stack
         → Underway p from count top table before (operand_due s.ending some_target) r.level (at + 1) cells' stack'
@@ -274,7 +277,7 @@ module _ {p : Segment} (fine : Fine p) {from : Control} {count top : ℕ} {table
         ∙ ap (λ (ts : List Token). run (live c h.g (h.nests ++ around)) ts) (group_tokens u)
         ∙ step_run c h.g (h.nests ++ around) class (spot_at p at) (tokens_at (inside p at) 0 ++ (token (class + 1) (closer_spot p at) ∷ rest u)) entry
 
-    pub goes_behind : {l' : Level} {n : ℕ} {head : Bool} {cells₁ stack₁ cells' stack' : List ℕ}
+    pub goes_behind : {l' : Level} {n : ℕ} {head : Bool} {cells₁ : List ℕ} {stack₁ : List Waiting} {cells' : List ℕ} {stack' : List Waiting}
         → (inner : Through (class + 1) (inside p at) within l.count l.top cells stack n head cells₁ stack₁)
         → Stands to (close (cond head (in_for closing) closing) (p.base + at) inner.value h.g) h.nests table before count top (at + size_at p.cells at) l' stack' cells'
         → of_parameter to ≡ of_parameter c → length stack' ≡ length stack
@@ -312,7 +315,7 @@ module _ {p : Segment} (fine : Fine p) {from : Control} {count top : ℕ} {table
       ∙ stays_dead (place_at p.cells p.close at) t.0
 
 -- behind the last record: what the level comes to at its closer is what was run
-module _ {p : Segment} {from : Control} {count top : ℕ} {table before : List ℕ} (control : code.Control) {l : Level} {at : ℕ} {cells stack : List ℕ}
+module _ {p : Segment} {from : Control} {count top : ℕ} {table : List ℕ} {before : List Waiting} (control : code.Control) {l : Level} {at : ℕ} {cells : List ℕ} {stack : List Waiting}
     (h : Underway p from count top table before (control_of control) l at cells stack) (past : count_of p.cells ≤ at) (closer : ℕ) where
   to_closer : (around : List Open) (mark : ℕ) (u : List Token)
       → run (live from empty around) (tokens_at p 0 ++ (closer_token closer p.close mark ∷ u))
@@ -321,10 +324,10 @@ module _ {p : Segment} {from : Control} {count top : ℕ} {table before : List �
       h.runs around (closer_token closer p.close mark ∷ u)
       ∙ ap (λ (ts : List Token). run (live (control_of control) h.g (h.nests ++ around)) ts) (end_then p at past (closer_token closer p.close mark ∷ u))
 
-  pub ran_to_closer : {r : Parsed} {stack' cells' : List ℕ} → ComesTo control closer p.close l stack cells r stack' cells' → Ran closer p from count top table before r cells' stack'
+  pub ran_to_closer : {r : Result Parsed Fault} {stack' : List Waiting} {cells' : List ℕ} → ComesTo control closer p.close l stack cells r stack' cells' → Ran closer p from count top table before r cells' stack'
   ran_to_closer {r} {stack'} {cells'} comes = go (comes h.g h.nests table before count top at h.stands)
     where
-      go : {r : Parsed} → AtCloser closer p.close (control_of control) h.g h.nests table before count top at r stack' cells'
+      go : {r : Result Parsed Fault} → AtCloser closer p.close (control_of control) h.g h.nests table before count top at r stack' cells'
           → Ran closer p from count top table before r cells' stack'
       go (pops_there e) = ran_through (record {
         value = e.value;

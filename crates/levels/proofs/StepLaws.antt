@@ -1,8 +1,8 @@
 -- What each way through the loop of a level comes to, by what the code's step means.
-use mathlib.Core.Path.{◌≡◌, refl, sym, ◌∙◌, ap, subst}
+use mathlib.Core.Path.{◌≡◌, refl, sym, ◌∙◌, subst}
 use mathlib.Core.Bool.{Bool, true, false, cond, not}
 use mathlib.Core.List.{List}
-use Prim.Native.Nat.{ℕ, ◌+◌, ◌-◌, ◌*◌, ◌≤◌, ◌<◌}
+use Prim.Native.Nat.{ℕ, ◌+◌, ◌-◌, ◌≤◌, ◌<◌}
 use native.Mathlib.Omega.{arith}
 use borrow.Author.Tests.{eqb-true, eqb-false}
 use lib.Dec.{T, eqb}
@@ -18,16 +18,17 @@ use Rattle.controls.specs.Machinery.Steps.{Ended, Leads, Spans, past_parens, pas
 use Rattle.controls.specs.declared.Control as code
 use Rattle.controls.specs.declared.Step.{Step}
 use Rattle.controls.specs.declared.Step.TheVariants.{Fail, Goto, Push, Enter, Ask, Turn}
-use Rattle.waiting.specs.Machinery.Waiting.{width}
+use Rattle.waiting.specs.declared.Waiting.{Waiting}
 use Rattle.waiting.specs.declared.Level.{Level}
 use Rattle.frames.specs.Machinery.Effects.{StandsSomewhere, Readies, MayAffect, Affects, MayEnter, EntersNest, MayAsk, Asks, MayTurn, Turns, Valued, MayClose, ClosesGroup, of_parameter}
 use Rattle.frames.specs.declared.Standing.{Standing}
 use Rattle.frames.proofs.ParameterLaws.{ended_kind, leads_kind, spans_kind, parameter_inside}
-use Rattle.segments.specs.Machinery.Segments.{Segment, segment, inside, count_of, class_at, size_at, place_at, closer_at, line_at, content_of, Fine}
+use Rattle.segments.specs.Machinery.Segments.{Segment, inside, count_of, class_at, size_at, place_at, line_at, Fine}
 use Rattle.segments.proofs.SegmentLaws.{at_openers, inside_fine, inside_count, never_ends}
 use Rattle.levels.specs.Machinery.Runs.{Through, Ran, ran_through, ran_dead, MayRun, MayOpen}
 use Rattle.groups.specs.declared.Parsed.{Parsed}
-use Rattle.groups.specs.declared.Parsed.TheVariants.{Done, Bad}
+use Rattle.std.proofs.Common.{Ok, Err, Result}
+use Rattle.answers.specs.declared.faults.Fault.{Fault}
 use Rattle.levels.proofs.RunLaws as runs
 use Rattle.levels.proofs.RunLaws.{Underway}
 
@@ -153,14 +154,14 @@ turn_entry (means_turn t e) = record { entry = refl; single = t; ended = e }
 opener_is : (class : ℕ) → T (is_opener class) → (class ≤ open_bracket) × T (is_end (class + 1))
 opener_is = at_openers (λ (k : ℕ). (k ≤ open_bracket) × T (is_end (k + 1))) (omega arith, tt) (omega arith, tt) (omega arith, tt)
 
-ran : {q : Segment} {c : Control} {class count top n : ℕ} {head : Bool} {a b cells stack : List ℕ} → Ran class q c count top a b (Done n head) cells stack
-    → Through class q c count top a b n head cells stack
+ran : {q : Segment} {c : Control} {class count top : ℕ} {made : Parsed} {a : List ℕ} {b : List Waiting} {cells : List ℕ} {stack : List Waiting} → Ran class q c count top a b (Ok made) cells stack
+    → Through class q c count top a b made.count made.within cells stack
 ran (ran_through t) = t
 
 -- a turn of the loop up to its step: the level is under way before a record, it is readied for the record's token, and the step is that of
 -- the table
-pub record Arrival (p : Segment) (from : Control) (count top : ℕ) (table before : List ℕ) (control : code.Control) (first : Level) (at : ℕ) (old oldStack : List ℕ)
-    (class : ℕ) (newline : Bool) (s : Standing) (stack cells : List ℕ) (step : Step) : Type 0 where
+pub record Arrival (p : Segment) (from : Control) (count top : ℕ) (table : List ℕ) (before : List Waiting) (control : code.Control) (first : Level) (at : ℕ) (old : List ℕ) (oldStack : List Waiting)
+    (class : ℕ) (newline : Bool) (s : Standing) (stack : List Waiting) (cells : List ℕ) (step : Step) : Type 0 where
   pub fine : Fine p
   pub underway : Underway p from count top table before (control_of control) first at old oldStack
   pub here : at < count_of p.cells
@@ -169,8 +170,8 @@ pub record Arrival (p : Segment) (from : Control) (count top : ℕ) (table befor
   pub readies : Readies control class first oldStack old s stack cells
   pub steps : Settled s.control class → Means (control_of s.control) class step (look class (row (control_of s.control) newline))
 
-module _ {p : Segment} {from : Control} {count top : ℕ} {table before : List ℕ} {control : code.Control} {first : Level} {at : ℕ} {old oldStack : List ℕ}
-    {class : ℕ} {newline : Bool} {s : Standing} {stack cells : List ℕ} {step : Step}
+module _ {p : Segment} {from : Control} {count top : ℕ} {table : List ℕ} {before : List Waiting} {control : code.Control} {first : Level} {at : ℕ} {old : List ℕ} {oldStack : List Waiting}
+    {class : ℕ} {newline : Bool} {s : Standing} {stack : List Waiting} {cells : List ℕ} {step : Step}
     (turn : Arrival p from count top table before control first at old oldStack class newline s stack cells step) where
   abbrev fine : Fine p
   fine = turn.fine
@@ -202,15 +203,15 @@ module _ {p : Segment} {from : Control} {count top : ℕ} {table before : List �
   abbrev somewhere : StandsSomewhere c l stack cells
   somewhere = runs.somewhere h
 
-  room : (l.top + 1) * width ≤ length stack
+  room : l.top < length stack
   room = omega (arith, h.deep, h.low, h.stands.passes)
 
   below_most : count + top + at < most_trees
   below_most = omega (arith, h.low, fine.few)
 
   -- it dies at the record
-  pub fails : {closer place : ℕ} {cells' stack' : List ℕ} → step ≡ Fail → place ≡ place_at p.cells p.close at
-      → Ran closer p from count top table before (Bad place) cells' stack'
+  pub fails : {closer place : ℕ} {cells' : List ℕ} {stack' : List Waiting} → step ≡ Fail → place ≡ place_at p.cells p.close at
+      → Ran closer p from count top table before (Err (Fault.NoProgram place)) cells' stack'
   fails e z =
       let entry = fail_entry (rw is (never_ends p.text p.cells at)) (means_as e) in
       rw z (ran_dead λ around mark u. runs.dies_here fine h class (sym is) here (entry_at entry) around _)
@@ -231,7 +232,7 @@ module _ {p : Segment} {from : Control} {count top : ℕ} {table before : List �
       marked = omega (arith, fine.few);
     }
 
-    pub affected : {l' : Level} {cells' stack' : List ℕ} → Affects (effect_by effect class) (p.base + at) l stack cells l' stack' cells' → length stack' ≡ length stack
+    pub affected : {l' : Level} {cells' : List ℕ} {stack' : List Waiting} → Affects (effect_by effect class) (p.base + at) l stack cells l' stack' cells' → length stack' ≡ length stack
         → Underway p from count top table before (control_of to) l' (at + 1) cells' stack'
     affected affects long =
         runs.goes_on fine h class (sym is) here goes.single (entry_at goes.entry)
@@ -253,7 +254,7 @@ module _ {p : Segment} {from : Control} {count top : ℕ} {table before : List �
       marked = omega (arith, fine.few);
     }
 
-    pub entered : {to : Control} {l' : Level} {stack' cells' : List ℕ} → to ≡ entered_by nest → EntersNest nest number (p.base + at) l stack cells l' stack' cells'
+    pub entered : {to : Control} {l' : Level} {stack' : List Waiting} {cells' : List ℕ} → to ≡ entered_by nest → EntersNest nest number (p.base + at) l stack cells l' stack' cells'
         → length stack' ≡ length stack → Underway p from count top table before to l' (at + 1) cells' stack'
     entered inside opens long =
         rw inside
@@ -269,7 +270,7 @@ module _ {p : Segment} {from : Control} {count top : ℕ} {table before : List �
     pub may_ask : MayAsk s.control (p.base + at) l stack cells
     may_ask = record { ending = asks.ending; ends = asks.ended; somewhere = somewhere; room = room; marked = omega (arith, fine.few) }
 
-    pub asked : {r : Standing} {cells' stack' : List ℕ} → Asks s.control (p.base + at) l stack cells r stack' cells' → length stack' ≡ length stack
+    pub asked : {r : Standing} {cells' : List ℕ} {stack' : List Waiting} → Asks s.control (p.base + at) l stack cells r stack' cells' → length stack' ≡ length stack
         → Underway p from count top table before (control_of r.control) r.level (at + 1) cells' stack'
     asked opens long =
         let a = opens asks.ending h.g h.nests table before count top at h.stands asks.ended below_most in
@@ -284,7 +285,7 @@ module _ {p : Segment} {from : Control} {count top : ℕ} {table before : List �
     pub may_turn : MayTurn l stack cells
     may_turn = record { from = c; ends = turns.ended; somewhere = somewhere }
 
-    pub turned : {r : Standing} {cells' stack' : List ℕ} → Turns l stack cells r stack' cells' → length stack' ≡ length stack
+    pub turned : {r : Standing} {cells' : List ℕ} {stack' : List Waiting} → Turns l stack cells r stack' cells' → length stack' ≡ length stack
         → Underway p from count top table before (control_of r.control) r.level (at + 1) cells' stack'
     turned answers long =
         let a = answers c h.g h.nests table before count top at h.stands turns.ended below_most in
@@ -299,8 +300,8 @@ module _ {p : Segment} {from : Control} {count top : ℕ} {table before : List �
     pub class_small : class ≤ open_bracket
     class_small = (opener_is class pushes.opens).0
 
-    pub may_open : {n m : ℕ} → n ≡ l.count → m ≡ l.top → MayOpen p at (class + 1) n m stack
-    may_open a b = record {
+    pub may_open : MayOpen p at (class + 1) l.count l.top stack
+    may_open = record {
       fine = fine;
       here = here;
       low = omega (arith, h.low, h.stands.passes);
@@ -308,35 +309,35 @@ module _ {p : Segment} {from : Control} {count top : ℕ} {table before : List �
       closes = (opener_is class pushes.opens).1;
     }
 
-    inner_dead : {closer place : ℕ} {cells₁ stack₁ cells' stack' : List ℕ}
-        → Ran (class + 1) (inside p at) (inside_by closing) l.count l.top cells stack (Bad place) cells₁ stack₁
-        → Ran closer p from count top table before (Bad place) cells' stack'
+    inner_dead : {closer : ℕ} {fault : Fault} {cells₁ cells' : List ℕ} {stack₁ stack' : List Waiting}
+        → Ran (class + 1) (inside p at) (inside_by closing) l.count l.top cells stack (Err fault) cells₁ stack₁
+        → Ran closer p from count top table before (Err fault) cells' stack'
     inner_dead (ran_dead dies) = ran_dead λ around mark u. runs.dies_inside fine h class (sym is) here pushes.opens (entry_at pushes.entry) dies around _
 
-    pub inner_dies : {r : Parsed} {closer place : ℕ} {cells₁ stack₁ cells' stack' : List ℕ}
-        → Ran (class + 1) (inside p at) (inside_by closing) l.count l.top cells stack r cells₁ stack₁ → r ≡ Bad place
-        → Ran closer p from count top table before (Bad place) cells' stack'
+    pub inner_dies : {r : Result Parsed Fault} {closer : ℕ} {fault : Fault} {cells₁ cells' : List ℕ} {stack₁ stack' : List Waiting}
+        → Ran (class + 1) (inside p at) (inside_by closing) l.count l.top cells stack r cells₁ stack₁ → r ≡ Err fault
+        → Ran closer p from count top table before (Err fault) cells' stack'
     inner_dies {cells₁ = cells₁} {stack₁ = stack₁} inner q =
-        inner_dead (subst (λ (x : Parsed). Ran (class + 1) (inside p at) (inside_by closing) l.count l.top cells stack x cells₁ stack₁) q inner)
+        inner_dead (subst (λ (x : Result Parsed Fault). Ran (class + 1) (inside p at) (inside_by closing) l.count l.top cells stack x cells₁ stack₁) q inner)
 
-    module _ {r : Parsed} {n : ℕ} {head : Bool} {cells₁ stack₁ : List ℕ} (inside-ran : Ran (class + 1) (inside p at) (inside_by closing) l.count l.top cells stack r cells₁ stack₁) (q : r ≡ Done n head)
-        (by : ℕ) (closes_by : closing_by by ≡ cond head (in_for (closing_by closing)) (closing_by closing)) where
-      inner : Ran (class + 1) (inside p at) (inside_by closing) l.count l.top cells stack (Done n head) cells₁ stack₁
-      inner = subst (λ (x : Parsed). Ran (class + 1) (inside p at) (inside_by closing) l.count l.top cells stack x cells₁ stack₁) q inside-ran
+    module _ {r : Result Parsed Fault} {made : Parsed} {cells₁ : List ℕ} {stack₁ : List Waiting} (inside-ran : Ran (class + 1) (inside p at) (inside_by closing) l.count l.top cells stack r cells₁ stack₁) (q : r ≡ Ok made)
+        (by : ℕ) (closes_by : closing_by by ≡ cond made.within (in_for (closing_by closing)) (closing_by closing)) where
+      inner : Ran (class + 1) (inside p at) (inside_by closing) l.count l.top cells stack (Ok made) cells₁ stack₁
+      inner = subst (λ (x : Result Parsed Fault). Ran (class + 1) (inside p at) (inside_by closing) l.count l.top cells stack x cells₁ stack₁) q inside-ran
 
       spans_by : Spans (closing_by by) c (control_of to)
-      spans_by = rw closes_by (spans_in head pushes.spans)
+      spans_by = rw closes_by (spans_in made.within pushes.spans)
 
       plain_by : closing_by by ≡ to_parameter → (ran inner).value ≡ nil
-      plain_by e = (ran inner).plain (parameter_inside closing (parameter_in head (closing_by closing) (sym closes_by ∙ e)))
+      plain_by e = (ran inner).plain (parameter_inside closing (parameter_in made.within (closing_by closing) (sym closes_by ∙ e)))
 
-      valued : Valued l n (ran inner).value stack stack₁ cells cells₁
+      valued : Valued l made.count (ran inner).value stack stack₁ cells cells₁
       valued = let t = ran inner in record { count_is = t.count_is; cells_are = t.cells_are; kept = t.kept }
 
       size_is : count_of (inside p at).cells ≡ size_at p.cells at - 1
       size_is = inside_count fine at here
 
-      fewer : n + l.top < count + top + (at + size_at p.cells at)
+      fewer : made.count + l.top < count + top + (at + size_at p.cells at)
       fewer =
           let f = fine.at at here in
           omega (arith, (ran inner).passes, size_is, h.stands.passes, f.some)
@@ -347,7 +348,7 @@ module _ {p : Segment} {from : Control} {count top : ℕ} {table before : List �
       long₁ : length stack₁ ≡ length stack
       long₁ = (ran inner).kept.same_length
 
-      pub may_close : MayClose by (p.base + at) n l stack₁ cells₁
+      pub may_close : MayClose by (p.base + at) made.count l stack₁ cells₁
       may_close = record {
         from = c;
         to = control_of to;
@@ -362,7 +363,7 @@ module _ {p : Segment} {from : Control} {count top : ℕ} {table before : List �
         marked = omega (arith, fine.few);
       }
 
-      pub closed : {l' : Level} {cells' stack' : List ℕ} → ClosesGroup by (p.base + at) n l stack₁ cells₁ l' stack' cells' → length stack' ≡ length stack₁
+      pub closed : {l' : Level} {cells' : List ℕ} {stack' : List Waiting} → ClosesGroup by (p.base + at) made.count l stack₁ cells₁ l' stack' cells' → length stack' ≡ length stack₁
           → Underway p from count top table before (control_of to) l' (at + size_at p.cells at) cells' stack'
       closed closes long =
           runs.goes_behind fine h class (sym is) here pushes.opens (entry_at pushes.entry) (ran inner)
@@ -370,36 +371,20 @@ module _ {p : Segment} {from : Control} {count top : ℕ} {table before : List �
           at (closes c (control_of to) h.g h.nests table before count top at (at + size_at p.cells at) (ran inner).value stack cells h.stands spans_by valued plain_by fewer few))
           (spans_kind pushes.spans) (long ∙ long₁)
 
--- the inside of a group, as the code has it
-any_close : {text cells : List ℕ} {base close : ℕ} → Fine (segment text cells base close) → Fine (segment text cells base 0)
-any_close fine = record { few = fine.few; at = fine.at }
-
-pub open_any : {text cells : List ℕ} {base close at closer count top : ℕ} {stack : List ℕ} → MayOpen (segment text cells base close) at closer count top stack
-    → MayOpen (segment text cells base 0) at closer count top stack
-open_any may = record { fine = any_close may.fine; here = may.here; low = may.low; deep = may.deep; closes = may.closes }
-
-module _ {p : Segment} {at closer count top : ℕ} {stack within : List ℕ} {end : ℕ} (may : MayOpen p at closer count top stack)
-    (content : within ≡ content_of p.cells at) (closer_is : end ≡ closer_at p.cells at) where
-  size_inside : count_of within ≡ size_at p.cells at - 1
-  size_inside = ap count_of content ∙ inside_count may.fine at may.here
-
-  pub may_run : MayRun (segment p.text within (p.base + at + 1) end) closer count top stack
+-- the inside of a group may be run, and has fewer records
+module _ {p : Segment} {at closer count top : ℕ} {stack : List Waiting} (may : MayOpen p at closer count top stack) where
+  pub may_run : MayRun (inside p at) closer count top stack
   may_run =
       let f = may.fine.at at may.here in
       record {
-        fine = rw (content, closer_is) (inside_fine may.fine at may.here);
+        fine = inside_fine may.fine at may.here;
         low = may.low;
-        deep = omega (arith, may.deep, size_inside, f.some, f.fits);
+        deep = omega (arith, may.deep, inside_count may.fine at may.here, f.some, f.fits);
         closes = may.closes;
       }
 
-  pub fewer_inside : count_of within < count_of p.cells
-  fewer_inside = let f = may.fine.at at may.here in omega (arith, size_inside, f.some, f.fits)
-
-  pub as_inside : {c c' : Control} {table before : List ℕ} {r : Parsed} {cells stack' : List ℕ}
-      → Ran closer (segment p.text within (p.base + at + 1) end) c count top table before r cells stack' → c ≡ c'
-      → Ran closer (inside p at) c' count top table before r cells stack'
-  as_inside ran e = rw (content, closer_is, e) at ran
+  pub fewer_inside : count_of (inside p at).cells < count_of p.cells
+  fewer_inside = let f = may.fine.at at may.here in omega (arith, inside_count may.fine at may.here, f.some, f.fits)
 
 -- where the parsers start
 pub body_inside : (closing : ℕ) → (closing ≡ 5 → ⊥) → 5 ≤ closing → closing < 8 → statement_due false (among body) ≡ inside_by closing
@@ -418,7 +403,7 @@ pub block_inside : {closing : ℕ} → closing ≡ 5 → statement_due false (se
 unfolding inside_by setting_by
 block_inside e = rw e
 
-pub ran_as : {class : ℕ} {p : Segment} {c d : Control} {count top : ℕ} {table before : List ℕ} {r : Parsed} {cells stack : List ℕ}
+pub ran_as : {class : ℕ} {p : Segment} {c d : Control} {count top : ℕ} {table : List ℕ} {before : List Waiting} {r : Result Parsed Fault} {cells : List ℕ} {stack : List Waiting}
     → Ran class p c count top table before r cells stack → c ≡ d → Ran class p d count top table before r cells stack
 ran_as {class = class} {p = p} {count = count} {top = top} {table = table} {before = before} {r = r} {cells = cells} {stack = stack} ran e =
     subst (λ (k : Control). Ran class p k count top table before r cells stack) e ran

@@ -32,10 +32,7 @@ pub const TREES_OUTPUT: usize = 11 * TREES + 40;
 pub fn front(input: &[u8], count: usize) -> &[u8]
     ensures { result.now ≡ take count input.now }
 {
-    if count <= input.len() {
-        return &input[0..count];
-    }
-    input
+    &input[..count.min(input.len())]
 }
 
 // Reads a text, or refuses it as too long for `treelist`.
@@ -49,7 +46,8 @@ fn read_short(text: &[u8], trees: &mut [u32; SHORT_TREES]) -> Answer
     reader::read(text, trees)
 }
 
-// What `treelist` prints of a text whose front was read into a buffer.
+// What `treelist` prints of a text whose front was read into a buffer. `list_trees` is the same but for `read_short` and the sizes, which its
+// contract, of the whole text, has from the types of the parameters: a common function would take the reading as a closure, for two lines.
 pub fn list_short(
     input: &[u8; SHORT_INPUT],
     count: usize,

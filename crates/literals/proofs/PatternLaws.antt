@@ -1,4 +1,5 @@
 -- Laws of `pattern_rest` at a place of the text: one for each way that a byte is taken.
+use Rattle.std.specs.Prelude.{Ok, Err}
 use mathlib.Core.Path.{◌≡◌, refl, ◌∙◌}
 use mathlib.Core.List.{List}
 use mathlib.Core.Bool.{Bool, true, false, not}
@@ -13,23 +14,22 @@ use Rattle.text.specs.Machinery.Codes.{turning, code_of, code_over}
 use Rattle.text.specs.Runs.{run}
 use Rattle.text.proofs.Lists.{drop_at}
 use Rattle.text.proofs.CodeLaws.{code_passed, code_line_end, code_illegal, code_apart, over_passed}
-use Rattle.answers.specs.Faults.{stray, open_pattern}
+use Rattle.answers.specs.declared.faults.Fault.{Fault}
 use Rattle.literals.specs.Strings.{backslash}
 use Rattle.literals.specs.Patterns.{pattern_rest}
-use Rattle.answers.specs.declared.Literal.{Literal}
 
 module _ (first : ℕ) (s : List ℕ) (i : ℕ) where
-  pub pattern_past : (class taken : Bool) → length s ≤ i → pattern_rest first class taken i (drop i s) ≡ Literal.Fault open_pattern first
+  pub pattern_past : (class taken : Bool) → length s ≤ i → pattern_rest first class taken i (drop i s) ≡ Err (Fault.OpenPattern first)
   unfolding pattern_rest
   pattern_past class taken h = rw (drop_of_length-le s h)
 
   module _ (h : i < length s) where
     pub pattern_newline : (class taken : Bool) → code_of (get_or s i 0) ≡ 1
-        → pattern_rest first class taken i (drop i s) ≡ Literal.Fault open_pattern first
+        → pattern_rest first class taken i (drop i s) ≡ Err (Fault.OpenPattern first)
     unfolding pattern_rest
     pattern_newline class taken k = rw (drop_at s i h) (rw (code_line_end (get_or s i 0) k, pattern_rest))
 
-    pub pattern_stray : (class taken : Bool) → code_of (get_or s i 0) ≡ 0 → pattern_rest first class taken i (drop i s) ≡ Literal.Fault stray i
+    pub pattern_stray : (class taken : Bool) → code_of (get_or s i 0) ≡ 0 → pattern_rest first class taken i (drop i s) ≡ Err (Fault.Stray i)
     unfolding pattern_rest
     pattern_stray class taken k =
         let f = code_illegal (get_or s i 0) k in
@@ -56,7 +56,7 @@ module _ (first : ℕ) (s : List ℕ) (i : ℕ) where
             let f = code_passed (get_or s i 0) k in
             rw (drop_at s i h) (rw (f.0, f.1, ne_eqb _ _ n, pattern_rest))
 
-        pub pattern_close : get_or s i 0 ≡ byte "/" → pattern_rest first false false i (drop i s) ≡ Literal.Ends (i + 1 + run name_byte (drop (i + 1) s))
+        pub pattern_close : get_or s i 0 ≡ byte "/" → pattern_rest first false false i (drop i s) ≡ Ok (i + 1 + run name_byte (drop (i + 1) s))
         unfolding pattern_rest
         pattern_close e =
             let f = code_passed (get_or s i 0) k in

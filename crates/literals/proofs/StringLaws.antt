@@ -1,4 +1,5 @@
 -- Laws of `string_rest` at a place of the text: one for each way that a byte is taken.
+use Rattle.std.specs.Prelude.{Ok, Err}
 use mathlib.Core.Path.{◌≡◌, refl, ◌∙◌}
 use mathlib.Core.List.{List}
 use mathlib.Core.Bool.{Bool, true, false, ◌||◌}
@@ -12,9 +13,8 @@ use Rattle.text.specs.Machinery.Codes.{turning, code_of, code_over}
 use Rattle.text.specs.Runs.{run}
 use Rattle.text.proofs.Lists.{drop_at}
 use Rattle.text.proofs.CodeLaws.{code_passed, code_line_end, code_illegal, code_apart, over_passed}
-use Rattle.answers.specs.Faults.{stray, open_string}
+use Rattle.answers.specs.declared.faults.Fault.{Fault}
 use Rattle.literals.specs.Strings.{quote, string_rest, backslash}
-use Rattle.answers.specs.declared.Literal.{Literal}
 
 -- a quote is a turning byte
 quote_turns : (q : ℕ) → quote q ≡ true → turning q ≡ true
@@ -27,16 +27,16 @@ quote_turns q e = go (eqb q (byte "'")) refl (eqb q 0x22) refl e
     go false f false g z = absurd (let o : ◌≡◌ {A = ℕ} 0 1 = cc in omega arith)
 
 module _ (q first : ℕ) (s : List ℕ) (i : ℕ) where
-  pub string_past : (taken : Bool) → length s ≤ i → string_rest q first taken i (drop i s) ≡ Literal.Fault open_string first
+  pub string_past : (taken : Bool) → length s ≤ i → string_rest q first taken i (drop i s) ≡ Err (Fault.OpenString first)
   unfolding string_rest
   string_past taken h = rw (drop_of_length-le s h)
 
   module _ (h : i < length s) where
-    pub string_newline : (taken : Bool) → code_of (get_or s i 0) ≡ 1 → string_rest q first taken i (drop i s) ≡ Literal.Fault open_string first
+    pub string_newline : (taken : Bool) → code_of (get_or s i 0) ≡ 1 → string_rest q first taken i (drop i s) ≡ Err (Fault.OpenString first)
     unfolding string_rest
     string_newline taken k = rw (drop_at s i h) (rw (code_line_end (get_or s i 0) k, string_rest))
 
-    pub string_stray : (taken : Bool) → code_of (get_or s i 0) ≡ 0 → string_rest q first taken i (drop i s) ≡ Literal.Fault stray i
+    pub string_stray : (taken : Bool) → code_of (get_or s i 0) ≡ 0 → string_rest q first taken i (drop i s) ≡ Err (Fault.Stray i)
     unfolding string_rest
     string_stray taken k =
         let f = code_illegal (get_or s i 0) k in
@@ -49,7 +49,7 @@ module _ (q first : ℕ) (s : List ℕ) (i : ℕ) where
           let f = code_passed (get_or s i 0) k in
           rw (drop_at s i h) (rw (f.0, f.1, string_rest))
 
-      pub string_close : get_or s i 0 ≡ q → string_rest q first false i (drop i s) ≡ Literal.Ends (i + 1)
+      pub string_close : get_or s i 0 ≡ q → string_rest q first false i (drop i s) ≡ Ok (i + 1)
       unfolding string_rest
       string_close e =
           let f = code_passed (get_or s i 0) k in

@@ -1,14 +1,12 @@
 // Regular expressions: to a slash that stands outside classes and that no backslash takes, and the flags after it.
 ghost use Rattle.std.specs.Prelude.{◌≡◌, false, drop};
-ghost use Rattle.text.specs.Machinery.Codes.{byte_codes};
 ghost use Rattle.literals.specs.Patterns.{pattern_rest};
 
-use answers::Literal;
-use answers::faults::{OPEN_PATTERN, STRAY};
+use answers::faults::Fault;
+use text::Codes;
 
 // The regular expression that the slash at `first` opens, from the byte after it on.
-pub fn pattern_rest(codes: &[u8], text: &[u8], first: usize, from: usize) -> Literal
-    requires { codes.now ≡ byte_codes }
+pub fn pattern_rest(codes: &Codes, text: &[u8], first: usize, from: usize) -> Result<usize, Fault>
     ensures { result ≡ pattern_rest first false false from (drop from text.now) }
 {
     let mut class = false;
@@ -16,17 +14,17 @@ pub fn pattern_rest(codes: &[u8], text: &[u8], first: usize, from: usize) -> Lit
     let mut i = from;
     while i < text.len() {
         let b = text[i];
-        let code = text::code(codes, b);
+        let code = codes.of(b);
         if text::TURNING < code {
             taken = false;
             i = runs::run_end(codes, text, i + 1, text::TURNING);
             continue;
         }
         if code == text::LINE_END {
-            return Literal::Fault(OPEN_PATTERN, first);
+            return Err(Fault::OpenPattern(first));
         }
         if code == text::ILLEGAL {
-            return Literal::Fault(STRAY, i);
+            return Err(Fault::Stray(i));
         }
         if taken {
             taken = false;
@@ -44,10 +42,10 @@ pub fn pattern_rest(codes: &[u8], text: &[u8], first: usize, from: usize) -> Lit
             continue;
         }
         if b == b'/' {
-            return Literal::Ends(runs::name_end(codes, text, i + 1));
+            return Ok(runs::name_end(codes, text, i + 1));
         }
         class = b == b'[';
         i += 1;
     }
-    Literal::Fault(OPEN_PATTERN, first)
+    Err(Fault::OpenPattern(first))
 }

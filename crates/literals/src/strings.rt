@@ -1,40 +1,43 @@
 // Strings: from a quote to the same quote.
 ghost use Rattle.std.specs.Prelude.{◌≡◌, true, false, drop};
-ghost use Rattle.text.specs.Machinery.Codes.{byte_codes};
 ghost use Rattle.literals.specs.Strings.{quote, string_rest};
 
-use answers::Literal;
-use answers::faults::{OPEN_STRING, STRAY};
+use answers::faults::Fault;
+use text::Codes;
 
+#[tactic(auto, unfolding(crate::specs::Strings::quote))]
 pub fn is_quote(b: u8) -> bool
     ensures { result ≡ quote b }
 {
-    if b == b'\'' {
-        return true;
-    }
-    b == b'"'
+    b == b'\'' || b == b'"'
 }
 
 // The string that the quote `q` at `first` opens, from the byte after it on.
-pub fn string_rest(codes: &[u8], text: &[u8], q: u8, first: usize, from: usize) -> Literal
-    requires { (codes.now ≡ byte_codes) × (quote q ≡ true) }
+pub fn string_rest(
+    codes: &Codes,
+    text: &[u8],
+    q: u8,
+    first: usize,
+    from: usize,
+) -> Result<usize, Fault>
+    requires { quote q ≡ true }
     ensures { result ≡ string_rest q first false from (drop from text.now) }
 {
     let mut taken = false;
     let mut i = from;
     while i < text.len() {
         let b = text[i];
-        let code = text::code(codes, b);
+        let code = codes.of(b);
         if text::TURNING < code {
             taken = false;
             i = runs::run_end(codes, text, i + 1, text::TURNING);
             continue;
         }
         if code == text::LINE_END {
-            return Literal::Fault(OPEN_STRING, first);
+            return Err(Fault::OpenString(first));
         }
         if code == text::ILLEGAL {
-            return Literal::Fault(STRAY, i);
+            return Err(Fault::Stray(i));
         }
         if taken {
             taken = false;
@@ -42,10 +45,10 @@ pub fn string_rest(codes: &[u8], text: &[u8], q: u8, first: usize, from: usize) 
             continue;
         }
         if b == q {
-            return Literal::Ends(i + 1);
+            return Ok(i + 1);
         }
         taken = b == b'\\';
         i += 1;
     }
-    Literal::Fault(OPEN_STRING, first)
+    Err(Fault::OpenString(first))
 }

@@ -1,4 +1,5 @@
 -- The parts of numbers at a place of the text, as the code finds their ends.
+use Rattle.std.specs.Prelude.{Ok, Err}
 use mathlib.Core.Path.{◌≡◌, refl, ap, sym, ◌∙◌}
 use mathlib.Core.List.{List}
 use mathlib.Core.Bool.{Bool, true, false, cond, ◌&&◌, ◌||◌, and-false}
@@ -6,21 +7,27 @@ use Prim.Native.Nat.{ℕ, ◌+◌, ◌≤◌}
 use native.Mathlib.Nat.{add-zero}
 use native.Mathlib.Omega.{arith}
 use borrow.Author.Tests.{eq-eqb, ne_eqb}
-use lib.Dec.{eqb, leb}
+use lib.Dec.{eqb}
 use lib.ListN.{length, get_or, drop, drop_of_length-le, get_or-eq_default}
 use lib.Seq.{get_or-drop, drop-drop}
+use Rattle.std.specs.Char.{is_ascii_hexdigit}
 use Rattle.text.specs.Quoted.{byte}
-use Rattle.text.specs.Bytes.{digit, letter, name_byte}
+use Rattle.text.specs.Bytes.{between, digit, letter, name_byte}
 use Rattle.text.specs.Runs.{run}
-use Rattle.answers.specs.Faults.{bad_number}
+use Rattle.answers.specs.declared.faults.Fault.{Fault}
 use Rattle.numbers.specs.Numbers.{hex_digit, exponent_indicator, plus_or_minus, hex_indicator, run_behind, hex_length, integer_length, fraction_length, exponent_length, decimal_length, number_length, number_from}
-use Rattle.answers.specs.declared.Literal.{Literal}
 
--- a hexadecimal digit by its place among the limits
-pub hex_known : (b : ℕ) (l m n o p q : Bool) → leb 48 b ≡ l → leb b 57 ≡ m → leb 97 b ≡ n → leb b 102 ≡ o → leb 65 b ≡ p → leb b 70 ≡ q
-    → ((l && m) || (n && o) || (p && q)) ≡ hex_digit b
+-- a hexadecimal digit, as the library tells one
+pub hex_known : (b : ℕ) → is_ascii_hexdigit b ≡ hex_digit b
 unfolding hex_digit digit
-hex_known b l m n o p q e f g h i j = rw (e, f, g, h, i, j)
+hex_known b = swap (between (byte "0") (byte "9") b) (between (byte "A") (byte "F") b) (between (byte "a") (byte "f") b)
+  where
+    swap : (d u l : Bool) → ((d || u) || l) ≡ (d || l || u)
+    swap true u l = refl
+    swap false true true = refl
+    swap false true false = refl
+    swap false false true = refl
+    swap false false false = refl
 
 shifted : (t : Bool) (i n r : ℕ) → cond t i (i + n + r) ≡ i + cond t 0 (n + r)
 shifted true i n r = omega arith
@@ -134,23 +141,23 @@ module _ (s : List ℕ) (i : ℕ) where
     number_decimal n = let z : hex_length (drop i s) ≡ 0 = omega arith in rw z
 
   -- past the text's end there is nothing to cut
-  pub number_past : length s ≤ i → number_from i (drop i s) ≡ Literal.Ends i
+  pub number_past : length s ≤ i → number_from i (drop i s) ≡ Ok i
   unfolding number_from number_length hex_length decimal_length integer_length fraction_length exponent_length run name_byte letter digit
-  number_past h = rw (drop_of_length-le s h) (ap Literal.Ends (omega arith))
+  number_past h = rw (drop_of_length-le s h) (ap Ok (omega arith))
 
   module _ (end : ℕ) (e : end ≡ i + number_length (drop i s)) where
     -- the byte that follows the number
     follows : get_or (drop i s) (number_length (drop i s)) 0 ≡ get_or s end 0
     follows = get_or-drop i s (number_length (drop i s)) 0 ∙ ap (λ (k : ℕ). get_or s k 0) (omega arith)
 
-    pub number_ends : name_byte (get_or s end 0) ≡ false → number_from i (drop i s) ≡ Literal.Ends end
+    pub number_ends : name_byte (get_or s end 0) ≡ false → number_from i (drop i s) ≡ Ok end
     unfolding number_from
     number_ends f = rw (follows, f) (rw e)
 
-    pub number_last : length s ≤ end → number_from i (drop i s) ≡ Literal.Ends end
+    pub number_last : length s ≤ end → number_from i (drop i s) ≡ Ok end
     unfolding name_byte letter digit
     number_last h = number_ends (rw (get_or-eq_default s 0 h))
 
-    pub number_named : name_byte (get_or s end 0) ≡ true → number_from i (drop i s) ≡ Literal.Fault bad_number i
+    pub number_named : name_byte (get_or s end 0) ≡ true → number_from i (drop i s) ≡ Err (Fault.BadNumber i)
     unfolding number_from
     number_named f = rw (follows, f)

@@ -1,11 +1,10 @@
 -- Document 02, U4: "numbers as in ES5.1 section 7.8.3 (6 now only when a digit or name byte follows directly)". The quotations are of that
 -- section, but for the one said to be of document 02; `|` parts the alternatives of a production.
-use Rattle.std.specs.Prelude.{ℕ, ◌+◌, List, Bool, cond, ◌&&◌, ◌||◌, eqb, get_or, drop}
+use Rattle.std.specs.Prelude.{ℕ, ◌+◌, List, Bool, cond, ◌&&◌, ◌||◌, eqb, get_or, drop, Result, Ok, Err}
 use Rattle.text.specs.Quoted.{byte}
 use Rattle.text.specs.Bytes.{between, digit, name_byte}
 use Rattle.text.specs.Runs.{run}
-use Rattle.answers.specs.Faults.{bad_number}
-use Rattle.answers.specs.declared.Literal.{Literal}
+use Rattle.answers.specs.declared.faults.Fault.{Fault}
 
 -- "HexDigit :: one of 0 1 2 3 4 5 6 7 8 9 a b c d e f A B C D E F"
 unfoldable pub hex_digit : ℕ → Bool
@@ -65,7 +64,7 @@ number_length s = cond (eqb (hex_length s) 0) (decimal_length s) (hex_length s)
 
 -- the number at `first`, where s is the text from there on. Document 02: "6 now only when a digit or name byte follows directly", and a digit is
 -- a name byte. Past the text's end stands a 0, which is none
-unfoldable pub number_from : ℕ → List ℕ → Literal
+unfoldable pub number_from : ℕ → List ℕ → Result ℕ Fault
 number_from first s =
-    cond (name_byte (get_or s (number_length s) 0)) (Literal.Fault bad_number first)
-    (Literal.Ends (first + number_length s))
+    cond (name_byte (get_or s (number_length s) 0)) (Err (Fault.BadNumber first))
+    (Ok (first + number_length s))

@@ -4,53 +4,26 @@
 ghost use Rattle.std.specs.Prelude.{◌≡◌, cond, ◌||◌, ◌+◌, ◌<◌, eqb, length, drop};
 ghost use Rattle.text.specs.Bytes.{digit};
 ghost use Rattle.text.specs.Runs.{run};
-ghost use Rattle.text.specs.Machinery.Codes.{byte_codes};
 ghost use Rattle.numbers.specs.Numbers.{hex_digit, hex_length, integer_length, fraction_length, exponent_length, decimal_length, number_length, number_from};
 
-use answers::Literal;
-use answers::faults::BAD_NUMBER;
+use answers::faults::Fault;
+use text::Codes;
 
 fn is_either(b: u8, x: u8, y: u8) -> bool
     ensures { result ≡ (eqb b x || eqb b y) }
 {
-    if b == x {
-        return true;
-    }
-    b == y
-}
-
-fn is_hex_digit(b: u8) -> bool
-    ensures { result ≡ hex_digit b }
-{
-    if b < b'0' {
-        return false;
-    }
-    if b <= b'9' {
-        return true;
-    }
-    if b < b'A' {
-        return false;
-    }
-    if b <= b'F' {
-        return true;
-    }
-    if b < b'a' {
-        return false;
-    }
-    b <= b'f'
+    b == x || b == y
 }
 
 fn hex_digits_end(text: &[u8], from: usize) -> usize
     ensures { result ≡ from + run hex_digit (drop from text.now) }
 {
-    let mut i = from;
-    while i < text.len() {
-        if !is_hex_digit(text[i]) {
+    for i in from..text.len() {
+        if !text[i].is_ascii_hexdigit() {
             return i;
         }
-        i += 1;
     }
-    i
+    from.max(text.len())
 }
 
 // A hexadecimal number: `0x` or `0X`, and digits.
@@ -72,8 +45,8 @@ fn hex_end(text: &[u8], at: usize) -> usize
 }
 
 // `0`, or digits not starting with 0.
-fn integer_end(codes: &[u8], text: &[u8], at: usize) -> usize
-    requires { (codes.now ≡ byte_codes) × (at < length text.now) }
+fn integer_end(codes: &Codes, text: &[u8], at: usize) -> usize
+    requires { at < length text.now }
     ensures { result ≡ at + integer_length (drop at text.now) }
 {
     if text[at] == b'0' {
@@ -83,8 +56,7 @@ fn integer_end(codes: &[u8], text: &[u8], at: usize) -> usize
 }
 
 // A dot, and digits, possibly none.
-fn fraction_end(codes: &[u8], text: &[u8], at: usize) -> usize
-    requires { codes.now ≡ byte_codes }
+fn fraction_end(codes: &Codes, text: &[u8], at: usize) -> usize
     ensures { result ≡ at + fraction_length (drop at text.now) }
 {
     if text.len() <= at {
@@ -97,8 +69,7 @@ fn fraction_end(codes: &[u8], text: &[u8], at: usize) -> usize
 }
 
 // The end of the digits from `digits` on; `start` if there are none.
-fn digits_or(codes: &[u8], text: &[u8], start: usize, digits: usize) -> usize
-    requires { codes.now ≡ byte_codes }
+fn digits_or(codes: &Codes, text: &[u8], start: usize, digits: usize) -> usize
     ensures { result ≡ cond (eqb (run digit (drop digits text.now)) 0) start (digits + run digit (drop digits text.now)) }
 {
     let end = runs::digits_end(codes, text, digits);
@@ -106,8 +77,7 @@ fn digits_or(codes: &[u8], text: &[u8], start: usize, digits: usize) -> usize
 }
 
 // `e` or `E`, a plus or minus or neither, and digits.
-fn exponent_end(codes: &[u8], text: &[u8], at: usize) -> usize
-    requires { codes.now ≡ byte_codes }
+fn exponent_end(codes: &Codes, text: &[u8], at: usize) -> usize
     ensures { result ≡ at + exponent_length (drop at text.now) }
 {
     if text.len() <= at {
@@ -125,8 +95,8 @@ fn exponent_end(codes: &[u8], text: &[u8], at: usize) -> usize
     digits_or(codes, text, at, at + 1)
 }
 
-fn decimal_end(codes: &[u8], text: &[u8], at: usize) -> usize
-    requires { (codes.now ≡ byte_codes) × (at < length text.now) }
+fn decimal_end(codes: &Codes, text: &[u8], at: usize) -> usize
+    requires { at < length text.now }
     ensures { result ≡ at + decimal_length (drop at text.now) }
 {
     let whole = integer_end(codes, text, at);
@@ -134,8 +104,8 @@ fn decimal_end(codes: &[u8], text: &[u8], at: usize) -> usize
     exponent_end(codes, text, fraction)
 }
 
-fn number_end(codes: &[u8], text: &[u8], at: usize) -> usize
-    requires { (codes.now ≡ byte_codes) × (at < length text.now) }
+fn number_end(codes: &Codes, text: &[u8], at: usize) -> usize
+    requires { at < length text.now }
     ensures { result ≡ at + number_length (drop at text.now) }
 {
     let end = hex_end(text, at);
@@ -146,18 +116,17 @@ fn number_end(codes: &[u8], text: &[u8], at: usize) -> usize
 }
 
 // The number that starts at `first`.
-pub fn number_at(codes: &[u8], text: &[u8], first: usize) -> Literal
-    requires { codes.now ≡ byte_codes }
+pub fn number_at(codes: &Codes, text: &[u8], first: usize) -> Result<usize, Fault>
     ensures { result ≡ number_from first (drop first text.now) }
 {
     if text.len() <= first {
-        return Literal::Ends(first);
+        return Ok(first);
     }
     let end = number_end(codes, text, first);
     if end < text.len() {
-        if text::BLANK < text::code(codes, text[end]) {
-            return Literal::Fault(BAD_NUMBER, first);
+        if text::BLANK < codes.of(text[end]) {
+            return Err(Fault::BadNumber(first));
         }
     }
-    Literal::Ends(end)
+    Ok(end)
 }

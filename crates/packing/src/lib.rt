@@ -7,6 +7,9 @@ ghost use Rattle.packing.specs.Packed.{packed};
 
 use answers::Answer;
 
+// What the number of a refusal is times.
+const NUMBERS: u64 = 1 << 32;
+
 // The count of an accepted answer; the number times 2^32 and the place of a refused one.
 pub fn pack(answer: Answer) -> u64
     requires { value_of answer < 2 ^ 32 }
@@ -14,6 +17,6 @@ pub fn pack(answer: Answer) -> u64
 {
     match answer {
         Answer::Accepted(count) => count as u64,
-        Answer::Refused(number, place) => (number as u64) * 4294967296 + place as u64,
+        Answer::Refused(number, place) => u64::from(number) * NUMBERS + place as u64,
     }
 }

@@ -1,43 +1,45 @@
 -- The whole table: what `program` answers by its statements.
 use mathlib.Core.Path.{◌≡◌, ap, subst, ◌∙◌}
-use mathlib.Core.Bool.{Bool}
 use mathlib.Core.List.{List, []}
 use Prim.Native.Nat.{ℕ, ◌+◌, ◌-◌, ◌≤◌, ◌<◌}
 use native.Mathlib.Omega.{arith}
 use lib.ListN.{length}
-use Rattle.answers.specs.declared.Answer.{Answer}
+use Rattle.std.proofs.Common.{Result, Ok, Err}
+use Rattle.answers.specs.declared.faults.Fault.{Fault}
 use Rattle.tables.specs.Records.{most_syntax, syntax_room}
 use Rattle.machine.specs.Syntax.{Syntax, size, program_syntax, program_tree}
-use Rattle.machine.specs.Machinery.Machine.{end_of_text, dead}
+use Rattle.machine.specs.Machinery.Machine.{end_of_text}
 use Rattle.controls.specs.Machinery.Numbers.{setting_by}
 use Rattle.controls.specs.Machinery.Written.{put_record, put_syntax}
 use Rattle.segments.specs.Machinery.Segments.{Segment, count_of}
 use Rattle.levels.specs.Machinery.Runs.{ran_through, ran_dead, RanStatements}
 use Rattle.groups.specs.declared.Parsed.{Parsed}
-use Rattle.groups.specs.declared.Parsed.TheVariants.{Done, Bad}
-use Rattle.parsing.specs.Parse.{no_program, syntax_full}
-use Rattle.parser.specs.Machinery.Judged.{state_behind, Built, Judged, judged_bad, judged_full, judged_program}
+use Rattle.waiting.specs.declared.Waiting.{Waiting}
+use Rattle.parser.specs.Machinery.Judged.{Built, Judged, judged_bad, judged_full, judged_program}
 use Rattle.controls.proofs.KeptLength.{syntax_kept_length}
 
 -- the statements of the whole table, up to the text's end
-module _ {p : Segment} {table stack middle stack' : List ℕ} where
-  bad : {place : ℕ} → RanStatements 0 end_of_text p 0 0 table stack (Bad place) middle stack' → state_behind p ≡ dead place
+module _ {p : Segment} {table middle : List ℕ} {stack stack' : List Waiting} where
+  bad : {fault : Fault} {after : List ℕ} → RanStatements 0 end_of_text p 0 0 table stack (Err fault) middle stack' → Judged p table (Err fault) after
   unfolding setting_by
-  bad (ran_dead dies) = dies [] 0 []
+  bad (ran_dead dies) = judged_bad (dies [] 0 [])
 
-  done : {n : ℕ} {within : Bool} → RanStatements 0 end_of_text p 0 0 table stack (Done n within) middle stack' → (parts : Syntax) × Built p parts × (n ≡ size parts) × (middle ≡ put_syntax table 0 parts)
+  done : {made : Parsed} → RanStatements 0 end_of_text p 0 0 table stack (Ok made) middle stack' → (parts : Syntax) × Built p parts × (made.count ≡ size parts) × (middle ≡ put_syntax table 0 parts)
   unfolding setting_by
   done (ran_through t) =
       (t.value, record { ends = t.runs [] 0 []; few = omega (arith, t.count_is, t.passes) }, omega (arith, t.count_is), t.cells_are)
 
-module _ {p : Segment} {table stack middle stack' : List ℕ} {r : Parsed} (ran : RanStatements 0 end_of_text p 0 0 table stack r middle stack') where
-  ran_as : {s : Parsed} → r ≡ s → RanStatements 0 end_of_text p 0 0 table stack s middle stack'
-  ran_as e = subst (λ (x : Parsed). RanStatements 0 end_of_text p 0 0 table stack x middle stack') e ran
+module _ {p : Segment} {table middle : List ℕ} {stack stack' : List Waiting} {r : Result Parsed Fault} (ran : RanStatements 0 end_of_text p 0 0 table stack r middle stack') where
+  ran_as : {s : Result Parsed Fault} → r ≡ s → RanStatements 0 end_of_text p 0 0 table stack s middle stack'
+  ran_as e = subst (λ (x : Result Parsed Fault). RanStatements 0 end_of_text p 0 0 table stack x middle stack') e ran
 
-  pub judge_bad : {place : ℕ} {after : List ℕ} → r ≡ Bad place → Judged p table (Answer.Refused no_program place) after
-  judge_bad e = judged_bad (bad (ran_as e))
+  pub judge_bad : {fault : Fault} {after : List ℕ} → r ≡ Err fault → Judged p table (Err fault) after
+  judge_bad e = bad (ran_as e)
 
-  module _ {n : ℕ} {within : Bool} (e : r ≡ Done n within) where
+  module _ {made : Parsed} (e : r ≡ Ok made) where
+    abbrev n : ℕ
+    n = made.count
+
     parts : Syntax
     parts = (done (ran_as e)).0
 
@@ -73,10 +75,10 @@ module _ {p : Segment} {table stack middle stack' : List ℕ} {r : Parsed} (ran 
       kept : length after ≡ length table
       kept = ap length written ∙ syntax_kept_length tree table 0
 
-      pub judge_full : all ≤ most_syntax → syntax_room (length after) < all → Judged p table (Answer.Refused syntax_full p.close) after
+      pub judge_full : all ≤ most_syntax → syntax_room (length after) < all → Judged p table (Err (Fault.SyntaxFull p.close)) after
       unfolding tree
       judge_full few h = judged_full parts built (omega (arith, number, kept))
 
-      pub judge_program : all ≤ syntax_room (length after) → Judged p table (Answer.Accepted all) after
+      pub judge_program : all ≤ syntax_room (length after) → Judged p table (Ok all) after
       unfolding tree
       judge_program h = judged_program parts built number (omega (arith, kept)) written

@@ -2,12 +2,15 @@
 use mathlib.Core.Path.{◌≡◌, refl, sym, ap, subst, ◌∙◌}
 use mathlib.Core.List.{List, [], ◌∷◌, ◌++◌}
 use mathlib.Core.Bool.{Bool, cond}
-use Prim.Native.Nat.{ℕ, ◌-◌, ◌*◌, ◌≤◌}
+use Prim.Native.Nat.{ℕ, ◌*◌, ◌≤◌}
 use native.Mathlib.Omega.{arith}
 use borrow.Author.Tests.{le-leb, lt-leb}
 use lib.ListN.{length, take, drop, replicate, length-append}
 use lib.Seq.{take_at}
+use Rattle.std.proofs.Common.{Result, Ok, Err}
+use Rattle.answers.specs.Faults.{fault_number, fault_place}
 use Rattle.answers.specs.declared.Answer.{Answer}
+use Rattle.answers.specs.declared.faults.Fault.{Fault}
 use Rattle.rule.specs.Trees.{Trees, count}
 use Rattle.prefix.specs.Reading.{Reading, accepted, refused}
 use Rattle.tables.specs.Records.{tree_width, most_trees, syntax_width, syntax_room}
@@ -57,10 +60,10 @@ read_done text table now r n a c e = go (reading_for text (length table)) refl (
 
 module _ {text table now : List ℕ} {n : ℕ} (d : ReadDone text table now n) where
   -- the records in front of the table are the part that is parsed
-  pub front : take (tree_width * n - 0) now ≡ records d.trees
+  pub front : take (tree_width * n) now ≡ records d.trees
   front =
-      ap (take (tree_width * n - 0)) d.cells
-      ∙ take_at (records d.trees) (drop (tree_width * n) table) (tree_width * n - 0) (records_length d.trees ∙ omega (arith, d.counts))
+      ap (take (tree_width * n)) d.cells
+      ∙ take_at (records d.trees) (drop (tree_width * n) table) (tree_width * n) (records_length d.trees ∙ omega (arith, d.counts))
 
   known : AcceptedReading text (length table) d.trees
   known = accepted_reading text (length table) d.trees d.reads
@@ -68,7 +71,7 @@ module _ {text table now : List ℕ} {n : ℕ} (d : ReadDone text table now n) w
   few_trees : count d.trees ≤ most_trees
   few_trees = omega (arith, d.few, d.counts)
 
-  pub front_fine : (close : ℕ) → Fine (segment text (take (tree_width * n - 0) now) 0 close)
+  pub front_fine : (close : ℕ) → Fine (segment text (take (tree_width * n) now) 0 close)
   front_fine close =
       subst (λ (cells : List ℕ). Fine (segment text cells 0 close)) (sym front) (reading_fine text (read_limits (length table)) d.trees known.reads few_trees close)
 
@@ -85,11 +88,11 @@ module _ {text table now : List ℕ} {n : ℕ} (d : ReadDone text table now n) w
   all_count = omega (arith, records_length d.trees)
 
   -- what the whole table is judged as is what the text is parsed as
-  abbrev Parses : ℕ → List ℕ → Answer → List ℕ → Type 0
+  abbrev Parses : ℕ → List ℕ → Result ℕ Fault → List ℕ → Type 0
   Parses room syntax answer after =
       elim answer as (λ a. Type 0) [
-        | Answer.Accepted m ↦ (v : Syntax) × (parsing_for text (length table) room ≡ program d.trees v) × (m ≡ size v) × (after ≡ syntax_records v ++ drop (syntax_width * size v) syntax)
-        | Answer.Refused number place ↦ parsing_for text (length table) room ≡ denied number place
+        | Ok m ↦ (v : Syntax) × (parsing_for text (length table) room ≡ program d.trees v) × (m ≡ size v) × (after ≡ syntax_records v ++ drop (syntax_width * size v) syntax)
+        | Err fault ↦ parsing_for text (length table) room ≡ denied (fault_number fault) (fault_place fault)
       ]
 
   by_state : (room : ℕ) {state : State} → state_behind whole ≡ state
@@ -105,7 +108,7 @@ module _ {text table now : List ℕ} {n : ℕ} (d : ReadDone text table now n) w
       by_state room built.ends
       ∙ ap (λ (n : ℕ). fitting (length text) (syntax_room room) (program d.trees (program_tree n v))) (sym all_count)
 
-  pub judged_parses : {syntax after : List ℕ} {answer : Answer} → Judged whole syntax answer after → Parses (length syntax) syntax answer after
+  pub judged_parses : {syntax after : List ℕ} {answer : Result ℕ Fault} → Judged whole syntax answer after → Parses (length syntax) syntax answer after
   judged_parses {syntax} (judged_bad dies) = by_state (length syntax) dies
   judged_parses {syntax} (judged_full v built more) =
       by_program (length syntax) v built
@@ -150,21 +153,21 @@ module _ (text table syntax : List ℕ) where
           (ap (parsed (length text) (syntax_room (length syntax))) reads ∙ same, c)
 
   -- it is accepted, and the whole table is judged
-  module _ {now after : List ℕ} {n : ℕ} (d : ReadDone text table now n) {judgement : Answer}
-      (j : Judged (segment text (take (tree_width * n - 0) now) 0 (length text)) syntax judgement after) where
+  module _ {now after : List ℕ} {n : ℕ} (d : ReadDone text table now n) {judgement : Result ℕ Fault}
+      (j : Judged (segment text (take (tree_width * n) now) 0 (length text)) syntax judgement after) where
     parses : Parses d (length syntax) syntax judgement after
     parses = judged_parses d (subst (λ (cells : List ℕ). Judged (segment text cells 0 (length text)) syntax judgement after) (front d) j)
 
-  pub judged_refused : {now after : List ℕ} {n : ℕ} (d : ReadDone text table now n) {judgement : Answer}
-      → Judged (segment text (take (tree_width * n - 0) now) 0 (length text)) syntax judgement after → {number place : ℕ} → judgement ≡ Answer.Refused number place
-      → parsing_for text (length table) (length syntax) ≡ denied number place
-  judged_refused {after = after} d {judgement} j {number} {place} e = subst (λ (a : Answer). Parses d (length syntax) syntax a after) e (parses d j)
+  pub judged_refused : {now after : List ℕ} {n : ℕ} (d : ReadDone text table now n) {judgement : Result ℕ Fault}
+      → Judged (segment text (take (tree_width * n) now) 0 (length text)) syntax judgement after → {fault : Fault} → judgement ≡ Err fault
+      → parsing_for text (length table) (length syntax) ≡ denied (fault_number fault) (fault_place fault)
+  judged_refused {after = after} d {judgement} j {fault} e = subst (λ (a : Result ℕ Fault). Parses d (length syntax) syntax a after) e (parses d j)
 
-  pub judged_accepted : {now after : List ℕ} {n : ℕ} (d : ReadDone text table now n) {judgement : Answer}
-      → Judged (segment text (take (tree_width * n - 0) now) 0 (length text)) syntax judgement after → {m : ℕ} → judgement ≡ Answer.Accepted m
+  pub judged_accepted : {now after : List ℕ} {n : ℕ} (d : ReadDone text table now n) {judgement : Result ℕ Fault}
+      → Judged (segment text (take (tree_width * n) now) 0 (length text)) syntax judgement after → {m : ℕ} → judgement ≡ Ok m
       → Answers text table syntax (Answer.Accepted m) now after
   judged_accepted {now} {after} d j {m} e =
-      let p : Parses d (length syntax) syntax (Answer.Accepted m) after = subst (λ (a : Answer). Parses d (length syntax) syntax a after) e (parses d j) in (
+      let p : Parses d (length syntax) syntax (Ok m) after = subst (λ (a : Result ℕ Fault). Parses d (length syntax) syntax a after) e (parses d j) in (
         ap Answer.Accepted p.2 ∙ sym (ap answer_of p.1),
         d.cells ∙ ap (λ (k : ℕ). records d.trees ++ drop (tree_width * k) table) (sym d.counts) ∙ sym (ap (λ (q : Parsing). trees_after q table) p.1),
         p.3 ∙ sym (ap (λ (q : Parsing). syntax_after q syntax) p.1),

@@ -14,21 +14,16 @@ pub fn parse(text: &[u8], trees: &mut [u32], syntax: &mut [u32]) -> Answer
     ensures { Parses text.now trees.old syntax.old trees.new syntax.new result }
 {
     let read = reader::read(text, trees);
-    match read {
-        Answer::Refused(number, place) => {
+    let Answer::Accepted(count) = read else {
+        tables::clear(syntax);
+        return read;
+    };
+    match programs::program_of(text, &trees[..TreeRecord::WIDTH * count], syntax) {
+        Ok(n) => Answer::Accepted(n),
+        Err(fault) => {
+            tables::clear(trees);
             tables::clear(syntax);
-            Answer::Refused(number, place)
-        }
-        Answer::Accepted(count) => {
-            let answer = programs::program_of(text, &trees[0..TreeRecord::WIDTH * count], syntax);
-            match answer {
-                Answer::Accepted(n) => Answer::Accepted(n),
-                Answer::Refused(number, place) => {
-                    tables::clear(trees);
-                    tables::clear(syntax);
-                    Answer::Refused(number, place)
-                }
-            }
+            Answer::from(fault)
         }
     }
 }

@@ -1,69 +1,69 @@
 // The program of a text's tree records.
-ghost use Rattle.std.specs.Prelude.{length, ◌*◌, ◌≤◌};
-ghost use Rattle.waiting.specs.Machinery.Waiting.{width};
-ghost use Rattle.segments.specs.Machinery.Segments.{Fine, segment, count_of};
+ghost use Rattle.std.specs.Prelude.{length, ◌+◌, ◌≤◌};
+ghost use Rattle.tables.specs.Records.{most_trees};
+ghost use Rattle.segments.specs.Machinery.Segments.{Fine, segment, segment_of, count_of};
 ghost use Rattle.parser.specs.Machinery.Judged.{Judged};
 
-use answers::Answer;
+use answers::faults::Fault;
 use controls::records;
-use groups::Parsed;
 use machine::tokens;
-use tables::TreeRecord;
+use segments::Segment;
+use tables::{SyntaxRecord, TreeRecord};
+use waiting::Waiting;
 
-// The numbers that document 01's table gives a text that is no program, and a syntax table that is too short.
-pub const NO_PROGRAM: u32 = 13;
-
-pub const SYNTAX_FULL: u32 = 14;
-
-// The program of a text's tree records, with what was written left in the table where it is refused. Each record lets one part wait at
-// most.
-fn program(text: &[u8], trees: &[u32], waiting: &mut [u16], syntax: &mut [u32]) -> Answer
-    requires { Fine (segment text.now trees.now 0 (length text.now)) × (count_of trees.now * width ≤ length waiting.old) }
-    ensures { Judged (segment text.now trees.now 0 (length text.now)) syntax.old result syntax.new }
+// The program of a part, with what was written left in the table where it is refused: how many syntax records it has. Each tree record
+// lets one part wait at most.
+fn program(part: Segment, waiting: &mut [Waiting], syntax: &mut [u32]) -> Result<usize, Fault>
+    requires { Fine (segment_of part) × (part.base + count_of part.trees.now ≤ length waiting.old) }
+    ensures { Judged (segment_of part.entry) syntax.old result syntax.new }
 {
-    let number = trees.len() / TreeRecord::WIDTH;
+    let number = part.count();
     let body = levels::statements(
-        text,
-        trees,
-        0,
-        text.len(),
+        part,
         tokens::END_OF_TEXT,
         controls::BODY,
         waiting,
         0,
         syntax,
         0,
-    );
-    match body {
-        Parsed::Bad(place) => Answer::Refused(NO_PROGRAM, place),
-        Parsed::Done(n, _) => {
-            let all = records::put(syntax, n, records::PROGRAM, number, 0);
-            if tables::syntax_room(syntax.len()) < all {
-                return Answer::Refused(SYNTAX_FULL, text.len());
-            }
-            Answer::Accepted(all)
-        }
+    )?;
+    let all = records::put(syntax, body.count, records::PROGRAM, number, 0);
+    if tables::room_for::<SyntaxRecord>(syntax.len()) < all {
+        return Err(Fault::SyntaxFull(part.close));
     }
+    Ok(all)
 }
 
-fn program_of_many(text: &[u8], trees: &[u32], syntax: &mut [u32]) -> Answer
-    requires { Fine (segment text.now trees.now 0 (length text.now)) }
-    ensures { Judged (segment text.now trees.now 0 (length text.now)) syntax.old result syntax.new }
+// The same with a stack for so many parts. It is no part of its caller, whose own stack would be the longest of all.
+#[inline(never)]
+fn program_with<const PARTS: usize>(part: Segment, syntax: &mut [u32]) -> Result<usize, Fault>
+    requires { Fine (segment_of part) × (part.base + count_of part.trees.now ≤ PARTS) × (PARTS ≤ most_trees) }
+    ensures { Judged (segment_of part.entry) syntax.old result syntax.new }
 {
-    let mut waiting = [0u16; 49152];
-    program(text, trees, &mut waiting, syntax)
+    let none = Waiting {
+        kind: 0,
+        mark: 0,
+        start: 0,
+    };
+    let mut waiting = [none; PARTS];
+    program(part, &mut waiting, syntax)
 }
 
 // For up to so many records a short stack is made, since a long one takes more time than they do.
 const FEW: usize = 128;
 
-pub fn program_of(text: &[u8], trees: &[u32], syntax: &mut [u32]) -> Answer
+pub fn program_of(text: &[u8], trees: &[u32], syntax: &mut [u32]) -> Result<usize, Fault>
     requires { Fine (segment text.now trees.now 0 (length text.now)) }
     ensures { Judged (segment text.now trees.now 0 (length text.now)) syntax.old result syntax.new }
 {
-    if FEW < trees.len() / TreeRecord::WIDTH {
-        return program_of_many(text, trees, syntax);
+    let whole = Segment {
+        text,
+        trees,
+        base: 0,
+        close: text.len(),
+    };
+    if whole.count() <= FEW {
+        return program_with::<FEW>(whole, syntax);
     }
-    let mut waiting = [0u16; 384];
-    program(text, trees, &mut waiting, syntax)
+    program_with::<{ TreeRecord::MOST }>(whole, syntax)
 }

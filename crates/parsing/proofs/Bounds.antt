@@ -1,4 +1,5 @@
 -- The count of an accepted parsing, and the place of a refused one, are small.
+use Rattle.std.specs.Prelude.{Ok, Some}
 use mathlib.Core.Path.{◌≡◌, ap}
 use mathlib.Core.List.{List, [], ◌∷◌, ◌++◌}
 use mathlib.Core.Bool.{Bool, false}
@@ -8,7 +9,6 @@ use lib.ListN.{length}
 use Rattle.answers.specs.Answers.{value_of}
 use Rattle.elements.specs.Elements.{stating, element_at}
 use Rattle.elements.specs.declared.Element.{Element}
-use Rattle.elements.specs.declared.Next.{Next}
 use Rattle.elements.specs.declared.Stated.{Stated}
 use Rattle.elements.proofs.Bounds.{found_placed}
 use Rattle.reading.specs.Read.{most_bytes, read_limits}
@@ -22,7 +22,7 @@ use Rattle.parsing.specs.Verdict.{Refuses, at_element, at_end, Verdict, as_read,
 use Rattle.parsing.proofs.Theorems.{verdict}
 
 -- the elements that a text is cut into stand in it
-one_within : (text : List ℕ) (place : ℕ) (given : Stated) (f e : Element) → element_at text place given ≡ Next.Found f → recorded f ≡ e → e.first ≤ length text
+one_within : (text : List ℕ) (place : ℕ) (given : Stated) (f e : Element) → element_at text place given ≡ Ok (Some f) → recorded f ≡ e → e.first ≤ length text
 one_within text place given f e found same = omega (arith, ap Element.first same, found_placed text place given f found)
 
 first_within : (text : List ℕ) {place : ℕ} {choice : List Bool} {es : List Element} → Cuts text place choice es

@@ -1,4 +1,5 @@
 -- The fuel of a reading is never used up: the reading is what steps lead to.
+use Rattle.std.specs.Prelude.{Ok, Err, Some, None}
 use mathlib.Core.Path.{◌≡◌, refl, sym, subst}
 use mathlib.Core.List.{List}
 use Prim.Native.Nat.{ℕ, zero, suc, ◌+◌, ◌≤◌, ◌<◌}
@@ -6,7 +7,7 @@ use native.Mathlib.Omega.{arith}
 use lib.ListN.{length}
 use Rattle.elements.specs.Elements.{element_at}
 use Rattle.elements.specs.declared.Element.{Element}
-use Rattle.elements.specs.declared.Next.{Next}
+use Rattle.elements.specs.Elements.{Next}
 use Rattle.elements.proofs.Bounds.{Placed, found_placed}
 use Rattle.rule.specs.Trees.{none}
 use Rattle.rule.specs.Levels.{Levels, whole_text, stated_by}
@@ -27,7 +28,7 @@ module _ (bytes : List ℕ) (limits : Limits) where
       Here : Reading → Type 0
       Here read = Comes bytes limits read levels place
 
-      stepped : (e : Element) (y : Step) → element_at bytes place (stated_by levels) ≡ Next.Found e → step limits levels e ≡ y → Rest
+      stepped : (e : Element) (y : Step) → element_at bytes place (stated_by levels) ≡ Ok (Some e) → step limits levels e ≡ y → Rest
           → Here (read_on bytes limits (suc fuel) levels place)
       stepped e (stop n q) f s rest = subst Here (sym (read_stop bytes limits fuel levels place e f n q s)) (comes_over (rw (f, s)))
       stepped e (more after) f s rest =
@@ -35,9 +36,9 @@ module _ (bytes : List ℕ) (limits : Limits) where
           subst Here (sym (read_more bytes limits fuel levels place e f after s)) (comes_on (rw (f, s)) (rest after e.end (omega arith) p.within))
 
       found : (next : Next) → element_at bytes place (stated_by levels) ≡ next → Rest → Here (read_on bytes limits (suc fuel) levels place)
-      found Next.End f rest = subst Here (sym (read_end bytes limits fuel levels place f)) (comes_over (rw f))
-      found (Next.Fault n q) f rest = subst Here (sym (read_fault bytes limits fuel levels place n q f)) (comes_over (rw f))
-      found (Next.Found e) f rest = stepped e (step limits levels e) f refl rest
+      found (Ok None) f rest = subst Here (sym (read_end bytes limits fuel levels place f)) (comes_over (rw f))
+      found (Err fault) f rest = subst Here (sym (read_fault bytes limits fuel levels place fault f)) (comes_over (rw f))
+      found (Ok (Some e)) f rest = stepped e (step limits levels e) f refl rest
 
   pub reading_comes : Comes bytes limits (reading bytes limits) (whole_text none) 0
   unfolding reading

@@ -1,11 +1,14 @@
 -- What holds before the first element, and is kept by each step, tells of the whole reading.
+use Rattle.std.specs.Prelude.{Ok, Err, Some, None}
 use mathlib.Core.Path.{◌≡◌, refl}
 use mathlib.Core.List.{List}
 use Prim.Native.Nat.{ℕ, zero, suc}
 use lib.ListN.{length}
+use Rattle.answers.specs.Faults.{fault_number, fault_place}
+use Rattle.answers.specs.declared.faults.Fault.{Fault}
 use Rattle.elements.specs.Elements.{element_at}
 use Rattle.elements.specs.declared.Element.{Element}
-use Rattle.elements.specs.declared.Next.{Next}
+use Rattle.elements.specs.Elements.{Next}
 use Rattle.rule.specs.Trees.{Trees, none}
 use Rattle.rule.specs.Levels.{Levels, whole_text, inside, stated_by}
 use Rattle.prefix.specs.Reading.{Limits, Step, stop, more, step, Reading, accepted, refused, ending, read_on, reading}
@@ -13,10 +16,11 @@ use Rattle.prefix.proofs.ReadingLaws.{read_end, read_fault, read_stop, read_more
 
 module _ (bytes : List ℕ) (limits : Limits) (P : Levels → ℕ → Type 0) (Q : Reading → Type 0)
     (ends : (levels : Levels) (place : ℕ) → P levels place → Q (ending levels))
-    (faults : (levels : Levels) (place number at : ℕ) → P levels place → element_at bytes place (stated_by levels) ≡ Next.Fault number at → Q (refused number at))
-    (stops : (levels : Levels) (place : ℕ) (e : Element) (number at : ℕ) → P levels place → element_at bytes place (stated_by levels) ≡ Next.Found e
+    (faults : (levels : Levels) (place : ℕ) (fault : Fault) → P levels place → element_at bytes place (stated_by levels) ≡ Err fault
+    → Q (refused (fault_number fault) (fault_place fault)))
+    (stops : (levels : Levels) (place : ℕ) (e : Element) (number at : ℕ) → P levels place → element_at bytes place (stated_by levels) ≡ Ok (Some e)
     → step limits levels e ≡ stop number at → Q (refused number at))
-    (goes_on : (levels : Levels) (place : ℕ) (e : Element) (after : Levels) → P levels place → element_at bytes place (stated_by levels) ≡ Next.Found e
+    (goes_on : (levels : Levels) (place : ℕ) (e : Element) (after : Levels) → P levels place → element_at bytes place (stated_by levels) ≡ Ok (Some e)
     → step limits levels e ≡ more after → P after e.end)
   where
     pub read_on_tells : (fuel : ℕ) (levels : Levels) (place : ℕ) → P levels place → Q (read_on bytes limits fuel levels place)
@@ -24,7 +28,7 @@ module _ (bytes : List ℕ) (limits : Limits) (P : Levels → ℕ → Type 0) (Q
     read_on_tells zero levels place p = ends levels place p
     read_on_tells (suc fuel) levels place p = found (element_at bytes place (stated_by levels)) refl (λ after next. read_on_tells fuel after next)
       where
-        stepped : (e : Element) (y : Step) → element_at bytes place (stated_by levels) ≡ Next.Found e → step limits levels e ≡ y
+        stepped : (e : Element) (y : Step) → element_at bytes place (stated_by levels) ≡ Ok (Some e) → step limits levels e ≡ y
             → ((after : Levels) (next : ℕ) → P after next → Q (read_on bytes limits fuel after next))
             → Q (read_on bytes limits (suc fuel) levels place)
         stepped e (stop n q) f s rest = rw (read_stop bytes limits fuel levels place e f n q s) (stops levels place e n q p f s)
@@ -33,9 +37,9 @@ module _ (bytes : List ℕ) (limits : Limits) (P : Levels → ℕ → Type 0) (Q
         found : (next : Next) → element_at bytes place (stated_by levels) ≡ next
             → ((after : Levels) (q : ℕ) → P after q → Q (read_on bytes limits fuel after q))
             → Q (read_on bytes limits (suc fuel) levels place)
-        found Next.End f rest = rw (read_end bytes limits fuel levels place f) (ends levels place p)
-        found (Next.Fault n q) f rest = rw (read_fault bytes limits fuel levels place n q f) (faults levels place n q p f)
-        found (Next.Found e) f rest = stepped e (step limits levels e) f refl rest
+        found (Ok None) f rest = rw (read_end bytes limits fuel levels place f) (ends levels place p)
+        found (Err fault) f rest = rw (read_fault bytes limits fuel levels place fault f) (faults levels place fault p f)
+        found (Ok (Some e)) f rest = stepped e (step limits levels e) f refl rest
 
     pub reading_tells : P (whole_text none) 0 → Q (reading bytes limits)
     unfolding reading
@@ -58,7 +62,7 @@ module _ (bytes : List ℕ) (limits : Limits) (P : Levels → Type 0)
     read_on_accepts =
         read_on_tells bytes limits (λ levels place. P levels) (Accepts (λ trees. P (whole_text trees)))
         (λ levels place p. ending_accepts P levels p)
-        (λ levels place number at p f. tt)
+        (λ levels place fault p f. tt)
         (λ levels place e number at p f s. tt)
         (λ levels place e after p f s. kept levels e after p s)
 

@@ -1,4 +1,5 @@
 -- A reading under limits beside the unlimited one: the same turns, until a limit is reached.
+use Rattle.std.specs.Prelude.{Ok, Err, Some, None}
 use mathlib.Core.Path.{◌≡◌, refl}
 use mathlib.Core.List.{List}
 use mathlib.Core.Bool.{Bool, true, false, cond}
@@ -9,9 +10,9 @@ use lib.Dec.{eqb, leb}
 use lib.ListN.{length}
 use Rattle.elements.specs.Elements.{element_at, delimiter_kind, paren_opener, brace_opener, bracket_opener}
 use Rattle.elements.specs.declared.Element.{Element}
-use Rattle.elements.specs.declared.Next.{Next}
+use Rattle.elements.specs.Elements.{Next}
 use Rattle.elements.proofs.Choices.{cond_known}
-use Rattle.elements.proofs.Bounds.{found_placed, fault_number}
+use Rattle.elements.proofs.Bounds.{found_placed, fault_numbered}
 use Rattle.rule.specs.Trees.{Trees, none, leaf, count, deepest, paren_kind, object_kind, block_kind, bracket_kind}
 use Rattle.rule.specs.Levels.{Levels, whole_text, inside, stated_by, brace_opens, settled_in, depth, count_so_far, on_top}
 use Rattle.prefix.specs.Reading.{
@@ -100,7 +101,7 @@ NoLimitRefused (accepted trees) = Unit {0}
 NoLimitRefused (refused number place) = NoLimit number
 
 module _ (bytes : List ℕ) where
-  module _ (levels : Levels) (place : ℕ) (e : Element) (p : Small levels place) (f : element_at bytes place (stated_by levels) ≡ Next.Found e) where
+  module _ (levels : Levels) (place : ℕ) (e : Element) (p : Small levels place) (f : element_at bytes place (stated_by levels) ≡ Ok (Some e)) where
     -- each element has a byte of its own
     not_reached : (count_so_far levels < length bytes) × (depth levels < length bytes)
     not_reached = omega (arith, found_placed bytes place (stated_by levels) e f)
@@ -122,7 +123,7 @@ module _ (bytes : List ℕ) where
   unlimited_refused =
       reading_tells bytes (unlimited bytes) Small NoLimitRefused
       (λ levels place p. ending_no_limit levels)
-      (λ levels place number at p f. omega (arith, fault_number bytes place (stated_by levels) number at f))
+      (λ levels place fault p f. omega (arith, fault_numbered bytes place (stated_by levels) fault f))
       (λ levels place e number at p f s. stop_no_limit levels place e p f number (step_reason (unlimited bytes) e levels number at s))
       (λ levels place e after p f s. small_next levels place e p f (unlimited bytes) after s)
       (omega arith)
@@ -140,7 +141,7 @@ module _ (bytes : List ℕ) where
     read_under zero levels place p = same
     read_under (suc fuel) levels place p = found (element_at bytes place (stated_by levels)) refl (λ after next. read_under fuel after next)
       where
-        steps : (e : Element) → element_at bytes place (stated_by levels) ≡ Next.Found e
+        steps : (e : Element) → element_at bytes place (stated_by levels) ≡ Ok (Some e)
             → {x y : Step} → StepUnder limits x y → step limits levels e ≡ x → step (unlimited bytes) levels e ≡ y
             → ((after : Levels) (next : ℕ) → Small after next → UnderFrom fuel after next) → UnderFrom (suc fuel) levels place
         steps e f (same_step {s = stop n at}) x y rest =
@@ -157,9 +158,9 @@ module _ (bytes : List ℕ) where
 
         found : (next : Next) → element_at bytes place (stated_by levels) ≡ next
             → ((after : Levels) (at : ℕ) → Small after at → UnderFrom fuel after at) → UnderFrom (suc fuel) levels place
-        found Next.End f rest = rw (read_end bytes limits fuel levels place f, read_end bytes (unlimited bytes) fuel levels place f) same
-        found (Next.Fault n at) f rest = rw (read_fault bytes limits fuel levels place n at f, read_fault bytes (unlimited bytes) fuel levels place n at f) same
-        found (Next.Found e) f rest =
+        found (Ok None) f rest = rw (read_end bytes limits fuel levels place f, read_end bytes (unlimited bytes) fuel levels place f) same
+        found (Err fault) f rest = rw (read_fault bytes limits fuel levels place fault f, read_fault bytes (unlimited bytes) fuel levels place fault f) same
+        found (Ok (Some e)) f rest =
             let h = not_reached levels place e p f in
             steps e f (step_under limits (unlimited bytes) levels e h.0 h.1) refl refl rest
 

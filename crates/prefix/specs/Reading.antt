@@ -1,9 +1,10 @@
 -- Document 01, Refused texts: "Elements are then taken left to right, .. and the first fault met answers; an element's own
 -- faults and 9 precede 12." A text to trees, element by element.
-use Rattle.std.specs.Prelude.{ℕ, zero, suc, ◌≡◌, Bool, cond, ◌||◌, List, eqb, leb, length}
+use Rattle.std.specs.Prelude.{ℕ, zero, suc, ◌≡◌, Bool, cond, ◌||◌, List, eqb, leb, length, Ok, Err, Some, None}
+use Rattle.answers.specs.Faults.{fault_number, fault_place}
 use Rattle.elements.specs.Elements.{element_at, delimiter_kind, paren_opener, paren_closer, brace_opener, bracket_opener, bracket_closer}
 use Rattle.elements.specs.declared.Element.{Element}
-use Rattle.elements.specs.declared.Next.{Next}
+use Rattle.elements.specs.Elements.{Next}
 use Rattle.rule.specs.Trees.{Trees, none, leaf, group, paren_kind, object_kind, block_kind, bracket_kind}
 use Rattle.rule.specs.Levels.{Levels, whole_text, inside, stated_by, settled_in, brace_opens, depth, count_so_far, on_top}
 
@@ -94,9 +95,9 @@ stepped end (more levels) = on levels end
 
 -- what stands at the place where an element is looked for
 abbrev pub met : Limits → Levels → Next → Progress
-met limits levels Next.End = over (ending levels)
-met limits levels (Next.Fault number place) = over (refused number place)
-met limits levels (Next.Found e) = stepped e.end (step limits levels e)
+met limits levels (Ok None) = over (ending levels)
+met limits levels (Err fault) = over (refused (fault_number fault) (fault_place fault))
+met limits levels (Ok (Some e)) = stepped e.end (step limits levels e)
 
 -- the next element at a place, where the prefix rule states what a slash does there, and whether a reserved word is a name
 unfoldable pub proceed : List ℕ → Limits → Levels → ℕ → Progress

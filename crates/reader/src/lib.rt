@@ -2,7 +2,6 @@
 #![tactic(auto)]
 
 ghost use Rattle.std.specs.Prelude.{◌≡◌, List, ℕ, ◌≤◌, length};
-ghost use Rattle.text.specs.Machinery.Codes.{byte_codes};
 ghost use Rattle.rule.specs.Levels.{Levels};
 ghost use Rattle.prefix.specs.Reading;
 ghost use Rattle.storing.specs.Machinery.Table.{Holds, Some};
@@ -12,6 +11,7 @@ ghost use Rattle.reader.specs.Machinery.Filled.{Filled};
 use answers::Answer;
 use prefix::State;
 use tables::TreeRecord;
+use text::Codes;
 use turns::ReadOn;
 
 // The number of the first row of document 01's table of refused texts, and the bytes that a text has at most.
@@ -34,11 +34,11 @@ fn ending(trees: &[u32], stack: &[u32], state: State) -> Answer
 }
 
 // The reading, with what was written left in the table where it is refused.
-fn fill(codes: &[u8], text: &[u8], trees: &mut [u32], stack: &mut [u32]) -> Answer
-    requires { (codes.now ≡ byte_codes) × (length text.now ≤ most_bytes) × (length stack.old ≡ 200) }
+fn fill(codes: &Codes, text: &[u8], trees: &mut [u32], stack: &mut [u32]) -> Answer
+    requires { (length text.now ≤ most_bytes) × (length stack.old ≡ 200) }
     ensures { (result ≡ answer_of (reading_for text.now (length trees.old))) × Filled (reading_for text.now (length trees.old)) trees.old trees.new }
 {
-    let room = tables::room_for(trees.len());
+    let room = tables::room_for::<TreeRecord>(trees.len());
     let mut none = [0u8; 0];
     let run = turns::read_on(codes, text, trees, &mut none, stack, room, false);
     match run {
@@ -57,7 +57,7 @@ pub fn read(text: &[u8], trees: &mut [u32]) -> Answer
         return Answer::Refused(LONG, MOST_BYTES);
     }
     let mut stack = [0u32; 200];
-    let codes = text::codes();
+    let codes = Codes::new();
     let answer = fill(&codes, text, trees, &mut stack);
     match answer {
         Answer::Accepted(count) => Answer::Accepted(count),

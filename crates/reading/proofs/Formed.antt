@@ -1,4 +1,5 @@
 -- The kinds of the trees of a reading, and where its groups open.
+use Rattle.std.specs.Prelude.{Ok, Some}
 use mathlib.Core.Path.{◌≡◌, refl}
 use mathlib.Core.Logic.{inl, inr}
 use mathlib.Core.Bool.{◌&&◌, ◌||◌}
@@ -10,7 +11,6 @@ use lib.ListN.{length, length-append}
 use lib.Seq.{take-append-le, drop-append-le, take-length, drop-length}
 use Rattle.elements.specs.Elements.{element_at, sign_kind}
 use Rattle.elements.specs.declared.Element.{Element}
-use Rattle.elements.specs.declared.Next.{Next}
 use Rattle.elements.proofs.Bounds.{found_placed, fault_placed}
 use Rattle.elements.proofs.Choices.{cond_both}
 use Rattle.elements.proofs.FoundKinds.{found_kind}
@@ -66,7 +66,7 @@ pub reading_formed : (bytes : List ℕ) (limits : Limits) → FormedReading (rea
 reading_formed bytes limits =
     reading_tells bytes limits (λ levels place. FormedLevels levels) FormedReading
     (λ levels place p. formed_ending levels p)
-    (λ levels place number at p f. tt)
+    (λ levels place fault p f. tt)
     (λ levels place e number at p f s. tt)
     (λ levels place e after p f s. formed_taken e (found_kind bytes place (stated_by levels) e f) (step_taken limits e levels after s) p)
     tt
@@ -118,12 +118,12 @@ pub reading_within_text : (bytes : List ℕ) (limits : Limits) → RefusedWithin
 reading_within_text bytes limits =
     reading_tells bytes limits (λ levels place. Opened (length bytes) levels) (RefusedWithin (length bytes))
     (λ levels place p. ending_within (length bytes) levels p)
-    (λ levels place number at p f. omega (arith, fault_placed bytes place (stated_by levels) number at f))
+    (λ levels place fault p f. omega (arith, fault_placed bytes place (stated_by levels) fault f))
     (λ levels place e number at p f s. rw (step_stopped limits e levels number at s) (starts levels place e f))
     (λ levels place e after p f s. opened_taken (length bytes) e (starts levels place e f) (step_taken limits e levels after s) p)
     tt
   where
-    starts : (levels : Levels) (place : ℕ) (e : Element) → element_at bytes place (stated_by levels) ≡ Next.Found e → e.first ≤ length bytes
+    starts : (levels : Levels) (place : ℕ) (e : Element) → element_at bytes place (stated_by levels) ≡ Ok (Some e) → e.first ≤ length bytes
     starts levels place e f =
         let placed = found_placed bytes place (stated_by levels) e f in
         omega (arith, placed.some, placed.within)

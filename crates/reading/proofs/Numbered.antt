@@ -6,7 +6,7 @@ use Prim.Native.Nat.{ℕ, ◌≤◌}
 use native.Mathlib.Omega.{arith}
 use lib.Dec.{leb}
 use lib.ListN.{length}
-use Rattle.elements.proofs.Bounds.{fault_number}
+use Rattle.elements.proofs.Bounds.{fault_numbered}
 use Rattle.rule.specs.Levels.{Levels, whole_text, inside, stated_by}
 use Rattle.prefix.specs.Reading.{Limits, Reading, accepted, refused, ending, reading}
 use Rattle.prefix.proofs.Induction.{reading_tells}
@@ -33,7 +33,7 @@ stopped_numbered at_closer = (omega arith, omega arith, λ eight. omega arith)
 reading_numbered : (bytes : List ℕ) (limits : Limits) → Numbered (reading bytes limits)
 reading_numbered bytes limits =
     reading_tells bytes limits (λ levels place. Unit {0}) Numbered (λ levels place p. ending_numbered levels)
-    (λ levels place number at p f. let n = fault_number bytes place (stated_by levels) number at f in (omega arith, omega arith, λ eight. omega arith))
+    (λ levels place fault p f. let n = fault_numbered bytes place (stated_by levels) fault f in (omega arith, omega arith, λ eight. omega arith))
     (λ levels place e number at p f s. stopped_numbered (step_reason limits e levels number at s))
     (λ levels place e after p f s. tt) tt
 

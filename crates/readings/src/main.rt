@@ -1,143 +1,74 @@
 // Prints how `reader::read` reads, `respacer::respace` respaces and `parser::parse` parses the texts that standard input gives, one
-// case to a line, for comparison with the stored answers. `case.rt`, and `spelling.rt` of `cases`, say what a line holds, `print.rt` of
+// case to a line, for comparison with the stored answers. `case.rt`, and `spelling.rt` of `cases`, say what a line holds,
 // `case_answers` what is printed.
 #![tactic(auto)]
 
 mod case;
 
 use answers::Answer;
-use case::Case;
-use case_answers::print;
-use case_tables::outputs::BYTES;
-use case_tables::table::{CELLS, SYNTAX_CELLS};
-use case_tables::{outputs, table};
-use cases::spelling::{MOST, part};
+use case::{Call, Case};
+use case_answers::{accepted, parsed, refused, respaced};
+use case_tables::{BYTES, CELLS, SYNTAX_CELLS, all_zero, kept, mark_all};
+use cases::CaseError;
 use std::io;
-use streams::Input;
 
 fn main(rt: HostRuntime) -> io::Result<()> {
-    let mut input = [0u8; cases::INPUT];
-    let Input::Bytes(n) = streams::read_input(&rt, &mut input) else {
-        return Ok(());
-    };
-    let mut text = [0u8; MOST];
-    let mut cells = [0u32; CELLS];
-    answer_all(&rt, &input[..n], &mut text, &mut cells)
+    let mut trees = [0u32; CELLS];
+    let mut syntax = [0u32; SYNTAX_CELLS];
+    cases::answer_all(&rt, |line| { answer(&rt, line, &mut trees, &mut syntax) })
 }
 
-fn answer_all(
-    rt: &impl Print,
-    input: &[u8],
-    text: &mut [u8; MOST],
-    cells: &mut [u32],
-) -> io::Result<()> {
-    let mut at = 0;
-    while at < input.len() {
-        let end = cases::line_end(input, at);
-        answer(rt, &input[at..end], text, cells)?;
-        at = end + 1;
+fn answer<R: Print + AllocGlobal>(
+    rt: &R,
+    line: &[u8],
+    trees: &mut [u32],
+    syntax: &mut [u32],
+) -> Result<(), CaseError> {
+    let Case { call, lent, text } = case::case_of(rt.alloc(), line)?;
+    match call {
+        Call::Read => read(rt, &text, first(trees, lent)?)?,
+        Call::Respace => respace(rt, &text, lent)?,
+        Call::Parse => parse(rt, &text, trees, first(syntax, lent)?)?,
     }
     Ok(())
 }
 
-// A heading is copied, an empty line skipped, and any other line is a case.
-fn answer(
-    rt: &impl Print,
-    line: &[u8],
-    text: &mut [u8; MOST],
-    cells: &mut [u32],
-) -> io::Result<()> {
-    if line.len() == 0 {
-        return Ok(());
-    }
-    if line[0] == b'#' {
-        print::heading(rt, line)
-    } else {
-        answer_case(rt, line, text, cells)
+// So many cells as are lent.
+fn first<T>(cells: &mut [T], lent: usize) -> Result<&mut [T], CaseError> {
+    cells.get_mut(..lent).ok_or(CaseError::Bad)
+}
+
+fn read(rt: &impl Print, text: &[u8], trees: &mut [u32]) -> io::Result<()> {
+    mark_all(trees);
+    match reader::read(text, trees) {
+        Answer::Accepted(count) => accepted(rt, trees, count),
+        Answer::Refused(number, place) => refused(rt, number, place, all_zero(trees)),
     }
 }
 
-fn answer_case(
-    rt: &impl Print,
-    line: &[u8],
-    text: &mut [u8; MOST],
-    cells: &mut [u32],
-) -> io::Result<()> {
-    let case = case::case_of(line, text);
-    match case {
-        Case::Read(lent, size) => read(rt, part(text, size), cells, lent),
-        Case::Respace(lent, size) => respace(rt, part(text, size), lent),
-        Case::Parse(lent, size) => parse(rt, part(text, size), cells, lent),
-        Case::Bad => print::bad_case(rt),
-    }
-}
-
-// The table is the first `lent` cells.
-fn read(rt: &impl Print, text: &[u8], cells: &mut [u32], lent: usize) -> io::Result<()> {
-    if lent <= cells.len() {
-        read_to(rt, text, &mut cells[0..lent])
-    } else {
-        print::bad_case(rt)
-    }
-}
-
-fn read_to(rt: &impl Print, text: &[u8], trees: &mut [u32]) -> io::Result<()> {
-    table::mark_all(trees);
-    let answer = reader::read(text, trees);
-    match answer {
-        Answer::Accepted(count) => print::accepted(rt, trees, count),
-        Answer::Refused(number, place) => print::refused(rt, number, place, table::all_zero(trees)),
-    }
-}
-
-fn respace(rt: &impl Print, text: &[u8], lent: usize) -> io::Result<()> {
+// The output is the first `lent` bytes of an array.
+fn respace(rt: &impl Print, text: &[u8], lent: usize) -> Result<(), CaseError> {
     let mut array = [0u8; BYTES];
-    respace_to(rt, text, &mut array, lent)
-}
-
-// The output is the first `lent` bytes of the array.
-fn respace_to(rt: &impl Print, text: &[u8], array: &mut [u8], lent: usize) -> io::Result<()> {
-    if lent > array.len() {
-        return print::bad_case(rt);
-    }
-    outputs::mark_all(array);
-    let answer = respacer::respace(text, &mut array[0..lent]);
-    match answer {
-        Answer::Accepted(count) => print::respaced(rt, array, count),
+    mark_all(&mut array);
+    let output = first(&mut array, lent)?;
+    match respacer::respace(text, output) {
+        Answer::Accepted(count) => respaced(rt, &array, count)?,
         Answer::Refused(number, place) => {
-            print::refused(rt, number, place, outputs::is_right(array, lent, lent))
+            let zero = all_zero(output) && kept(&array, lent);
+            refused(rt, number, place, zero)?
         }
     }
+    Ok(())
 }
 
-fn parse(rt: &impl Print, text: &[u8], trees: &mut [u32], lent: usize) -> io::Result<()> {
-    let mut array = [0u32; SYNTAX_CELLS];
-    parse_in(rt, text, trees, &mut array, lent)
-}
-
-// The syntax table is the first `lent` cells of the array.
-fn parse_in(
-    rt: &impl Print,
-    text: &[u8],
-    trees: &mut [u32],
-    array: &mut [u32],
-    lent: usize,
-) -> io::Result<()> {
-    if lent <= array.len() {
-        parse_to(rt, text, trees, &mut array[0..lent])
-    } else {
-        print::bad_case(rt)
-    }
-}
-
-fn parse_to(rt: &impl Print, text: &[u8], trees: &mut [u32], syntax: &mut [u32]) -> io::Result<()> {
-    table::mark_all(trees);
-    table::mark_all(syntax);
-    let answer = parser::parse(text, trees, syntax);
-    match answer {
-        Answer::Accepted(count) => print::parsed(rt, trees, syntax, count),
+fn parse(rt: &impl Print, text: &[u8], trees: &mut [u32], syntax: &mut [u32]) -> io::Result<()> {
+    mark_all(trees);
+    mark_all(syntax);
+    match parser::parse(text, trees, syntax) {
+        Answer::Accepted(count) => parsed(rt, trees, syntax, count),
         Answer::Refused(number, place) => {
-            print::refused(rt, number, place, table::both_zero(trees, syntax))
+            let zero = all_zero(trees) && all_zero(syntax);
+            refused(rt, number, place, zero)
         }
     }
 }

@@ -1,11 +1,9 @@
 // Prints the text on standard input with one blank or line end between its elements, or its first fault.
 #![tactic(auto)]
 
-use streams::Input;
-
 fn main(rt: HostRuntime) {
     let mut input = [0u8; listing::INPUT];
-    let Input::Bytes(count) = streams::read_input(&rt, &mut input) else {
+    let Some(count) = streams::read_input(&rt, &mut input) else {
         return;
     };
     let mut output = [0u8; respaced_listing::RESPACED_OUTPUT];

@@ -61,7 +61,7 @@ unfolding add_trees
 reading_short bytes limits =
     reading_tells bytes limits (λ levels place. (place ≤ length bytes) × Short bytes levels place) (ShortReading bytes)
     (λ levels place p. short_ending bytes levels place p.0 p.1)
-    (λ levels place number at p f. tt)
+    (λ levels place fault p f. tt)
     (λ levels place e number at p f s. tt)
     (λ levels place e after p f s.
     let placed = found_placed bytes place (stated_by levels) e f in

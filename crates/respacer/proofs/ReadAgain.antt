@@ -1,5 +1,6 @@
 -- The reading of a respaced text beside the reading of its text: each element is found again, and the levels stay the same
 -- but for positions.
+use Rattle.std.specs.Prelude.{Ok, Some}
 use mathlib.Core.Path.{◌≡◌, sym, ap, ◌∙◌}
 use mathlib.Core.List.{List, [], ◌∷◌, ◌++◌}
 use Prim.Native.Nat.{ℕ, zero, suc, ◌+◌, ◌-◌, ◌<◌, ◌≤◌}
@@ -7,7 +8,6 @@ use native.Mathlib.Omega.{arith}
 use lib.ListN.{length, length-append}
 use Rattle.elements.specs.Elements.{element_at}
 use Rattle.elements.specs.declared.Element.{Element}
-use Rattle.elements.specs.declared.Next.{Next}
 use Rattle.elements.proofs.Delimiters.{delimiter_byte}
 use Rattle.rule.specs.Trees.{Trees, none}
 use Rattle.rule.specs.Levels.{Levels, whole_text, stated_by, depth}
@@ -33,7 +33,7 @@ module _ (s : List ℕ) (limits : Limits) (trees : Trees) where
   stands_at levels e = length (written_of s levels ++ separator (written_of s levels) (line_written e))
 
   -- one element
-  module _ (levels others after : Levels) (place : ℕ) (e : Element) (found : element_at s place (stated_by levels) ≡ Next.Found e)
+  module _ (levels others after : Levels) (place : ℕ) (e : Element) (found : element_at s place (stated_by levels) ≡ Ok (Some e))
       (begun : 0 < depth levels → 0 < length (written_of s levels)) (steps : step limits levels e ≡ more after) (course : Course s limits trees after e.end)
       (alike : AlikeLevels s t levels others) where
     goes : GoesOn t (add_element s (written_of s levels) e.first e.end (line_written e))
@@ -41,7 +41,7 @@ module _ (s : List ℕ) (limits : Limits) (trees : Trees) where
         let more = more_written s limits levels after place e found begun steps in
         rw (element_written s limits levels after place e found begun steps) at (goes_on s limits trees course (omega arith))
 
-    found_there : element_at t (length (written_of s levels)) (stated_by others) ≡ Next.Found (moved e (stands_at levels e) (line_written e))
+    found_there : element_at t (length (written_of s levels)) (stated_by others) ≡ Ok (Some (moved e (stands_at levels e) (line_written e)))
     found_there = rw (goes.is, ← alike_stated alike) (found_again s place (stated_by levels) e found goes.next goes.separates goes.rest (written_of s levels) (line_written e))
 
     bytes_there : bytes_of s e.first e.end ≡ bytes_of t (stands_at levels e) (stands_at levels e + (e.end - e.first))

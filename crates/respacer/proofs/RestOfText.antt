@@ -1,4 +1,5 @@
 -- Along an accepted reading, what is written so far begins the respaced text, and a blank or a line end follows it there.
+use Rattle.std.specs.Prelude.{Ok, Some}
 use mathlib.Core.Path.{◌≡◌, refl, ◌∙◌}
 use mathlib.Core.List.{List, [], ◌∷◌, ◌++◌, append_assoc}
 use mathlib.Core.Bool.{Bool, true, false, ◌||◌}
@@ -8,7 +9,6 @@ use lib.ListN.{length, length-append}
 use Rattle.text.specs.Bytes.{blank, line_end}
 use Rattle.elements.specs.Elements.{element_at}
 use Rattle.elements.specs.declared.Element.{Element}
-use Rattle.elements.specs.declared.Next.{Next}
 use Rattle.elements.proofs.Bounds.{Placed, found_placed}
 use Rattle.elements.proofs.Delimiters.{delimiter_byte}
 use Rattle.rule.specs.Trees.{Trees}
@@ -47,7 +47,7 @@ element_adds s written first end newline h k =
     (omega arith)
 
 -- one element of an accepted reading
-module _ (s : List ℕ) (limits : Limits) (levels after : Levels) (place : ℕ) (e : Element) (found : element_at s place (stated_by levels) ≡ Next.Found e)
+module _ (s : List ℕ) (limits : Limits) (levels after : Levels) (place : ℕ) (e : Element) (found : element_at s place (stated_by levels) ≡ Ok (Some e))
     (begun : 0 < depth levels → 0 < length (written_of s levels)) (steps : step limits levels e ≡ more after) where
   pub element_written : written_of s after ≡ add_element s (written_of s levels) e.first e.end (line_written e)
   element_written = step_written s limits e after levels (delimiter_byte s place (stated_by levels) e found) begun steps

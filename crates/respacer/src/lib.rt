@@ -2,7 +2,6 @@
 #![tactic(auto)]
 
 ghost use Rattle.std.specs.Prelude.{◌≡◌, List, ℕ, ◌*◌, ◌≤◌, length};
-ghost use Rattle.text.specs.Machinery.Codes.{byte_codes};
 ghost use Rattle.respacer.specs.Respace.{whole_reading, Respaces};
 ghost use Rattle.rule.specs.Levels.{Levels};
 ghost use Rattle.prefix.specs.Reading.{ending};
@@ -13,6 +12,7 @@ ghost use Rattle.respacer.specs.Machinery.Told.{Told};
 use answers::Answer;
 use prefix::State;
 use tables::TreeRecord;
+use text::Codes;
 use turns::ReadOn;
 
 // The number that document 01's table of refused texts gives an output that is too short.
@@ -32,8 +32,8 @@ fn write_end(output: &mut [u8], stack: &[u32], state: State, at: usize) -> Answe
 }
 
 // The elements of the whole text, as many as fit; and the count of all bytes, those that do not fit too.
-fn write_text(codes: &[u8], text: &[u8], output: &mut [u8], stack: &mut [u32]) -> Answer
-    requires { (codes.now ≡ byte_codes) × (length text.now ≤ most_bytes) × (length stack.old ≡ 200) }
+fn write_text(codes: &Codes, text: &[u8], output: &mut [u8], stack: &mut [u32]) -> Answer
+    requires { (length text.now ≤ most_bytes) × (length stack.old ≡ 200) }
     ensures { Told text.now output.old output.new (whole_reading text.now) result }
 {
     let mut none = [0u32; 0];
@@ -62,7 +62,7 @@ pub fn respace(text: &[u8], output: &mut [u8]) -> Answer
         return Answer::Refused(turns::LONG, turns::MOST_BYTES);
     }
     let mut stack = [0u32; 200];
-    let codes = text::codes();
+    let codes = Codes::new();
     let answer = write_text(&codes, text, output, &mut stack);
     match answer {
         Answer::Accepted(count) => {

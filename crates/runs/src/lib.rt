@@ -3,60 +3,49 @@
 
 ghost use Rattle.std.specs.Prelude.{◌≡◌, ◌+◌, drop};
 ghost use Rattle.text.specs.Bytes.{digit, name_byte};
-ghost use Rattle.text.specs.Machinery.Codes.{byte_codes, code_over};
+ghost use Rattle.text.specs.Machinery.Codes.{code_over};
 ghost use Rattle.text.specs.Runs.{run, same};
 
-// Whether two slices hold the same bytes, compared from the last to the first: so no end has to be held beside the place.
+use text::Codes;
+
+// Whether two slices hold the same bytes.
 pub fn equal(a: &[u8], b: &[u8]) -> bool
     ensures { result ≡ same a.now b.now }
 {
-    if a.len() != b.len() {
-        return false;
-    }
-    let mut i = a.len();
-    while 0 < i {
-        i -= 1;
-        if a[i] != b[i] {
-            return false;
-        }
-    }
-    true
+    a == b
 }
 
 // The end of the run from `from` of bytes whose code is over a limit, byte by byte.
-fn short_run_end(codes: &[u8], text: &[u8], from: usize, limit: u8) -> usize
-    requires { codes.now ≡ byte_codes }
+fn short_run_end(codes: &Codes, text: &[u8], from: usize, limit: u8) -> usize
     ensures { result ≡ from + run (code_over limit) (drop from text.now) }
 {
-    let mut i = from;
-    while i < text.len() {
-        if text::code(codes, text[i]) <= limit {
+    for i in from..text.len() {
+        if codes.of(text[i]) <= limit {
             return i;
         }
-        i += 1;
     }
-    i
+    from.max(text.len())
 }
 
-// The same, with four bytes for each look at the text's end: names, comments and strings are long enough to gain by it.
-pub fn run_end(codes: &[u8], text: &[u8], from: usize, limit: u8) -> usize
-    requires { codes.now ≡ byte_codes }
+// The same, with four bytes for each look at the text's end: names, comments and strings are long enough to gain by it. So the place goes
+// by four, and stands between two turns where no iterator over bytes or chunks is.
+pub fn run_end(codes: &Codes, text: &[u8], from: usize, limit: u8) -> usize
     ensures { result ≡ from + run (code_over limit) (drop from text.now) }
 {
     let mut i = from;
     if 3 < text.len() {
         let tail = text.len() - 3;
         while i < tail {
-            if text::code(codes, text[i]) <= limit {
+            if codes.of(text[i]) <= limit {
                 return i;
             }
-            if text::code(codes, text[i + 1]) <= limit {
+            if codes.of(text[i + 1]) <= limit {
                 return i + 1;
             }
-            if text::code(codes, text[i + 2]) <= limit {
+            if codes.of(text[i + 2]) <= limit {
                 return i + 2;
             }
-            if text::code(codes, text[i + 3]) <= limit {
+            if codes.of(text[i + 3]) <= limit {
                 return i + 3;
             }
             i += 4;
@@ -66,16 +55,14 @@ pub fn run_end(codes: &[u8], text: &[u8], from: usize, limit: u8) -> usize
 }
 
 // The end of the run of name bytes from `from`.
-pub fn name_end(codes: &[u8], text: &[u8], from: usize) -> usize
-    requires { codes.now ≡ byte_codes }
+pub fn name_end(codes: &Codes, text: &[u8], from: usize) -> usize
     ensures { result ≡ from + run name_byte (drop from text.now) }
 {
     run_end(codes, text, from, text::BLANK)
 }
 
 // The end of the run of digits from `from`.
-pub fn digits_end(codes: &[u8], text: &[u8], from: usize) -> usize
-    requires { codes.now ≡ byte_codes }
+pub fn digits_end(codes: &Codes, text: &[u8], from: usize) -> usize
     ensures { result ≡ from + run digit (drop from text.now) }
 {
     run_end(codes, text, from, text::LETTER)

@@ -1,4 +1,5 @@
 -- The class of an element that is found, as its record shows it, is told by its kind, its length and its first and last bytes.
+use Rattle.std.specs.Prelude.{Ok, Some}
 use mathlib.Core.Path.{◌≡◌, refl, sym, ap, subst, ◌∙◌}
 use mathlib.Core.List.{List}
 use mathlib.Core.Bool.{Bool, true, false, cond, ◌&&◌, ◌||◌}
@@ -13,7 +14,6 @@ use Rattle.vocabulary.specs.Vocabulary.{row_at}
 use Rattle.signs.specs.Signs.{longest_sign, longest_of}
 use Rattle.elements.specs.Elements.{element_at, delimiter, name_kind, word_kind, number_kind, string_kind, pattern_kind, sign_kind}
 use Rattle.elements.specs.declared.Element.{Element}
-use Rattle.elements.specs.declared.Next.{Next}
 use Rattle.elements.specs.declared.Stated.{Stated}
 use Rattle.elements.proofs.Choices.{cond_both}
 use Rattle.elements.proofs.FoundKinds.{found_kind}
@@ -65,7 +65,7 @@ pub record ToldAs (text : List ℕ) (e : Element) (kind : ℕ) : Type 0 where
   pub element : T (is_element (record_class (class_of e)))
   pub no_closer : is_closer e ≡ false
 
-module _ (text : List ℕ) (place : ℕ) (given : Stated) (e : Element) (found : element_at text place given ≡ Next.Found e) where
+module _ (text : List ℕ) (place : ℕ) (given : Stated) (e : Element) (found : element_at text place given ≡ Ok (Some e)) where
   word_tells : e.kind ≡ word_kind → T (word_told (e.end - e.first) (get_or text e.first 0) (get_or text (e.end - 1) 0) e.which)
   unfolding word_by row_at
   word_tells q = word_passes text place given e found word_told tt q

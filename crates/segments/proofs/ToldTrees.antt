@@ -36,7 +36,7 @@ pub reading_told : (bytes : List ℕ) (limits : Limits) → Accepts (AllTold byt
 reading_told bytes limits =
     reading_tells bytes limits (λ levels place. ToldLevels bytes levels) (Accepts (AllTold bytes))
     (λ levels place p. ending_accepts (ToldLevels bytes) levels p)
-    (λ levels place number at p f. tt)
+    (λ levels place fault p f. tt)
     (λ levels place e number at p f s. tt)
     (λ levels place e after p f s. told_taken bytes e (settled_told bytes place (stated_by levels) e f) (step_taken limits e levels after s) p)
     tt

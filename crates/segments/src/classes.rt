@@ -1,4 +1,5 @@
-// The class of a record: its kind tells it, and of a word or sign its length and its first and last bytes.
+// The class of a record: its kind tells it, and of a word or sign its length and its first and last bytes. What no token is has the class
+// 0, as in `look_up` of the definitions: the machine's table is asked with the number, and an option would be turned into it at once.
 ghost use Rattle.std.specs.Prelude.{◌≡◌, cond, eqb};
 ghost use Rattle.text.specs.Quoted.{byte};
 ghost use Rattle.machine.specs.Tokens.{default_word, finally_word};
@@ -120,6 +121,7 @@ fn triple_class(b: u8, last: u8) -> u32
 }
 
 // The class of a sign that has not one byte, by its length and its first and last bytes.
+#[tactic(auto, unfolding(crate::specs::Machinery::Segments::sign_by))]
 pub fn longer_class(len: usize, b: u8, last: u8) -> u32
     requires { len ≡ 1 → ⊥ }
     ensures { result ≡ sign_by len b last }
@@ -224,6 +226,7 @@ fn seven_class(b: u8) -> u32
 }
 
 // The class of a reserved word that is taken, by its length and its first and last bytes.
+#[tactic(auto, unfolding(crate::specs::Machinery::Segments::word_by))]
 pub fn word_class(len: usize, b: u8, last: u8) -> u32
     ensures { result ≡ word_by len b last }
 {
@@ -244,16 +247,11 @@ pub fn word_class(len: usize, b: u8, last: u8) -> u32
 pub fn is_spelled(kind: u32) -> bool
     ensures { result ≡ is_spelled kind }
 {
-    if kind == elements::SIGN {
-        return true;
-    }
-    if kind == prefix::BEFORE {
-        return true;
-    }
-    kind == prefix::AFTER
+    matches!(kind, elements::SIGN | prefix::BEFORE | prefix::AFTER)
 }
 
 // The class that a kind alone tells; 0 for that of words and of signs.
+#[tactic(auto, unfolding(crate::specs::Machinery::Segments::kind_by))]
 pub fn kind_class(kind: u32) -> u32
     ensures { result ≡ kind_by kind }
 {

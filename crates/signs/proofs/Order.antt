@@ -13,10 +13,10 @@ use Rattle.text.proofs.Members.{is_in}
 use Rattle.text.proofs.Range.{and_left, and_right}
 use Rattle.vocabulary.specs.Vocabulary.{Row, spelling, signs, row_at}
 use Rattle.vocabulary.proofs.RowLaws.{each_row, at_row}
-use Rattle.signs.specs.Signs.{starts_with, size, longest_sign}
+use Rattle.signs.specs.Signs.{starts_with, size, longest_sign, found}
 use Rattle.signs.specs.Machinery.Rows.{sign, order, first_of}
-use Rattle.signs.specs.declared.Longest.{Longest}
-use Rattle.signs.specs.declared.Longest.TheVariants.{None, Sign}
+use Rattle.signs.specs.declared.Sign.{Sign}
+use Rattle.std.specs.Prelude.{Option, None, Some}
 use Rattle.signs.proofs.Laws.{longest_covers, longest_fits}
 use Rattle.signs.proofs.Spellings.{longest_spelled}
 
@@ -92,17 +92,17 @@ module _ (s : List ℕ) where
           go true e h = absurd h
           go false e h = let l = leb-false len (length (sign n)) e in omega arith
 
-      go : (r : Longest) → longest_sign s ≡ r → size r ≤ length (sign n)
+      go : (r : Option Sign) → longest_sign s ≡ r → size r ≤ length (sign n)
       go None e = omega arith
-      go (Sign k len) e =
-          let is = longest_spelled s k len e in
-          let there : T (starts_with (sign k) s) = rw is.own at (starts_self s len) in
+      go (Some g) e =
+          let is = longest_spelled s g e in
+          let there : T (starts_with (sign g.number) s) = rw is.own at (starts_self s g.len) in
           rw is.long
-          (one k (leb (length (sign k)) (length (sign n))) (starts_with (sign n) (sign k)) (is_in before k)
-          (leb→le (length (sign k)) (length (sign n)))
-          (λ h. rw is.own at (starts_take (sign n) s len (rw is.long (over k (length (sign k)) h)) starts))
-          (λ h. none k h there)
-          (at_row (behind before n) signs t k (rw (leb-zero (length (sign n))) tt)))
+          (one g.number (leb (length (sign g.number)) (length (sign n))) (starts_with (sign n) (sign g.number)) (is_in before g.number)
+          (leb→le (length (sign g.number)) (length (sign n)))
+          (λ h. rw is.own at (starts_take (sign n) s g.len (rw is.long (over g.number (length (sign g.number)) h)) starts))
+          (λ h. none g.number h there)
+          (at_row (behind before n) signs t g.number (rw (leb-zero (length (sign n))) tt)))
 
   -- the number 0 stands for none, and every text starts with no sign
   at_end : (before : List ℕ) → T (each_row (behind before 0) 1 signs) → none_of before → size (longest_sign s) ≤ 0
@@ -113,11 +113,11 @@ module _ (s : List ℕ) where
   unfolding first_of
   first before [] t none = go (longest_sign s) refl
     where
-      go : (r : Longest) → longest_sign s ≡ r → None ≡ r
+      go : (r : Option Sign) → longest_sign s ≡ r → None ≡ r
       go None e = refl
-      go (Sign k len) e =
-          let l : len ≤ 0 = rw e at (at_end before t none) in
-          let h = (longest_fits s k len e).0 in
+      go (Some g) e =
+          let l : g.len ≤ 0 = rw e at (at_end before t none) in
+          let h = (longest_fits s g e).0 in
           absurd (omega arith)
   first before (n ∷ numbers) t none =
       go (starts_with (sign n) s) refl
@@ -136,19 +136,19 @@ module _ (s : List ℕ) where
           at true e is = rw (eqb-true m n e, k) at there
           at false e is = none m is there
 
-      found : T (starts_with (sign n) s) → (r : Longest) → longest_sign s ≡ r → Sign n (length (sign n)) ≡ r
-      found starts None e = let l : length (sign n) ≤ 0 = rw e at (longest_covers s n starts) in absurd (omega (arith, some))
-      found starts (Sign k len) e =
-          let is = longest_spelled s k len e in
-          let least : length (sign n) ≤ len = rw e at (longest_covers s n starts) in
-          let most : len ≤ length (sign n) = rw e at (most before n (and_left (each_row (behind before n) 1 signs) (ordered (n ∷ before) numbers) later) none starts) in
-          let long : len ≡ length (sign n) = omega arith in
-          let same : sign k ≡ sign n = sym is.own ∙ (rw long (sym (same→eq (sign n) (take (length (sign n)) s) starts))) in
-          rw (same_number k n same some, long)
+      first_found : T (starts_with (sign n) s) → (r : Option Sign) → longest_sign s ≡ r → found n (length (sign n)) ≡ r
+      first_found starts None e = let l : length (sign n) ≤ 0 = rw e at (longest_covers s n starts) in absurd (omega (arith, some))
+      first_found starts (Some g) e =
+          let is = longest_spelled s g e in
+          let least : length (sign n) ≤ g.len = rw e at (longest_covers s n starts) in
+          let most : g.len ≤ length (sign n) = rw e at (most before n (and_left (each_row (behind before n) 1 signs) (ordered (n ∷ before) numbers) later) none starts) in
+          let long : g.len ≡ length (sign n) = omega arith in
+          let same : sign g.number ≡ sign n = sym is.own ∙ (rw long (sym (same→eq (sign n) (take (length (sign n)) s) starts))) in
+          rw (same_number g.number n same some, long)
 
       go : (a : Bool) → starts_with (sign n) s ≡ a → (starts_with (sign n) s ≡ false → first_of s numbers ≡ longest_sign s)
-          → cond a (Sign n (length (sign n))) (first_of s numbers) ≡ longest_sign s
-      go true e rest = found (rw e tt) (longest_sign s) refl
+          → cond a (found n (length (sign n))) (first_of s numbers) ≡ longest_sign s
+      go true e rest = first_found (rw e tt) (longest_sign s) refl
       go false e rest = rest e
 
 pub first_longest : (s : List ℕ) → first_of s order ≡ longest_sign s

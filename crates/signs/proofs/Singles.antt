@@ -11,8 +11,8 @@ use Rattle.text.proofs.Range.{and_left, and_right}
 use Rattle.vocabulary.specs.Vocabulary.{Row, spelling, signs}
 use Rattle.signs.specs.Signs.{starts_with, longer, longest_of, longest_sign}
 use Rattle.signs.specs.Machinery.Rows.{goes_on}
-use Rattle.signs.specs.declared.Longest.{Longest}
-use Rattle.signs.specs.declared.Longest.TheVariants.{None}
+use Rattle.signs.specs.declared.Sign.{Sign}
+use Rattle.std.specs.Prelude.{Option, None}
 
 -- the second byte of a sign is one with which signs go on
 abbrev second_goes_on : List ℕ → Bool
@@ -36,7 +36,7 @@ module _ (b : ℕ) (t : List ℕ) (apart : goes_on (get_or t 0 0) ≡ false) whe
       behind [] apart = refl
       behind (x ∷ t) apart = rw (ne_eqb c x (λ e. absurd (rw (e, apart) at h))) (refl)
 
-  longest_of_single : (gs : List Row) (number : ℕ) (best : Longest) → T (all_go_on gs)
+  longest_of_single : (gs : List Row) (number : ℕ) (best : Option Sign) → T (all_go_on gs)
       → longest_of (b ∷ t) number best gs ≡ longest_of (b ∷ []) number best gs
   unfolding longest_of
   longest_of_single [] number best h = refl

@@ -11,9 +11,9 @@ use lib.ListN.{length, take, drop, get_or, drop_of_length-le}
 use lib.Seq.{drop-cons, get_or-drop}
 use Rattle.text.proofs.Range.{agree}
 use Rattle.vocabulary.specs.Vocabulary.{row_at}
-use Rattle.signs.specs.Signs.{starts_with}
+use Rattle.signs.specs.Signs.{starts_with, found}
 use Rattle.signs.specs.Machinery.Rows.{sign, order, row, rows, table, first_of}
-use Rattle.signs.specs.declared.Longest.TheVariants.{None, Sign}
+use Rattle.std.specs.Prelude.{None}
 
 drop_rows : (numbers : List ℕ) (k : ℕ) → drop (6 * k) (rows numbers) ≡ rows (drop k numbers)
 drop_rows numbers zero = refl
@@ -55,29 +55,29 @@ module _ (k : ℕ) (h : k < 48) where
     pub row_within : (6 * k + 6 ≤ length cells) × (length (sign (get_or order k 0)) ≤ 4)
     row_within = (rw whole (rw table_length (omega arith)), short)
 
-    -- the bytes, as the code lends them
-    lent : List ℕ
-    lent = take (6 * k + get_or cells (6 * k + 4) 0 - 6 * k) (drop (6 * k) cells)
+    -- the row as the code reads it: its length, its number and the bytes that are lent
+    module _ (len number : ℕ) (long : len ≡ get_or cells (6 * k + 4) 0) (numbered : number ≡ get_or cells (6 * k + 5) 0) where
+      lent : List ℕ
+      lent = take (6 * k + len - 6 * k) (drop (6 * k) cells)
 
-    lent_sign : lent ≡ sign (get_or order k 0)
-    unfolding lent
-    lent_sign =
-        let e : 6 * k + get_or cells (6 * k + 4) 0 - 6 * k ≡ length (sign (get_or order k 0)) = omega (arith, cell_length) in
-        rw (e, at_row) (first_four (sign (get_or order k 0)) _ short)
+      lent_sign : lent ≡ sign (get_or order k 0)
+      unfolding lent
+      lent_sign =
+          let e : 6 * k + len - 6 * k ≡ length (sign (get_or order k 0)) = omega (arith, cell_length) in
+          rw (e, at_row) (first_four (sign (get_or order k 0)) _ short)
 
-    module _ (s : List ℕ) where
-      step : first_of s (drop k order) ≡ first_of s (get_or order k 0 ∷ drop (suc k) order)
-      step = ap (first_of s) (drop-cons order k 0 h)
+      module _ (s : List ℕ) where
+        step : first_of s (drop k order) ≡ first_of s (get_or order k 0 ∷ drop (suc k) order)
+        step = ap (first_of s) (drop-cons order k 0 h)
 
-      pub scan_found : starts_with (take (6 * k + get_or cells (6 * k + 4) 0 - 6 * k) (drop (6 * k) cells)) s ≡ true
-          → first_of s (drop k order) ≡ Sign (get_or cells (6 * k + 5) 0) (get_or cells (6 * k + 4) 0)
-      unfolding first_of lent
-      scan_found e = step ∙ rw (rw lent_sign at e, cell_length, cell 5)
+        pub scan_found : starts_with (take (6 * k + len - 6 * k) (drop (6 * k) cells)) s ≡ true → first_of s (drop k order) ≡ found number len
+        unfolding first_of lent
+        scan_found e = step ∙ rw (rw lent_sign at e, long, numbered, cell_length, cell 5)
 
-      pub scan_other : starts_with (take (6 * k + get_or cells (6 * k + 4) 0 - 6 * k) (drop (6 * k) cells)) s ≡ false
-          → first_of s (drop k order) ≡ first_of s (drop (k + 1) order)
-      unfolding first_of lent
-      scan_other e = step ∙ rw (rw lent_sign at e, add-one k)
+        pub scan_other : starts_with (take (6 * k + len - 6 * k) (drop (6 * k) cells)) s ≡ false
+            → first_of s (drop k order) ≡ first_of s (drop (k + 1) order)
+        unfolding first_of lent
+        scan_other e = step ∙ rw (rw lent_sign at e, add-one k)
 
 pub scan_end : (s : List ℕ) (k : ℕ) → 48 ≤ k → first_of s (drop k order) ≡ None
 unfolding first_of

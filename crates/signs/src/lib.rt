@@ -1,9 +1,8 @@
 // The 48 signs of ES5.1 section 7.7: the longest that stands at a place of a text.
 #![tactic(auto)]
 
-ghost use Rattle.std.specs.Prelude.{◌≡◌, List, ◌∷◌, ℕ, ◌<◌, ◌≤◌, drop, get_or, length};
-ghost use Rattle.signs.specs.declared.Longest.TheVariants.{Sign};
-ghost use Rattle.signs.specs.Signs.{longest_sign, starts_with};
+ghost use Rattle.std.specs.Prelude.{◌≡◌, List, ◌∷◌, ℕ, ◌<◌, drop, get_or, length, IfSome};
+ghost use Rattle.signs.specs.Signs.{longest_sign, found};
 ghost use Rattle.signs.specs.Machinery.Rows.{order, table, first_of, goes_on};
 
 // The numbers of the signs of one byte: their places among the 48, from 1.
@@ -112,43 +111,33 @@ const SIGNS: [u8; 288] = [
 // The numbers of a row.
 const WIDTH: usize = 6;
 
-// The longest sign at a place, by its number and length; or that none starts there.
+// A sign that stands at a place: its number, and how many bytes it has.
 #[derive(Clone, Copy)]
-pub enum Longest {
-    None,
-    Sign(u32, usize),
+pub struct Sign {
+    pub number: u32,
+    pub len: usize,
 }
 
-// Whether the text has a sign at a place.
-fn starts_at(sign: &[u8], text: &[u8], at: usize) -> bool
-    requires { at ≤ length text.now }
-    ensures { result ≡ starts_with sign.now (drop at text.now) }
+// The first of the table's signs, from its row `from` on, that a text starts with.
+fn scan(signs: &[u8], text: &[u8], from: usize) -> Option<Sign>
+    requires { signs.now ≡ table }
+    ensures { result ≡ first_of text.now (drop from order) }
 {
-    let len = sign.len();
-    if text.len() - at < len {
-        return false;
-    }
-    runs::equal(sign, &text[at..at + len])
-}
-
-// The first of the table's signs, from its row `from` on, that the text has at a place.
-fn scan(signs: &[u8], text: &[u8], at: usize, from: usize) -> Longest
-    requires { (signs.now ≡ table) × (at ≤ length text.now) }
-    ensures { result ≡ first_of (drop at text.now) (drop from order) }
-{
-    let mut k = from;
-    while k < 48 {
+    for k in from..48 {
         let row = WIDTH * k;
-        let len = signs[row + 4] as usize;
-        if starts_at(&signs[row..row + len], text, at) {
-            return Longest::Sign(signs[row + 5] as u32, len);
+        let len = usize::from(signs[row + 4]);
+        if text.starts_with(&signs[row..row + len]) {
+            return Some(Sign {
+                number: u32::from(signs[row + 5]),
+                len,
+            });
         }
-        k += 1;
     }
-    Longest::None
+    None
 }
 
 // The row at which the signs that start with `b` begin.
+#[tactic(auto, unfolding(crate::specs::Machinery::Rows::first_of, text::specs::Runs::same, vocabulary::specs::Vocabulary::row_at))]
 fn first_row(b: u8) -> usize
     ensures { (t : List ℕ) → first_of (b ∷ t) (drop result order) ≡ first_of (b ∷ t) order }
 {
@@ -169,32 +158,32 @@ fn first_row(b: u8) -> usize
     }
 }
 
-// The longest sign at a place, by the table.
-fn by_table(text: &[u8], at: usize) -> Longest
-    requires { at < length text.now }
-    ensures { result ≡ longest_sign (drop at text.now) }
+// The longest sign that a text starts with, by the table.
+fn by_table(text: &[u8]) -> Option<Sign>
+    requires { 0 < length text.now }
+    ensures { result ≡ longest_sign text.now }
 {
-    scan(&SIGNS, text, at, first_row(text[at]))
+    scan(&SIGNS, text, first_row(text[0]))
 }
 
-// The number of the sign that the byte `b` is where no other sign starts with it, else 0.
-fn lone(b: u8) -> u32
-    ensures { (result ≡ 0 → ⊥) → (t : List ℕ) → longest_sign (b ∷ t) ≡ Sign result 1 }
+// The number of the sign that the byte `b` is where no other sign starts with it.
+fn lone(b: u8) -> Option<u32>
+    ensures { IfSome result (λ number. (t : List ℕ) → longest_sign (b ∷ t) ≡ found number 1) }
 {
     match b {
-        b'(' => OPEN_PAREN,
-        b')' => CLOSE_PAREN,
-        b'{' => OPEN_BRACE,
-        b'}' => CLOSE_BRACE,
-        b';' => SEMICOLON,
-        b'.' => DOT,
-        b',' => COMMA,
-        b':' => COLON,
-        b'[' => OPEN_BRACKET,
-        b']' => CLOSE_BRACKET,
-        b'?' => QUESTION,
-        b'~' => COMPLEMENT,
-        _ => 0,
+        b'(' => Some(OPEN_PAREN),
+        b')' => Some(CLOSE_PAREN),
+        b'{' => Some(OPEN_BRACE),
+        b'}' => Some(CLOSE_BRACE),
+        b';' => Some(SEMICOLON),
+        b'.' => Some(DOT),
+        b',' => Some(COMMA),
+        b':' => Some(COLON),
+        b'[' => Some(OPEN_BRACKET),
+        b']' => Some(CLOSE_BRACKET),
+        b'?' => Some(QUESTION),
+        b'~' => Some(COMPLEMENT),
+        _ => None,
     }
 }
 
@@ -202,58 +191,43 @@ fn lone(b: u8) -> u32
 fn goes_on(next: u8) -> bool
     ensures { result ≡ goes_on next }
 {
-    match next {
-        b'<' => true,
-        b'=' => true,
-        b'>' => true,
-        b'+' => true,
-        b'-' => true,
-        b'&' => true,
-        b'|' => true,
-        _ => false,
-    }
+    matches!(next, b'<' | b'=' | b'>' | b'+' | b'-' | b'&' | b'|')
 }
 
-// The number of the sign that the byte `b` is where no sign goes on with the byte `next` behind it; else 0, and the table decides.
-fn single(b: u8, next: u8) -> u32
-    ensures { (result ≡ 0 → ⊥) → (t : List ℕ) → get_or t 0 0 ≡ next → longest_sign (b ∷ t) ≡ Sign result 1 }
+// The number of the sign that the byte `b` is where no sign goes on with the byte `next` behind it; where there is none, the table decides.
+#[tactic(auto, using(crate::proofs::Singles::longest_single), unfolding(crate::specs::Signs::longest_sign, crate::specs::Signs::longest_of, text::specs::Runs::same))]
+fn single(b: u8, next: u8) -> Option<u32>
+    ensures { IfSome result (λ number. (t : List ℕ) → get_or t 0 0 ≡ next → longest_sign (b ∷ t) ≡ found number 1) }
 {
-    if goes_on(next) {
-        return 0;
-    }
     match b {
-        b'<' => LESS,
-        b'>' => GREATER,
-        b'+' => PLUS,
-        b'-' => MINUS,
-        b'*' => MULTIPLY,
-        b'%' => REMAINDER,
-        b'&' => BIT_AND,
-        b'|' => BIT_OR,
-        b'^' => BIT_XOR,
-        b'!' => NEGATION,
-        b'=' => ASSIGN,
-        b'/' => SLASH,
-        _ => 0,
+        _ if goes_on(next) => None,
+        b'<' => Some(LESS),
+        b'>' => Some(GREATER),
+        b'+' => Some(PLUS),
+        b'-' => Some(MINUS),
+        b'*' => Some(MULTIPLY),
+        b'%' => Some(REMAINDER),
+        b'&' => Some(BIT_AND),
+        b'|' => Some(BIT_OR),
+        b'^' => Some(BIT_XOR),
+        b'!' => Some(NEGATION),
+        b'=' => Some(ASSIGN),
+        b'/' => Some(SLASH),
+        _ => None,
     }
 }
 
 // The longest sign at a place; none past the text's end.
-pub fn sign_at(text: &[u8], at: usize) -> Longest
+pub fn sign_at(text: &[u8], at: usize) -> Option<Sign>
     ensures { result ≡ longest_sign (drop at text.now) }
 {
-    if text.len() <= at {
-        return Longest::None;
+    let b = *text.get(at)?;
+    if let Some(number) = lone(b) {
+        return Some(Sign { number, len: 1 });
     }
-    let b = text[at];
-    let number = lone(b);
-    if number != 0 {
-        return Longest::Sign(number, 1);
+    let next = text.get(at + 1).copied().unwrap_or(0);
+    if let Some(number) = single(b, next) {
+        return Some(Sign { number, len: 1 });
     }
-    let next = if at + 1 < text.len() { text[at + 1] } else { 0 };
-    let number = single(b, next);
-    if number != 0 {
-        return Longest::Sign(number, 1);
-    }
-    by_table(text, at)
+    by_table(&text[at..])
 }

@@ -1,4 +1,5 @@
 -- An element that was written, with a blank or a line end behind it, is found again: the same but for its position.
+use Rattle.std.specs.Prelude.{Ok, Some, None}
 use mathlib.Core.Path.{◌≡◌, refl, sym, ap, ◌∙◌}
 use mathlib.Core.List.{List, [], ◌∷◌, ◌++◌, append_assoc}
 use mathlib.Core.Bool.{Bool, true, false, ◌||◌}
@@ -9,7 +10,6 @@ use lib.Seq.{take_at, drop-append_seam}
 use Rattle.text.specs.Bytes.{blank, line_end}
 use Rattle.elements.specs.Elements.{element_at}
 use Rattle.elements.specs.declared.Element.{Element}
-use Rattle.elements.specs.declared.Next.{Next}
 use Rattle.elements.specs.declared.Stated.{Stated}
 use Rattle.elements.proofs.Bounds.{Placed, found_placed, past_end}
 use Rattle.elements.proofs.Separators.{lined, blank_first, line_end_first}
@@ -22,21 +22,21 @@ use Rattle.spacing.proofs.OverLaws.{bytes_length}
 abbrev pub moved : Element → ℕ → Bool → Element
 moved e first newline = record { kind = e.kind; which = e.which; first = first; end = first + (e.end - e.first); newline = newline }
 
-module _ (s : List ℕ) (place : ℕ) (stated : Stated) (e : Element) (found : element_at s place stated ≡ Next.Found e)
+module _ (s : List ℕ) (place : ℕ) (stated : Stated) (e : Element) (found : element_at s place stated ≡ Ok (Some e))
     (x : ℕ) (separates : (blank x || line_end x) ≡ true) (v : List ℕ) where
   -- the element's bytes, and what follows them
   abbrev tail : List ℕ
   tail = bytes_of s e.first e.end ++ x ∷ v
 
   -- behind one byte more
-  behind : (written : List ℕ) (b : ℕ) → element_at (written ++ b ∷ tail) (length written + 1) stated ≡ Next.Found (moved e (length written + 1) false)
+  behind : (written : List ℕ) (b : ℕ) → element_at (written ++ b ∷ tail) (length written + 1) stated ≡ Ok (Some (moved e (length written + 1) false))
   behind written b =
       let size : length (written ++ (b ∷ [])) ≡ length written + 1 = length-append written (b ∷ []) in
       let own = own_bytes s place stated e found x separates (written ++ (b ∷ [])) v in
       rw (size, append_assoc written (b ∷ []) tail) at own
 
   after-separator : (written : List ℕ) (newline : Bool)
-      → element_at ((written ++ separator written newline) ++ tail) (length written) stated ≡ Next.Found (moved e (length (written ++ separator written newline)) newline)
+      → element_at ((written ++ separator written newline) ++ tail) (length written) stated ≡ Ok (Some (moved e (length (written ++ separator written newline)) newline))
   unfolding blank line_end
   after-separator [] true = line_end_first [] tail line_feed stated refl ∙ ap lined (behind [] line_feed)
   after-separator [] false = own_bytes s place stated e found x separates [] v
@@ -64,7 +64,7 @@ module _ (s : List ℕ) (place : ℕ) (stated : Stated) (e : Element) (found : e
         let p : Placed s place e = found_placed s place stated e found in
         bytes_length s e.first e.end (omega (arith, p.some)) p.within
 
-    pub found_again : element_at again (length written) stated ≡ Next.Found (moved e start newline)
+    pub found_again : element_at again (length written) stated ≡ Ok (Some (moved e start newline))
     found_again = rw parts (after-separator written newline)
 
     -- its end is that of what is written
@@ -78,7 +78,7 @@ module _ (s : List ℕ) (place : ℕ) (stated : Stated) (e : Element) (found : e
         sym (rw (parts, span, drop-append_seam (written ++ separator written newline) tail) (take_at (bytes_of s e.first e.end) (x ∷ v) (e.end - e.first) size))
 
 -- behind the last element a text has one 0A, and no element more
-pub nothing_more : (written : List ℕ) (stated : Stated) → element_at (written ++ (line_feed ∷ [])) (length written) stated ≡ Next.End
+pub nothing_more : (written : List ℕ) (stated : Stated) → element_at (written ++ (line_feed ∷ [])) (length written) stated ≡ Ok None
 unfolding line_end
 nothing_more written stated =
     line_end_first written [] line_feed stated refl

@@ -1,12 +1,12 @@
 -- What is written lies over the old output: a byte more, and the bytes of an element one by one.
 use mathlib.Core.Path.{◌≡◌, refl, sym, ap, ◌∙◌}
-use mathlib.Core.List.{List, [], ◌∷◌, ◌++◌, append_assoc, append-nil}
+use mathlib.Core.List.{List, [], ◌∷◌, ◌++◌, append_assoc}
 use mathlib.Core.Bool.{true, false}
-use Prim.Native.Nat.{ℕ, suc, ◌+◌, ◌-◌, ◌<◌, ◌≤◌}
+use Prim.Native.Nat.{ℕ, ◌+◌, ◌-◌, ◌<◌, ◌≤◌}
 use native.Mathlib.Omega.{arith}
 use native.Mathlib.Numerals.{add-one}
 use lib.ListN.{length, get_or, take, drop, set, length-append, length-take, length-drop, drop_of_length-le}
-use lib.Seq.{take-nil, take_all, take-append-le, drop-cons, set-append_seam, take-suc, get_or-drop, length-take-le}
+use lib.Seq.{take-nil, take_all, take-append-le, drop-cons, set-append_seam, take-suc, length-take-le}
 use Rattle.elements.specs.Lexemes.{bytes_of}
 use Rattle.spacing.specs.Respaced.{add_element, add_closer, line_feed, space}
 use Rattle.spacing.specs.Machinery.Over.{over}
@@ -54,32 +54,17 @@ module _ (output written old : List ℕ) (at b : ℕ) (a : at ≡ length written
   pub put_out : length output ≤ at → output ≡ over (written ++ (b ∷ [])) old
   put_out h = o ∙ over_lost written old b (omega (arith, same))
 
--- the bytes of an element, one more
-pub bytes_none : (text : List ℕ) (first : ℕ) → bytes_of text first first ≡ []
-bytes_none text first =
-    let z : first - first ≡ 0 = omega arith in
-    rw z
-
-pub bytes_more : (text : List ℕ) (first i : ℕ) → first ≤ i → i < length text → bytes_of text first (i + 1) ≡ bytes_of text first i ++ (get_or text i 0 ∷ [])
-bytes_more text first i h k =
-    let n : i + 1 - first ≡ suc (i - first) = omega arith in
-    let e : first + (i - first) ≡ i = omega arith in
-    rw n (take-suc (drop first text) (i - first) 0 (omega (arith, length-drop first text)) ∙ rw (get_or-drop first text (i - first) 0, e))
-
+-- the bytes of an element
 pub bytes_length : (text : List ℕ) (first end : ℕ) → first ≤ end → end ≤ length text → length (bytes_of text first end) ≡ end - first
 bytes_length text first end h k = length-take-le (end - first) (drop first text) (omega (arith, length-drop first text))
 
--- an output that holds the bytes of an element up to a place
-module _ (text : List ℕ) (first : ℕ) (written old : List ℕ) where
-  pub bytes_start : (output : List ℕ) → output ≡ over written old → output ≡ over (written ++ bytes_of text first first) old
-  bytes_start output o = rw (bytes_none text first, append-nil written) o
+-- one byte more of those that are written
+pub bytes_step : (bytes written old output : List ℕ) (i : ℕ) → i < length bytes → output ≡ over ((written ++ take i bytes) ++ (get_or bytes i 0 ∷ [])) old
+    → output ≡ over (written ++ take (i + 1) bytes) old
+bytes_step bytes written old output i h o = rw (add-one i, take-suc bytes i 0 h) (rw (append_assoc written (take i bytes) (get_or bytes i 0 ∷ [])) at o)
 
-  module _ (i : ℕ) (h : first ≤ i) (k : i < length text) where
-    pub bytes_step : (output : List ℕ) → output ≡ over ((written ++ bytes_of text first i) ++ (get_or text i 0 ∷ [])) old → output ≡ over (written ++ bytes_of text first (i + 1)) old
-    bytes_step output o = rw (bytes_more text first i h k) (rw (append_assoc written (bytes_of text first i) (get_or text i 0 ∷ [])) at o)
-
-    pub bytes_place : (at to : ℕ) → at ≡ length written → to + first ≡ at + i → to ≡ length (written ++ bytes_of text first i)
-    bytes_place at to a t = rw (length-append written (bytes_of text first i), bytes_length text first i h (omega arith)) (omega arith)
+pub bytes_place : (bytes written : List ℕ) (i at to : ℕ) → i < length bytes → at ≡ length written → to ≡ at + i → to ≡ length (written ++ take i bytes)
+bytes_place bytes written i at to h a t = rw (length-append written (take i bytes), length-take-le i bytes (omega arith)) (omega arith)
 
 -- an element with what comes before it
 module _ (text : List ℕ) (first end : ℕ) where
@@ -102,12 +87,10 @@ module _ (text : List ℕ) (first end : ℕ) where
   unfolding add_closer
   closer_blank written = sym (append_assoc written (space ∷ []) (bytes_of text first end))
 
-  -- the place behind it, and the output
-  module _ (h : first ≤ end) (k : end ≤ length text) (before old output : List ℕ) (at result : ℕ) (a : at ≡ length before) (r : result + first ≡ at + end)
-      (o : output ≡ over (before ++ bytes_of text first end) old) where
-    pub element_put : (goal : List ℕ) → goal ≡ before ++ bytes_of text first end → (result ≡ length goal) × (output ≡ over goal old)
-    element_put goal g =
-        rw g (rw (length-append before (bytes_of text first end), bytes_length text first end h k) (omega arith), o)
+-- the place behind what is written, and the output
+pub put_behind : (more before old output : List ℕ) (at result : ℕ) → at ≡ length before → result ≡ at + length more → output ≡ over (before ++ more) old
+    → (goal : List ℕ) → goal ≡ before ++ more → (result ≡ length goal) × (output ≡ over goal old)
+put_behind more before old output at result a r o goal g = rw g (rw (length-append before more) (omega arith), o)
 
 pub byte_length : (written : List ℕ) (b at next : ℕ) → at ≡ length written → next ≡ at + 1 → next ≡ length (written ++ (b ∷ []))
 byte_length written b at next a n = rw (length-append written (b ∷ [])) (omega arith)

@@ -2,7 +2,6 @@
 #![tactic(auto)]
 
 ghost use Rattle.std.specs.Prelude.{◌≡◌, List, [], ◌∷◌, ◌++◌, ℕ, ◌+◌, ◌<◌, ◌≤◌, ◌^◌, length, replicate};
-ghost use Rattle.elements.specs.Lexemes.{bytes_of};
 ghost use Rattle.spacing.specs.Respaced.{add_element, add_closer};
 ghost use Rattle.spacing.specs.Machinery.Over.{over, Puts};
 
@@ -13,21 +12,18 @@ pub fn put_byte(output: &mut [u8], at: usize, b: u8) -> usize
 {
     if at < output.len() {
         output[at] = b;
-        return at + 1;
     }
     at + 1
 }
 
-// Writes the bytes of a text from `first` to before `end`.
-pub fn put_bytes(text: &[u8], output: &mut [u8], at: usize, first: usize, end: usize) -> usize
-    requires { (at < 2 ^ 31) × (first ≤ end) × (end ≤ length text.now) × (end < 2 ^ 31) }
-    ensures { (result + first ≡ at + end) × ((written old : List ℕ) → at ≡ length written → output.old ≡ over written old → output.new ≡ over (written ++ bytes_of text.now first end) old) }
+// Writes bytes so.
+pub fn put_bytes(output: &mut [u8], at: usize, bytes: &[u8]) -> usize
+    requires { (at < 2 ^ 31) × (length bytes.now < 2 ^ 31) }
+    ensures { (result ≡ at + length bytes.now) × ((written old : List ℕ) → at ≡ length written → output.old ≡ over written old → output.new ≡ over (written ++ bytes.now) old) }
 {
-    let mut i = first;
     let mut to = at;
-    while i < end {
-        to = put_byte(output, to, text[i]);
-        i += 1;
+    for &b in bytes {
+        to = put_byte(output, to, b);
     }
     to
 }
@@ -44,15 +40,14 @@ pub fn put_element(
     requires { (at + 1 < 2 ^ 31) × (first ≤ end) × (end ≤ length text.now) × (end < 2 ^ 31) }
     ensures { (result + first ≤ at + end + 1) × Puts (λ w. add_element text.now w first end newline) output.old output.new at result }
 {
-    if newline {
-        let next = put_byte(output, at, 10);
-        return put_bytes(text, output, next, first, end);
-    }
-    if at == 0 {
-        return put_bytes(text, output, at, first, end);
-    }
-    let next = put_byte(output, at, 32);
-    put_bytes(text, output, next, first, end)
+    let next = if newline {
+        put_byte(output, at, b'\n')
+    } else if at == 0 {
+        at
+    } else {
+        put_byte(output, at, b' ')
+    };
+    put_bytes(output, next, &text[first..end])
 }
 
 // Writes a blank and a closer.
@@ -60,17 +55,13 @@ pub fn put_closer(text: &[u8], output: &mut [u8], at: usize, first: usize, end: 
     requires { (at + 1 < 2 ^ 31) × (first ≤ end) × (end ≤ length text.now) × (end < 2 ^ 31) }
     ensures { (result + first ≤ at + end + 1) × Puts (λ w. add_closer text.now w first end) output.old output.new at result }
 {
-    let next = put_byte(output, at, 32);
-    put_bytes(text, output, next, first, end)
+    let next = put_byte(output, at, b' ');
+    put_bytes(output, next, &text[first..end])
 }
 
 // Every byte of an output becomes 0.
 pub fn clear(output: &mut [u8])
     ensures { output.new ≡ replicate (length output.old) 0 }
 {
-    let mut i = 0;
-    while i < output.len() {
-        output[i] = 0;
-        i += 1;
-    }
+    output.fill(0);
 }

@@ -12,11 +12,13 @@ pub fn put(trees: &mut [u32], index: usize, tree: TreeRecord)
     ensures { trees.new ≡ take (tree_width * index) trees.old ++ (tree_record tree.kind tree.first tree.end tree.number tree.newline ++ drop (tree_width * index + tree_width) trees.old) }
 {
     let at = TreeRecord::WIDTH * index;
-    trees[at] = tree.kind;
-    trees[at + 1] = tree.first;
-    trees[at + 2] = tree.end;
-    trees[at + 3] = tree.number;
-    trees[at + 4] = tables::newline_cell(tree.newline);
+    let cells: [u32; TreeRecord::WIDTH] = tree.into();
+    // Five stores, since `copy_from_slice` is a call here: 13 instructions more for each record, 7 % of reading.
+    trees[at] = cells[0];
+    trees[at + 1] = cells[1];
+    trees[at + 2] = cells[2];
+    trees[at + 3] = cells[3];
+    trees[at + 4] = cells[4];
 }
 
 // Writes the end and the number of the group whose record has an index.

@@ -2,39 +2,38 @@
 #![tactic(auto)]
 
 ghost use Rattle.streams.specs.Streams.{InBuffer};
+ghost use Rattle.std.specs.Prelude.{◌≤◌, length, IfOk};
 
 use std::io;
 use std::io::Read;
 
-// How many bytes were read; or that they could not be.
-#[derive(Clone, Copy)]
-pub enum Input {
-    Bytes(usize),
-    Failed,
-}
-
-// Reads standard input to the start of a buffer, until the input ends or the buffer is full.
-pub fn read_input<R: io::Input + Eprint>(rt: &R, buffer: &mut [u8]) -> Input
+// Reads standard input to the start of a buffer, until the input ends or the buffer is full: how many bytes were read, unless
+// they could not be.
+pub fn read_input<R: io::Input + Eprint>(rt: &R, buffer: &mut [u8]) -> Option<usize>
     ensures { InBuffer buffer.new result }
 {
-    let mut reader = rt.reader();
-    let mut done = 0;
-    while done < buffer.len() {
-        let got = reader.read(&mut buffer[done..]);
-        match got {
-            Ok(more) => {
-                if more == 0 {
-                    return Input::Bytes(done);
-                }
-                done += more;
-            }
-            Err(error) => {
-                fail(rt, "standard input", &error);
-                return Input::Failed;
-            }
+    match fill(&mut rt.reader(), buffer) {
+        Ok(count) => Some(count),
+        Err(error) => {
+            fail(rt, "standard input", &error);
+            None
         }
     }
-    Input::Bytes(done)
+}
+
+// How many bytes were read to the start of a buffer.
+fn fill<R: Read>(reader: &mut R, buffer: &mut [u8]) -> io::Result<usize>
+    ensures { IfOk result (λ n. n ≤ length buffer.new) }
+{
+    let mut done = 0;
+    while done < buffer.len() {
+        let more = reader.read(&mut buffer[done..])?;
+        if more == 0 {
+            break;
+        }
+        done += more;
+    }
+    Ok(done)
 }
 
 // Writes bytes to standard output.

@@ -13,9 +13,13 @@ most_trees = 16384
 abbrev pub tree_record : ℕ → ℕ → ℕ → ℕ → Bool → List ℕ
 tree_record kind first end number newline = kind ∷ first ∷ end ∷ number ∷ cond newline 1 0 ∷ []
 
--- the tree records that a table of so many numbers has room for
+-- the records of a width, and of a largest count, that a table of so many numbers has room for
+abbrev pub room : ℕ → ℕ → ℕ → ℕ
+room width most cells = min (cells / width) most
+
+-- the tree records that it has room for
 abbrev pub room_for : ℕ → ℕ
-room_for cells = min (cells / tree_width) most_trees
+room_for = room tree_width most_trees
 
 -- the width of a syntax record, and the largest count of them: "Syntax record, three numbers, at most 16,385"
 abbrev pub syntax_width : ℕ
@@ -26,4 +30,4 @@ most_syntax = 16385
 
 -- the syntax records that a table of so many numbers has room for
 abbrev pub syntax_room : ℕ → ℕ
-syntax_room cells = min (cells / syntax_width) most_syntax
+syntax_room = room syntax_width most_syntax

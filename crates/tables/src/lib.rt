@@ -1,8 +1,22 @@
 // Tree and syntax records, and the lent tables that they are written to.
 #![tactic(auto)]
 
-ghost use Rattle.std.specs.Prelude.{◌≡◌, cond, length, replicate};
-ghost use Rattle.tables.specs.Records.{room_for, syntax_room};
+ghost use Rattle.std.specs.Prelude.{ℕ, ◌≡◌, ◌<◌, length, replicate};
+ghost use Rattle.std.proofs.Common.{lit<};
+ghost use Rattle.tables.specs.Records.{tree_width, most_trees, tree_record, syntax_width, most_syntax, room};
+
+// A record of a table: how many numbers it has, and how many records a table holds at most.
+pub trait Record {
+    ghost WIDTH: { ℕ };
+
+    ghost MOST: { ℕ };
+
+    const WIDTH: usize;
+
+    const MOST: usize;
+
+    ghost has_width: { 0 < WIDTH };
+}
 
 // A tree record: its kind, its first byte, the byte after its last, the records in it with itself, and whether a line end
 // lies before it.
@@ -34,11 +48,25 @@ impl TreeRecord {
     }
 }
 
-// The fifth number of a record.
-pub fn newline_cell(newline: bool) -> u32
-    ensures { result ≡ cond newline 1 0 }
-{
-    if newline { 1 } else { 0 }
+impl Record for TreeRecord {
+    ghost WIDTH = { tree_width };
+
+    ghost MOST = { most_trees };
+
+    const WIDTH: usize = TreeRecord::WIDTH;
+
+    const MOST: usize = TreeRecord::MOST;
+
+    ghost has_width = { lit< tt };
+}
+
+impl From<TreeRecord> for [u32; TreeRecord::WIDTH] {
+    ghost from_gives = { λ tree cells. cells ≡ tree_record tree.kind tree.first tree.end tree.number tree.newline };
+
+    fn from(tree: TreeRecord) -> [u32; TreeRecord::WIDTH] {
+        let newline = u32::from(tree.newline);
+        [tree.kind, tree.first, tree.end, tree.number, newline]
+    }
 }
 
 // A syntax record: its kind, the index of the tree record that marks it, and the syntax records in it with itself.
@@ -56,37 +84,28 @@ impl SyntaxRecord {
     pub const MOST: usize = 16385;
 }
 
-// The tree records that a table of so many numbers has room for.
-pub fn room_for(cells: usize) -> usize
-    ensures { result ≡ room_for cells }
-{
-    let room = cells / TreeRecord::WIDTH;
-    if room <= TreeRecord::MOST {
-        room
-    } else {
-        TreeRecord::MOST
-    }
+impl Record for SyntaxRecord {
+    ghost WIDTH = { syntax_width };
+
+    ghost MOST = { most_syntax };
+
+    const WIDTH: usize = SyntaxRecord::WIDTH;
+
+    const MOST: usize = SyntaxRecord::MOST;
+
+    ghost has_width = { lit< tt };
 }
 
-// The syntax records that a table of so many numbers has room for.
-pub fn syntax_room(cells: usize) -> usize
-    ensures { result ≡ syntax_room cells }
+// The records that a table of so many numbers has room for.
+pub fn room_for<R: Record>(cells: usize) -> usize
+    ensures { result ≡ room R.WIDTH R.MOST cells }
 {
-    let room = cells / SyntaxRecord::WIDTH;
-    if room <= SyntaxRecord::MOST {
-        room
-    } else {
-        SyntaxRecord::MOST
-    }
+    (cells / R::WIDTH).min(R::MOST)
 }
 
 // Every cell of a table becomes 0.
 pub fn clear(table: &mut [u32])
     ensures { table.new ≡ replicate (length table.old) 0 }
 {
-    let mut i = 0;
-    while i < table.len() {
-        table[i] = 0;
-        i += 1;
-    }
+    table.fill(0);
 }

@@ -7,6 +7,7 @@ use native.Mathlib.Nat.{add-zero}
 use native.Mathlib.Omega.{arith}
 use borrow.Author.Tests.{eq-eqb, ltb-true, ltb-false}
 use lib.Dec.{T, eqb, eqb→eq, ltb}
+use lib.Pointwise.{pointwise}
 use lib.ListN.{length, get_or, take, drop, drop_of_length-le, length-drop}
 use Rattle.text.specs.Runs.{run, same}
 use Rattle.text.proofs.Lists.{drop_at}
@@ -89,6 +90,14 @@ run_ends class s i end e h = go (class (get_or s end 0)) refl
     go true d =
         absurd
         (omega (arith, run_passed class s (λ j. j + run class (drop j s)) (run_more class s) i end e, run_more class s end h d))
+
+-- the comparison of two slices, as `==` has it
+pub same_pointwise : (a b : List ℕ) → pointwise eqb a b ≡ same a b
+unfolding same
+same_pointwise [] [] = refl
+same_pointwise [] (y ∷ b) = refl
+same_pointwise (x ∷ a) [] = refl
+same_pointwise (x ∷ a) (y ∷ b) = rw (same_pointwise a b)
 
 pub same_length : (a b : List ℕ) → (length a ≡ length b → ⊥) → same a b ≡ false
 unfolding same

@@ -1,11 +1,9 @@
 // Prints the tree records of the text on standard input, or its first fault.
 #![tactic(auto)]
 
-use streams::Input;
-
 fn main(rt: HostRuntime) {
     let mut input = [0u8; listing::INPUT];
-    let Input::Bytes(count) = streams::read_input(&rt, &mut input) else {
+    let Some(count) = streams::read_input(&rt, &mut input) else {
         return;
     };
     let mut trees = [0u32; listing::TREES];

@@ -1,13 +1,16 @@
 -- The loop of a reading: the levels of which something is kept read the rest of the text as the whole is read.
+use Rattle.std.specs.Prelude.{Ok, Err, Some, None}
 use mathlib.Core.Path.{◌≡◌, refl, ap, ◌∙◌}
 use mathlib.Core.Bool.{Bool, true, false}
 use mathlib.Core.List.{List}
 use Prim.Native.Nat.{ℕ, zero, suc, ◌+◌, ◌≤◌}
 use native.Mathlib.Omega.{arith}
 use lib.ListN.{length}
+use Rattle.answers.specs.Faults.{fault_number, fault_place}
+use Rattle.answers.specs.declared.faults.Fault.{Fault}
 use Rattle.elements.specs.Elements.{element_at}
 use Rattle.elements.specs.declared.Element.{Element}
-use Rattle.elements.specs.declared.Next.{Next}
+use Rattle.elements.specs.Elements.{Next}
 use Rattle.elements.specs.declared.Stated.{Stated}
 use Rattle.elements.proofs.Bounds.{Placed, found_placed}
 use Rattle.rule.specs.Trees.{none, count}
@@ -64,15 +67,16 @@ module _ (bytes : List ℕ) (was : Lent) (room : ℕ) where
     same : (next : Next) → element_at bytes place stated ≡ next → element_at bytes place (stated_by here.levels) ≡ next
     same next e = rw p at e
 
-    pub at_end : element_at bytes place stated ≡ Next.End → Runs spaced bytes was is room (ReadOn.End state at)
+    pub at_end : element_at bytes place stated ≡ Ok None → Runs spaced bytes was is room (ReadOn.End state at)
     unfolding limits
-    at_end e = ran here.levels here.keeps here.inside (here.meets ∙ read_end bytes limits here.fuel here.levels place (same Next.End e))
+    at_end e = ran here.levels here.keeps here.inside (here.meets ∙ read_end bytes limits here.fuel here.levels place (same (Ok None) e))
 
-    pub at_fault : (after : Lent) (n q : ℕ) → element_at bytes place stated ≡ Next.Fault n q → Runs spaced bytes was after room (ReadOn.Stop n q)
+    pub at_fault : (after : Lent) (fault : Fault) → element_at bytes place stated ≡ Err fault
+        → Runs spaced bytes was after room (ReadOn.Stop (fault_number fault) (fault_place fault))
     unfolding limits
-    at_fault after n q e = halted (here.meets ∙ read_fault bytes limits here.fuel here.levels place n q (same (Next.Fault n q) e))
+    at_fault after fault e = halted (here.meets ∙ read_fault bytes limits here.fuel here.levels place fault (same (Err fault) e))
 
-    module _ (e : Element) (found : element_at bytes place stated ≡ Next.Found e) where
+    module _ (e : Element) (found : element_at bytes place stated ≡ Ok (Some e)) where
       placed : Placed bytes place e
       placed = found_placed bytes place stated e found
 
@@ -93,7 +97,7 @@ module _ (bytes : List ℕ) (was : Lent) (room : ℕ) where
       stopped_by : (after : Lent) {n q : ℕ} {y : Step} → step limits here.levels e ≡ y → Turned spaced bytes was after room e.end (Taken.Stop n q) y
           → Runs spaced bytes was after room (ReadOn.Stop n q)
       unfolding limits
-      stopped_by after {n} {q} s ends = halted (here.meets ∙ read_stop bytes limits here.fuel here.levels place e (same (Next.Found e) found) n q s)
+      stopped_by after {n} {q} s ends = halted (here.meets ∙ read_stop bytes limits here.fuel here.levels place e (same (Ok (Some e)) found) n q s)
 
       pub at_stop : (after : Lent) (n q : ℕ) → Turned spaced bytes was after room e.end (Taken.Stop n q) (step (limits_for room) here.levels e)
           → Runs spaced bytes was after room (ReadOn.Stop n q)
@@ -107,7 +111,7 @@ module _ (bytes : List ℕ) (was : Lent) (room : ℕ) where
           record {
             levels = next;
             fuel = k;
-            meets = here.meets ∙ read_more bytes limits here.fuel here.levels place e (same (Next.Found e) found) next s ∙ ap (λ (n : ℕ). read_on bytes limits n next e.end) f;
+            meets = here.meets ∙ read_more bytes limits here.fuel here.levels place e (same (Ok (Some e)) found) next s ∙ ap (λ (n : ℕ). read_on bytes limits n next e.end) f;
             enough = omega (arith, here.enough, placed.from, placed.some);
             inside = placed.within;
             keeps = h;

@@ -3,13 +3,13 @@
 #![tactic(auto)]
 
 ghost use Rattle.std.specs.Prelude.{◌≡◌, true, false, List, ℕ, ◌<◌, ◌^◌};
-ghost use Rattle.text.specs.Machinery.Codes.{byte_codes};
 ghost use Rattle.keeping.specs.Machinery.Keeping.{lent, MayTake};
 ghost use Rattle.turns.specs.Machinery.Turns.{Takes, MayRead, Runs};
 
 use delimiters::Advanced;
-use elements::{Element, Next};
+use elements::Element;
 use prefix::State;
+use text::Codes;
 
 // The number of the first row of document 01's table of refused texts, and the bytes that a text has at most.
 pub const LONG: u32 = 1;
@@ -117,7 +117,7 @@ fn take_element(
 
 // Reads a text to its end or a refusal: what is kept of it is in the table or, spaced, in the output.
 pub fn read_on(
-    codes: &[u8],
+    codes: &Codes,
     text: &[u8],
     trees: &mut [u32],
     output: &mut [u8],
@@ -125,7 +125,7 @@ pub fn read_on(
     room: usize,
     spaced: bool,
 ) -> ReadOn
-    requires { (codes.now ≡ byte_codes) × MayRead spaced text.now trees.old stack.old room }
+    requires { MayRead spaced text.now trees.old stack.old room }
     ensures { Runs spaced text.now (lent trees.old output.old stack.old) (lent trees.new output.new stack.new) room result }
 {
     let mut state = prefix::start();
@@ -133,26 +133,22 @@ pub fn read_on(
     let mut at = 0;
     loop {
         let stated = prefix::stated_by(state);
-        let next = elements::element_by(codes, text, place, stated);
-        match next {
-            Next::End => {
-                return ReadOn::End(state, at);
+        let next = match elements::element_by(codes, text, place, stated) {
+            Ok(next) => next,
+            Err(fault) => return ReadOn::Stop(fault.number(), fault.place()),
+        };
+        let Some(e) = next else {
+            return ReadOn::End(state, at);
+        };
+        let taken = take_element(text, trees, output, stack, room, spaced, state, at, e);
+        match taken {
+            Taken::More(after, to) => {
+                state = after;
+                place = e.end;
+                at = to;
             }
-            Next::Fault(number, fault) => {
+            Taken::Stop(number, fault) => {
                 return ReadOn::Stop(number, fault);
-            }
-            Next::Found(e) => {
-                let taken = take_element(text, trees, output, stack, room, spaced, state, at, e);
-                match taken {
-                    Taken::More(after, to) => {
-                        state = after;
-                        place = e.end;
-                        at = to;
-                    }
-                    Taken::Stop(number, fault) => {
-                        return ReadOn::Stop(number, fault);
-                    }
-                }
             }
         }
     }

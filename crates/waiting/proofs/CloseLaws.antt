@@ -1,7 +1,7 @@
 -- What waits is closed, one after the other.
 use mathlib.Core.Path.{◌≡◌, refl}
 use mathlib.Core.List.{List, [], ◌∷◌}
-use Prim.Native.Nat.{ℕ, ◌+◌, ◌-◌, ◌*◌, ◌≤◌, ◌<◌}
+use Prim.Native.Nat.{ℕ, ◌+◌, ◌-◌, ◌≤◌, ◌<◌}
 use native.Mathlib.Omega.{arith}
 use borrow.Author.Tests.{le-leb, lt-leb}
 use lib.ListN.{length, get_or}
@@ -9,21 +9,22 @@ use Rattle.tables.specs.Records.{most_trees, most_syntax}
 use Rattle.machine.specs.Syntax.{Syntax, node}
 use Rattle.machine.specs.Machinery.Machine.{Pending, pending}
 use Rattle.controls.specs.Machinery.Written.{put_record}
-use Rattle.waiting.specs.Machinery.Waiting.{width, binding, close, Holds, Backed, HoldsShut}
+use Rattle.waiting.specs.Machinery.Waiting.{nothing_waits, popped, binding, close, Holds, Backed, HoldsShut, made_one}
 use Rattle.waiting.specs.declared.Level.{Level}
+use Rattle.waiting.specs.declared.Waiting.{Waiting}
 use Rattle.waiting.proofs.HoldLaws.{uppermost, bottom_top, backed, unstacked_held}
 use Rattle.waiting.proofs.PutLaws.{made_both}
 
 -- the level and its records once the uppermost part is closed, by what stands on the stack
-abbrev pub closed_one : Level → List ℕ → Level
-closed_one l stack = record { count = l.count + 1; top = l.top - 1; floor = l.floor; start = get_or stack ((l.top - 1) * width + 2) 0; held = l.held }
+abbrev pub closed_one : Level → List Waiting → Level
+closed_one l stack = made_one (popped l stack)
 
-abbrev pub cells_one : Level → List ℕ → List ℕ → List ℕ
+abbrev pub cells_one : Level → List Waiting → List ℕ → List ℕ
 cells_one l stack cells =
-    put_record cells l.count (get_or stack ((l.top - 1) * width) 0) (get_or stack ((l.top - 1) * width + 1) 0)
-    (l.count - get_or stack ((l.top - 1) * width + 2) 0 + 1)
+    let w = get_or stack (l.top - 1) nothing_waits in
+    put_record cells l.count w.kind w.mark (l.count - w.start + 1)
 
-close_one : {table : List ℕ} {first : ℕ} {done : Syntax} {kind mark : ℕ} {left : Syntax} {ps : List Pending} {operand : Syntax} {l : Level} {stack cells : List ℕ}
+close_one : {table : List ℕ} {first : ℕ} {done : Syntax} {kind mark : ℕ} {left : Syntax} {ps : List Pending} {operand : Syntax} {l : Level} {stack : List Waiting} {cells : List ℕ}
     → Holds table first done (pending kind mark left ∷ ps) operand l stack cells
     → Holds table first done ps (node kind mark left operand) (closed_one l stack) stack (cells_one l stack cells)
 close_one {kind = kind} {mark = mark} h =
@@ -31,7 +32,7 @@ close_one {kind = kind} {mark = mark} h =
     rw (u.kind_is, u.mark_is) (made_both kind mark (unstacked_held h) (omega (arith, u.some, h.few)))
 
 -- above the floor something waits
-record Closable (table : List ℕ) (first : ℕ) (done : Syntax) (ps : List Pending) (operand : Syntax) (l : Level) (stack cells : List ℕ) : Type 0 where
+record Closable (table : List ℕ) (first : ℕ) (done : Syntax) (ps : List Pending) (operand : Syntax) (l : Level) (stack : List Waiting) (cells : List ℕ) : Type 0 where
   kind : ℕ
   mark : ℕ
   left : Syntax
@@ -39,19 +40,19 @@ record Closable (table : List ℕ) (first : ℕ) (done : Syntax) (ps : List Pend
   is : ps ≡ pending kind mark left ∷ rest
   holds : Holds table first done (pending kind mark left ∷ rest) operand l stack cells
 
-module _ {table : List ℕ} {first : ℕ} {done : Syntax} {operand : Syntax} {l : Level} {stack cells : List ℕ} where
+module _ {table : List ℕ} {first : ℕ} {done : Syntax} {operand : Syntax} {l : Level} {stack : List Waiting} {cells : List ℕ} where
   closable : (ps : List Pending) → Holds table first done ps operand l stack cells → l.floor < l.top → Closable table first done ps operand l stack cells
   closable [] h more = let z = bottom_top h in absurd (omega arith)
   closable (pending kind mark left ∷ ps) h more = record { kind = kind; mark = mark; left = left; rest = ps; is = refl; holds = h }
 
 -- what the loop may rely on above the floor
-pub record Usable (l : Level) (stack : List ℕ) : Type 0 where
-  pub fits : l.top * width ≤ length stack
+pub record Usable (l : Level) (stack : List Waiting) : Type 0 where
+  pub fits : l.top ≤ length stack
   pub room : l.count < most_syntax
-  pub marked : get_or stack ((l.top - 1) * width + 1) 0 ≤ most_trees
-  pub behind : get_or stack ((l.top - 1) * width + 2) 0 ≤ l.count
+  pub marked : (get_or stack (l.top - 1) nothing_waits).mark ≤ most_trees
+  pub behind : (get_or stack (l.top - 1) nothing_waits).start ≤ l.count
 
-module _ {l : Level} {stack cells : List ℕ} where
+module _ {l : Level} {stack : List Waiting} {cells : List ℕ} where
   pub usable : Backed l stack cells → l.floor < l.top → Usable l stack
   usable h more =
       let k = (closable h.ps h.holds more).holds in
@@ -67,18 +68,18 @@ module _ {l : Level} {stack cells : List ℕ} where
   held_one h more = backed (close_one (closable h.ps h.holds more).holds)
 
 -- closing is under way: what is left to close gives what the whole gives
-pub record Closing (least : ℕ) (table : List ℕ) (first : ℕ) (done : Syntax) (ps : List Pending) (operand : Syntax) (l : Level) (stack cells : List ℕ) : Type 0 where
+pub record Closing (least : ℕ) (table : List ℕ) (first : ℕ) (done : Syntax) (ps : List Pending) (operand : Syntax) (l : Level) (stack : List Waiting) (cells : List ℕ) : Type 0 where
   pub left : List Pending
   pub last : Syntax
   pub holds : Holds table first done left last l stack cells
   pub same : close least ps operand ≡ close least left last
 
-module _ {least : ℕ} {table : List ℕ} {first : ℕ} {done : Syntax} {ps : List Pending} {operand : Syntax} {l : Level} {stack cells : List ℕ} where
+module _ {least : ℕ} {table : List ℕ} {first : ℕ} {done : Syntax} {ps : List Pending} {operand : Syntax} {l : Level} {stack : List Waiting} {cells : List ℕ} where
   pub closing_none : Holds table first done ps operand l stack cells → Closing least table first done ps operand l stack cells
   closing_none h = record { left = ps; last = operand; holds = h; same = refl }
 
   -- a part that binds so tight is closed
-  pub closing_on : Closing least table first done ps operand l stack cells → l.floor < l.top → least ≤ binding (get_or stack ((l.top - 1) * width) 0)
+  pub closing_on : Closing least table first done ps operand l stack cells → l.floor < l.top → least ≤ binding (get_or stack (l.top - 1) nothing_waits).kind
       → Closing least table first done ps operand (closed_one l stack) stack (cells_one l stack cells)
   closing_on h more tight =
       let k = closable h.left h.holds more in
@@ -92,7 +93,7 @@ module _ {least : ℕ} {table : List ℕ} {first : ℕ} {done : Syntax} {ps : Li
       }
 
   -- one that does not stops it
-  pub closing_stops : Closing least table first done ps operand l stack cells → l.floor < l.top → binding (get_or stack ((l.top - 1) * width) 0) < least
+  pub closing_stops : Closing least table first done ps operand l stack cells → l.floor < l.top → binding (get_or stack (l.top - 1) nothing_waits).kind < least
       → HoldsShut table first done (close least ps operand) l stack cells
   closing_stops h more loose =
       let k = closable h.left h.holds more in

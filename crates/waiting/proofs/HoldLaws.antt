@@ -1,45 +1,46 @@
 -- What a level holds: how far it reaches, and what changes with no record written.
 use mathlib.Core.Path.{◌≡◌, refl, sym, ◌∙◌, ap}
 use mathlib.Core.List.{List, [], ◌∷◌}
-use Prim.Native.Nat.{ℕ, ◌+◌, ◌-◌, ◌*◌, ◌≤◌, ◌<◌}
+use Prim.Native.Nat.{ℕ, ◌+◌, ◌-◌, ◌≤◌, ◌<◌}
 use native.Mathlib.Omega.{arith}
 use lib.ListN.{length, get_or}
 use Rattle.tables.specs.Records.{most_trees}
 use Rattle.machine.specs.Syntax.{Syntax, nil, snoc, size}
 use Rattle.machine.specs.Machinery.Machine.{Pending, pending}
 use Rattle.controls.specs.Machinery.Written.{put_syntax}
-use Rattle.waiting.specs.Machinery.Waiting.{width, lefts, Stacked, bare, above, Holds, Backed, with_held, restarted}
+use Rattle.waiting.specs.Machinery.Waiting.{nothing_waits, popped, lefts, Stacked, bare, above, Holds, Backed, with_held, restarted}
 use Rattle.waiting.specs.declared.Level.{Level}
+use Rattle.waiting.specs.declared.Waiting.{Waiting}
 
 -- what waits uppermost, as it stands on the stack
-pub record Uppermost (stack : List ℕ) (floor first : ℕ) (done : Syntax) (kind mark : ℕ) (ps : List Pending) (top : ℕ) : Type 0 where
+pub record Uppermost (stack : List Waiting) (floor first : ℕ) (done : Syntax) (kind mark : ℕ) (ps : List Pending) (top : ℕ) : Type 0 where
   pub below : Stacked stack floor first done ps (top - 1)
   pub some : 1 ≤ top
   pub higher : floor < top
-  pub fits : top * width ≤ length stack
-  pub kind_is : get_or stack ((top - 1) * width) 0 ≡ kind
-  pub mark_is : get_or stack ((top - 1) * width + 1) 0 ≡ mark
-  pub start_is : get_or stack ((top - 1) * width + 2) 0 ≡ first + size (lefts done ps)
+  pub fits : top ≤ length stack
+  pub kind_is : (get_or stack (top - 1) nothing_waits).kind ≡ kind
+  pub mark_is : (get_or stack (top - 1) nothing_waits).mark ≡ mark
+  pub start_is : (get_or stack (top - 1) nothing_waits).start ≡ first + size (lefts done ps)
   pub marked : mark ≤ most_trees
 
-module _ {stack : List ℕ} {floor first : ℕ} {done : Syntax} where
+module _ {stack : List Waiting} {floor first : ℕ} {done : Syntax} where
   stacked_up : {ps : List Pending} {top : ℕ} → Stacked stack floor first done ps top → floor ≤ top
   stacked_up bare = omega arith
-  stacked_up (above below fits k m s marked) = let h = stacked_up below in omega arith
+  stacked_up (above below fits is marked) = let h = stacked_up below in omega arith
 
   uppermost_stacked : {kind mark top : ℕ} {left : Syntax} {ps : List Pending} → Stacked stack floor first done (pending kind mark left ∷ ps) top
       → Uppermost stack floor first done kind mark ps top
-  uppermost_stacked (above {top = top} below fits k m s marked) =
+  uppermost_stacked (above {top = top} below fits is marked) =
       let same : top + 1 - 1 ≡ top = omega arith in
       let up = stacked_up below in
       record {
         below = rw same below;
         some = omega arith;
         higher = omega arith;
-        fits = fits;
-        kind_is = rw same k;
-        mark_is = rw same m;
-        start_is = rw same s;
+        fits = omega arith;
+        kind_is = rw (same, is);
+        mark_is = rw (same, is);
+        start_is = rw (same, is);
         marked = marked;
       }
 
@@ -52,7 +53,7 @@ module _ {stack : List ℕ} {floor first : ℕ} {done : Syntax} where
 
   left_any : {kind mark top : ℕ} {left after : Syntax} {ps : List Pending} → Stacked stack floor first done (pending kind mark left ∷ ps) top
       → Stacked stack floor first done (pending kind mark after ∷ ps) top
-  left_any (above below fits k m s marked) = above below fits k m s marked
+  left_any (above below fits is marked) = above below fits is marked
 
 -- where parts are put does not depend on how they are held together
 module _ (table : List ℕ) (first : ℕ) where
@@ -68,7 +69,7 @@ module _ (table : List ℕ) (first : ℕ) where
       let e : first + size a + 0 ≡ first + size a = omega arith in
       ap (λ i. put_syntax (put_syntax table first a) i b) e
 
-module _ {table : List ℕ} {first : ℕ} {done : Syntax} {ps : List Pending} {operand : Syntax} {l : Level} {stack cells : List ℕ} where
+module _ {table : List ℕ} {first : ℕ} {done : Syntax} {ps : List Pending} {operand : Syntax} {l : Level} {stack : List Waiting} {cells : List ℕ} where
   pub backed : Holds table first done ps operand l stack cells → Backed l stack cells
   backed h = record { table = table; first = first; done = done; ps = ps; operand = operand; holds = h }
 
@@ -94,7 +95,7 @@ module _ {table : List ℕ} {first : ℕ} {done : Syntax} {ps : List Pending} {o
         few = h.few;
       }
 
-module _ {table : List ℕ} {first : ℕ} {done : Syntax} {l : Level} {stack cells : List ℕ} where
+module _ {table : List ℕ} {first : ℕ} {done : Syntax} {l : Level} {stack : List Waiting} {cells : List ℕ} where
   pub bottom_top : {operand : Syntax} → Holds table first done [] operand l stack cells → l.top ≡ l.floor
   bottom_top h = none_above h.stacked
 
@@ -128,7 +129,7 @@ module _ {table : List ℕ} {first : ℕ} {done : Syntax} {l : Level} {stack cel
 
   -- what waits uppermost waits no more: its left side stands before the operand
   pub unstacked_held : {kind mark : ℕ} {left operand : Syntax} {ps : List Pending} → Holds table first done (pending kind mark left ∷ ps) operand l stack cells
-      → Holds table first done ps (snoc left operand) (record { count = l.count; top = l.top - 1; floor = l.floor; start = get_or stack ((l.top - 1) * width + 2) 0; held = l.held }) stack cells
+      → Holds table first done ps (snoc left operand) (popped l stack) stack cells
   unstacked_held {left = left} {operand = operand} {ps = ps} h =
       let u = uppermost h in
       record {
@@ -141,7 +142,7 @@ module _ {table : List ℕ} {first : ℕ} {done : Syntax} {l : Level} {stack cel
 
   -- what waits with a left side alone is no more, and its left side the operand
   pub left_held : {kind mark : ℕ} {value : Syntax} {ps : List Pending} → Holds table first done (pending kind mark (snoc nil value) ∷ ps) nil l stack cells
-      → Holds table first done ps value (record { count = l.count; top = l.top - 1; floor = l.floor; start = get_or stack ((l.top - 1) * width + 2) 0; held = l.held }) stack cells
+      → Holds table first done ps value (popped l stack) stack cells
   unfolding put_syntax
   left_held {value = value} {ps = ps} h =
       let u = uppermost h in
@@ -155,7 +156,7 @@ module _ {table : List ℕ} {first : ℕ} {done : Syntax} {l : Level} {stack cel
 
   -- what waits with no side is taken back
   pub taken_back_held : {kind mark : ℕ} {ps : List Pending} → Holds table first done (pending kind mark nil ∷ ps) nil l stack cells
-      → Holds table first done ps nil (record { count = l.count; top = l.top - 1; floor = l.floor; start = l.count; held = l.held }) stack cells
+      → Holds table first done ps nil (record l { top = l.top - 1; start = l.count }) stack cells
   unfolding put_syntax
   taken_back_held h =
       let u = uppermost h in
@@ -213,7 +214,7 @@ module _ {table : List ℕ} {first : ℕ} {done : Syntax} {l : Level} {stack cel
       }
 
   pub undone_held : {kind mark : ℕ} {value : Syntax} {ps : List Pending} → Holds table first done (pending kind mark (snoc nil value) ∷ ps) nil l stack cells
-      → Holds table first done (pending kind mark nil ∷ ps) value (record { count = l.count; top = l.top; floor = l.floor; start = get_or stack ((l.top - 1) * width + 2) 0; held = l.held }) stack cells
+      → Holds table first done (pending kind mark nil ∷ ps) value (record l { start = (get_or stack (l.top - 1) nothing_waits).start }) stack cells
   unfolding put_syntax
   undone_held {value = value} {ps = ps} h =
       let u = uppermost h in

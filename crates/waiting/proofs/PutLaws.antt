@@ -1,49 +1,44 @@
 -- What a level holds once a record is put, or a part waits.
 use mathlib.Core.Path.{◌≡◌, ◌∙◌, ap}
 use mathlib.Core.List.{List, ◌∷◌}
-use Prim.Native.Nat.{ℕ, ◌+◌, ◌-◌, ◌*◌, ◌≤◌, ◌<◌}
+use Prim.Native.Nat.{ℕ, ◌+◌, ◌-◌, ◌≤◌, ◌<◌}
 use native.Mathlib.Omega.{arith}
-use lib.ListN.{length, get_or, set, length-set}
+use lib.ListN.{length, get_or, length-set}
 use lib.Seq.{get_or-set_same, get_or-set_other}
 use Rattle.tables.specs.Records.{most_trees}
 use Rattle.machine.specs.Syntax.{Syntax, nil, snoc, node, size}
 use Rattle.machine.specs.Machinery.Machine.{Pending, pending}
 use Rattle.controls.specs.Machinery.Written.{put_record, put_syntax}
-use Rattle.waiting.specs.Machinery.Waiting.{width, lefts, Stacked, bare, above, Holds, stack_with, stack_as, waiting_one, made_one, restarted}
+use Rattle.waiting.specs.Machinery.Waiting.{nothing_waits, lefts, Stacked, bare, above, Holds, stack_with, stack_as, waiting_one, made_one, restarted}
 use Rattle.waiting.specs.declared.Level.{Level}
+use Rattle.waiting.specs.declared.Waiting.{Waiting}
 
 -- one part more leaves the stack as long, and as it was below
-pub stack_long : (stack : List ℕ) (top kind mark start : ℕ) → length (stack_with stack top kind mark start) ≡ length stack
-stack_long stack top kind mark start = simp length-set
+pub stack_long : (stack : List Waiting) (top kind mark start : ℕ) → length (stack_with stack top kind mark start) ≡ length stack
+stack_long stack top kind mark start = length-set stack top (record { kind = kind; mark = mark; start = start })
 
-pub stack_kept : (stack : List ℕ) (top kind mark start k : ℕ) → k < top * width → get_or (stack_with stack top kind mark start) k 0 ≡ get_or stack k 0
+pub stack_kept : (stack : List Waiting) (top kind mark start k : ℕ) → k < top → get_or (stack_with stack top kind mark start) k nothing_waits ≡ get_or stack k nothing_waits
 stack_kept stack top kind mark start k less =
-    get_or-set_other (set (set stack (top * width) kind) (top * width + 1) mark) (top * width + 2) k start 0 (λ e. absurd (omega arith))
-    ∙ get_or-set_other (set stack (top * width) kind) (top * width + 1) k mark 0 (λ e. absurd (omega arith))
-    ∙ get_or-set_other stack (top * width) k kind 0 (λ e. absurd (omega arith))
+    get_or-set_other stack top k (record { kind = kind; mark = mark; start = start }) nothing_waits (λ e. absurd (omega arith))
 
 -- the stack may change above what waits
-kept_stacked : {stack after : List ℕ} {floor first : ℕ} {done : Syntax} {ps : List Pending} {top : ℕ} → length after ≡ length stack
-    → ((k : ℕ) → k < top * width → get_or after k 0 ≡ get_or stack k 0) → Stacked stack floor first done ps top → Stacked after floor first done ps top
+kept_stacked : {stack after : List Waiting} {floor first : ℕ} {done : Syntax} {ps : List Pending} {top : ℕ} → length after ≡ length stack
+    → ((k : ℕ) → k < top → get_or after k nothing_waits ≡ get_or stack k nothing_waits) → Stacked stack floor first done ps top → Stacked after floor first done ps top
 kept_stacked long same bare = bare
-kept_stacked long same (above {top = top} below fits k m s marked) =
-    above (kept_stacked long (λ i h. same i (omega arith)) below) (omega arith) (same (top * width) (omega arith) ∙ k)
-    (same (top * width + 1) (omega arith) ∙ m) (same (top * width + 2) (omega arith) ∙ s) marked
+kept_stacked long same (above {top = top} below fits is marked) =
+    above (kept_stacked long (λ i h. same i (omega arith)) below) (omega arith) (same top (omega arith) ∙ is) marked
 
 -- what waits uppermost may have another kind and another left side
-other_stacked : {stack : List ℕ} {floor first : ℕ} {done : Syntax} {kind mark top : ℕ} {left after : Syntax} {ps : List Pending} (next : ℕ)
+other_stacked : {stack : List Waiting} {floor first : ℕ} {done : Syntax} {kind mark top : ℕ} {left after : Syntax} {ps : List Pending} (next : ℕ)
     → Stacked stack floor first done (pending kind mark left ∷ ps) top → Stacked (stack_as stack top next) floor first done (pending next mark after ∷ ps) top
-other_stacked {stack = stack} next (above {top = top} below fits k m s marked) =
+other_stacked {stack = stack} next (above {top = top} below fits is marked) =
     let same : top + 1 - 1 ≡ top = omega arith in
-    let t = top * width in
+    let w = record (get_or stack top nothing_waits) { kind = next } in
     rw same
-    (above (kept_stacked (length-set stack t next) (λ i h. get_or-set_other stack t i next 0 (λ e. absurd (omega arith))) below) (simp length-set fits)
-    (get_or-set_same stack t next 0 (omega arith))
-    (get_or-set_other stack t (t + 1) next 0 (λ e. absurd (omega arith)) ∙ m)
-    (get_or-set_other stack t (t + 2) next 0 (λ e. absurd (omega arith)) ∙ s)
-    marked)
+    (above (kept_stacked (length-set stack top w) (λ i h. get_or-set_other stack top i w nothing_waits (λ e. absurd (omega arith))) below) (simp length-set fits)
+    (get_or-set_same stack top w nothing_waits fits ∙ ap (λ (v : Waiting). record v { kind = next }) is) marked)
 
-module _ {table : List ℕ} {first : ℕ} {done : Syntax} {ps : List Pending} {l : Level} {stack cells : List ℕ} where
+module _ {table : List ℕ} {first : ℕ} {done : Syntax} {ps : List Pending} {l : Level} {stack : List Waiting} {cells : List ℕ} where
   -- a part is the operand now that holds what the operand held
   made-of : {operand part : Syntax} (kind mark : ℕ) → Holds table first done ps operand l stack cells → l.count + l.top < most_trees → size part ≡ size operand + 1
       → put_record (put_syntax table first (snoc (lefts done ps) operand)) (first + size (lefts done ps) + size operand) kind mark (size operand + 1) ≡ put_syntax table first (snoc (lefts done ps) part)
@@ -77,10 +72,10 @@ module _ {table : List ℕ} {first : ℕ} {done : Syntax} {ps : List Pending} {l
       made-of kind mark h room (omega arith) (rw a)
 
   -- a value is put behind the operand, by levels that may change the stack above
-  pub valued_held : {operand : Syntax} {after cells' : List ℕ} {count : ℕ} (value : Syntax) → Holds table first done ps operand l stack cells → length after ≡ length stack
-      → ((k : ℕ) → k < l.top * width → get_or after k 0 ≡ get_or stack k 0) → count ≡ l.count + size value → cells' ≡ put_syntax cells l.count value
+  pub valued_held : {operand : Syntax} {after : List Waiting} {cells' : List ℕ} {count : ℕ} (value : Syntax) → Holds table first done ps operand l stack cells → length after ≡ length stack
+      → ((k : ℕ) → k < l.top → get_or after k nothing_waits ≡ get_or stack k nothing_waits) → count ≡ l.count + size value → cells' ≡ put_syntax cells l.count value
       → count + l.top ≤ most_trees
-      → Holds table first done ps (snoc operand value) (record { count = count; top = l.top; floor = l.floor; start = l.start; held = l.held }) after cells'
+      → Holds table first done ps (snoc operand value) (record l { count = count }) after cells'
   unfolding put_syntax
   valued_held {operand = operand} value h long same n e room =
       let a : l.count ≡ first + size (lefts done ps) + size operand = omega (arith, h.counts, h.starts) in
@@ -94,20 +89,16 @@ module _ {table : List ℕ} {first : ℕ} {done : Syntax} {ps : List Pending} {l
 
   -- a part waits, with the operand as its left side
   pub waits_held : {operand : Syntax} (kind mark : ℕ) → Holds table first done ps operand l stack cells → l.count + l.top < most_trees → mark ≤ most_trees
-      → (l.top + 1) * width ≤ length stack
+      → l.top < length stack
       → Holds table first done (pending kind mark operand ∷ ps) nil (waiting_one l) (stack_with stack l.top kind mark l.start) cells
   unfolding put_syntax
   waits_held kind mark h room marked fits =
-      let t = l.top * width in
-      let a = set stack t kind in
-      let b = set a (t + 1) mark in
+      let w : Waiting = record { kind = kind; mark = mark; start = l.start } in
       record {
         stacked = above
             (kept_stacked (stack_long stack l.top kind mark l.start) (stack_kept stack l.top kind mark l.start) h.stacked)
             (simp length-set fits)
-            (get_or-set_other b (t + 2) t l.start 0 (λ e. absurd (omega arith)) ∙ get_or-set_other a (t + 1) t mark 0 (λ e. absurd (omega arith)) ∙ get_or-set_same stack t kind 0 (omega arith))
-            (get_or-set_other b (t + 2) (t + 1) l.start 0 (λ e. absurd (omega arith)) ∙ get_or-set_same a (t + 1) mark 0 (simp length-set (omega arith)))
-            (get_or-set_same b (t + 2) l.start 0 (simp length-set (omega arith)) ∙ h.starts)
+            (get_or-set_same stack l.top w nothing_waits fits ∙ ap (λ (i : ℕ). record w { start = i }) h.starts)
             marked;
         starts = omega (arith, h.counts, h.starts);
         counts = omega arith;

@@ -1,18 +1,23 @@
-// What waits on a level for a part on its right, and the syntax records so far. What waits stands on a lent stack, three numbers each:
-// operators and beginnings of statements with their kind, their mark and their first syntax record; nests with a number that tells what
-// they are and the setting around them, the mark of their word and their first syntax record; an open `?` with a number that tells its
-// expression, its mark and the first syntax record of its condition.
+// What waits on a level for a part on its right, and the syntax records so far. What waits stands on a lent stack: operators and
+// beginnings of statements with their kind, their mark and their first syntax record; nests with a number that tells what they are and
+// the setting around them, the mark of their word and their first syntax record; an open `?` with a number that tells its expression, its
+// mark and the first syntax record of its condition.
 #![tactic(auto)]
 
-ghost use Rattle.std.specs.Prelude.{◌≡◌, ◌+◌, ◌-◌, ◌*◌, ◌≤◌, ◌<◌, length};
+ghost use Rattle.std.specs.Prelude.{◌≡◌, ◌+◌, ◌-◌, ◌≤◌, ◌<◌, length};
 ghost use Rattle.tables.specs.Records.{most_trees, most_syntax};
 ghost use Rattle.controls.specs.Machinery.Written.{put_record};
-ghost use Rattle.waiting.specs.Machinery.Waiting.{width, binding, Backed, Closes, Completes, stack_with, stack_as, waiting_one, made_one, with_held, restarted};
+ghost use Rattle.waiting.specs.Machinery.Waiting.{binding, Backed, Closes, Completes, stack_with, stack_as, popped, waiting_one, made_one, with_held, restarted};
 
 use controls::{bindings, records};
 
-// Numbers that what waits takes on the stack.
-pub const WIDTH: usize = 3;
+// What waits, in 6 bytes, since a stack of 16,384 of them is made on the machine's own stack.
+#[derive(Clone, Copy)]
+pub struct Waiting {
+    pub kind: u16,
+    pub mark: u16,
+    pub start: u16,
+}
 
 // In place of a kind, which is below: the least number that stands for a nest, and that stands for an open `?`.
 pub const NEST: u32 = 128;
@@ -43,115 +48,108 @@ fn binding(kind: u32) -> u32
     bindings::tightness(kind) + 1
 }
 
-// Closes what waits above the floor and binds at least so tight.
-pub fn closed(l: Level, least: u32, waiting: &[u16], syntax: &mut [u32]) -> Level
-    requires { Backed l waiting.now syntax.old }
-    ensures { (result.floor ≡ l.floor) × (result.held ≡ l.held) × Closes least l waiting.now syntax.old result syntax.new }
-{
-    let floor = l.floor;
-    let mut count = l.count;
-    let mut top = l.top;
-    let mut start = l.start;
-    while floor < top {
-        let at = (top - 1) * WIDTH;
-        let kind = waiting[at] as u32;
-        if binding(kind) < least {
-            return Level {
-                count: count,
-                top: top,
-                floor: floor,
-                start: start,
-                held: l.held,
-            };
+impl Level {
+    // A level where nothing stands yet.
+    pub fn empty(count: usize, top: usize) -> Level
+        ensures { (result.count ≡ count) × (result.top ≡ top) × (result.floor ≡ top) × (result.start ≡ count) × (result.held ≡ 0) }
+    {
+        Level {
+            count,
+            top,
+            floor: top,
+            start: count,
+            held: 0,
         }
-        start = waiting[at + 2] as usize;
-        count = records::put(syntax, count, kind, waiting[at + 1] as usize, start);
-        top = top - 1;
     }
-    Level {
-        count: count,
-        top: top,
-        floor: floor,
-        start: start,
-        held: l.held,
-    }
-}
 
-// Lets the operand, or nothing, wait as the left side of a part.
-pub fn wait(l: Level, kind: u32, mark: usize, waiting: &mut [u16]) -> Level
-    requires { ((l.top + 1) * width ≤ length waiting.old) × (kind < 65536) × (mark ≤ most_trees) × (l.start ≤ most_trees) }
-    ensures { (result ≡ waiting_one l) × (waiting.new ≡ stack_with waiting.old l.top kind mark l.start) }
-{
-    let at = l.top * WIDTH;
-    waiting[at] = kind as u16;
-    waiting[at + 1] = mark as u16;
-    waiting[at + 2] = l.start as u16;
-    Level {
-        count: l.count,
-        top: l.top + 1,
-        floor: l.floor,
-        start: l.count,
-        held: l.held,
+    // What waits uppermost waits no more: its left side is the first part of the operand.
+    pub fn popped(self, waiting: &[Waiting]) -> Level
+        requires { (1 ≤ self.top) × (self.top ≤ length waiting.now) }
+        ensures { result ≡ popped self waiting.now }
+    {
+        let top = self.top - 1;
+        Level {
+            top,
+            start: usize::from(waiting[top].start),
+            ..self
+        }
     }
-}
 
-// The operand is the rest of the left side of what waits uppermost, which is of a kind now: a `?` that is answered, or a `do` that has its
-// statement.
-pub fn joined(l: Level, kind: u32, waiting: &mut [u16]) -> Level
-    requires { (1 ≤ l.top) × (l.top * width ≤ length waiting.old) × (kind < 65536) }
-    ensures { (result ≡ restarted l) × (waiting.new ≡ stack_as waiting.old l.top kind) }
-{
-    waiting[(l.top - 1) * WIDTH] = kind as u16;
-    Level {
-        count: l.count,
-        top: l.top,
-        floor: l.floor,
-        start: l.count,
-        held: l.held,
+    // Closes what waits above the floor and binds at least so tight.
+    pub fn closed(self, least: u32, waiting: &[Waiting], syntax: &mut [u32]) -> Level
+        requires { Backed self waiting.now syntax.old }
+        ensures { (result.floor ≡ self.floor) × (result.held ≡ self.held) × Closes least self waiting.now syntax.old result syntax.new }
+    {
+        let mut l = self;
+        while l.floor < l.top {
+            let part = waiting[l.top - 1];
+            let kind = u32::from(part.kind);
+            if binding(kind) < least {
+                break;
+            }
+            l = l.popped(waiting).made(kind, usize::from(part.mark), syntax);
+        }
+        l
     }
-}
 
-// Puts the record of a part that holds the operand, or nothing; it is the operand now.
-pub fn made(l: Level, kind: u32, mark: usize, syntax: &mut [u32]) -> Level
-    requires { (l.start ≤ l.count) × (l.count < most_syntax) × (mark ≤ most_trees) }
-    ensures { (result ≡ made_one l) × (syntax.new ≡ put_record syntax.old l.count kind mark (l.count - l.start + 1)) }
-{
-    let start = l.start;
-    let count = records::put(syntax, l.count, kind, mark, start);
-    Level {
-        count: count,
-        top: l.top,
-        floor: l.floor,
-        start: start,
-        held: l.held,
+    // Lets the operand, or nothing, wait as the left side of a part.
+    pub fn wait(self, kind: u32, mark: usize, waiting: &mut [Waiting]) -> Level
+        requires { (self.top < length waiting.old) × (kind < 65536) × (mark ≤ most_trees) × (self.start ≤ most_trees) }
+        ensures { (result ≡ waiting_one self) × (waiting.new ≡ stack_with waiting.old self.top kind mark self.start) }
+    {
+        waiting[self.top] = Waiting {
+            kind: kind as u16,
+            mark: mark as u16,
+            start: self.start as u16,
+        };
+        Level {
+            top: self.top + 1,
+            start: self.count,
+            ..self
+        }
     }
-}
 
-// A statement is complete, and so are those that it ends.
-pub fn completed(l: Level, waiting: &[u16], syntax: &mut [u32]) -> Level
-    requires { Backed l waiting.now syntax.old }
-    ensures { Completes l waiting.now syntax.old result syntax.new }
-{
-    let all = closed(l, 1, waiting, syntax);
-    Level {
-        count: all.count,
-        top: all.top,
-        floor: all.floor,
-        start: all.count,
-        held: all.held,
+    // The operand is the rest of the left side of what waits uppermost, which is of a kind now: a `?` that is answered, or a `do` that has
+    // its statement.
+    pub fn joined(self, kind: u32, waiting: &mut [Waiting]) -> Level
+        requires { (1 ≤ self.top) × (self.top ≤ length waiting.old) × (kind < 65536) }
+        ensures { (result ≡ restarted self) × (waiting.new ≡ stack_as waiting.old self.top kind) }
+    {
+        waiting[self.top - 1].kind = kind as u16;
+        Level {
+            start: self.count,
+            ..self
+        }
     }
-}
 
-// The level with a word or name held.
-pub fn holding(l: Level, word: usize) -> Level
-    ensures { result ≡ with_held word l }
-{
-    Level {
-        count: l.count,
-        top: l.top,
-        floor: l.floor,
-        start: l.start,
-        held: word,
+    // Puts the record of a part that holds the operand, or nothing; it is the operand now.
+    pub fn made(self, kind: u32, mark: usize, syntax: &mut [u32]) -> Level
+        requires { (self.start ≤ self.count) × (self.count < most_syntax) × (mark ≤ most_trees) }
+        ensures { (result ≡ made_one self) × (syntax.new ≡ put_record syntax.old self.count kind mark (self.count - self.start + 1)) }
+    {
+        Level {
+            count: records::put(syntax, self.count, kind, mark, self.start),
+            ..self
+        }
+    }
+
+    // A statement is complete, and so are those that it ends.
+    pub fn completed(self, waiting: &[Waiting], syntax: &mut [u32]) -> Level
+        requires { Backed self waiting.now syntax.old }
+        ensures { Completes self waiting.now syntax.old result syntax.new }
+    {
+        let all = self.closed(1, waiting, syntax);
+        Level {
+            start: all.count,
+            ..all
+        }
+    }
+
+    // The level with a word or name held.
+    pub fn holding(self, word: usize) -> Level
+        ensures { result ≡ with_held word self }
+    {
+        Level { held: word, ..self }
     }
 }
 
@@ -159,11 +157,5 @@ pub fn holding(l: Level, word: usize) -> Level
 pub fn copied(l: Level) -> Level
     ensures { result ≡ l }
 {
-    Level {
-        count: l.count,
-        top: l.top,
-        floor: l.floor,
-        start: l.start,
-        held: l.held,
-    }
+    Level { ..l }
 }

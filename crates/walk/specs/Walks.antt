@@ -1,8 +1,8 @@
 -- Document 01, Elements: "A walk over one text keeps that text and gives the next element at each call".
-use Rattle.std.specs.Prelude.{ℕ, List}
+use Rattle.std.specs.Prelude.{ℕ, List, Ok, Err, Some, None}
 use Rattle.std.specs.Borrow.{Bor}
 use Rattle.elements.specs.Elements.{element_at}
-use Rattle.elements.specs.declared.Next.{Next}
+use Rattle.elements.specs.Elements.{Next}
 use Rattle.elements.specs.declared.Stated.{Stated}
 use Rattle.walk.specs.declared.Turn.{Turn}
 use Rattle.walk.specs.declared.Walk.{Walk}
@@ -17,9 +17,9 @@ met walk stated = element_at walk.text.now walk.at stated
 
 -- the place of a walk that stood at `at`, once it has met what is next: behind an element, else where it was
 abbrev pub place_after : ℕ → Next → ℕ
-place_after at Next.End = at
-place_after at (Next.Found e) = e.end
-place_after at (Next.Fault number place) = at
+place_after at (Ok None) = at
+place_after at (Ok (Some e)) = e.end
+place_after at (Err fault) = at
 
 -- "keeps that text": the walk once it has met what is next
 abbrev pub moved : Walk → Next → Walk

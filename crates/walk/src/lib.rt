@@ -2,11 +2,12 @@
 // place itself takes one turn at a time, by `turn_at` and `lexeme_of`.
 #![tactic(auto)]
 
-ghost use Rattle.std.specs.Prelude.{◌≡◌, min};
+ghost use Rattle.std.specs.Prelude.{◌≡◌};
 ghost use Rattle.elements.specs.Lexemes.{lexeme_of};
 ghost use Rattle.walk.specs.Walks.{place_after, begun, met, moved, turn_at};
 
-use elements::{Element, Next, Stated};
+use answers::faults::Fault;
+use elements::{Element, Stated};
 
 // The text, and the place from which the next element is looked for.
 #[derive(Clone, Copy)]
@@ -18,33 +19,26 @@ pub struct Walk<'a> {
 // One turn of a walk: what it met, and the place where it stands then.
 #[derive(Clone, Copy)]
 pub struct Turn {
-    pub next: Next,
+    pub next: Result<Option<Element>, Fault>,
     pub at: usize,
 }
 
 // The place of a walk that stood at `at`, once it has met `next`.
-fn place_after(at: usize, next: Next) -> usize
+fn place_after(at: usize, next: Result<Option<Element>, Fault>) -> usize
     ensures { result ≡ place_after at next }
 {
     match next {
-        Next::Found(e) => e.end,
-        Next::End => at,
-        Next::Fault(_, _) => at,
+        Ok(Some(e)) => e.end,
+        Ok(None) | Err(_) => at,
     }
-}
-
-fn lesser(a: usize, b: usize) -> usize
-    ensures { result ≡ min a b }
-{
-    if a < b { a } else { b }
 }
 
 // The part of a text that an element is; of an element of another text, as far as this one goes.
 pub fn lexeme_of(text: &[u8], e: Element) -> &[u8]
     ensures { result.now ≡ lexeme_of text.now e }
 {
-    let end = lesser(e.end, text.len());
-    let first = lesser(e.first, end);
+    let end = e.end.min(text.len());
+    let first = e.first.min(end);
     &text[first..end]
 }
 
@@ -57,8 +51,8 @@ impl<'a> Walk<'a> {
     }
 
     // The next element, under stated answers. The walk then stands behind it; at the text's end and at a fault it stays
-    // where it is.
-    pub fn next(&mut self, stated: Stated) -> Next
+    // where it is. No `Iterator`: what is next depends on what is stated, turn by turn.
+    pub fn next(&mut self, stated: Stated) -> Result<Option<Element>, Fault>
         ensures { (result ≡ met self.old stated) × (self.new ≡ moved self.old result) }
     {
         let next = elements::element_at(self.text, self.at, stated);

@@ -4,11 +4,11 @@ use mathlib.Core.Bool.{Bool, true, false, cond}
 use mathlib.Core.List.{List, [], ◌∷◌, ◌++◌, append_assoc}
 use Prim.Native.Nat.{ℕ, zero, suc, ◌+◌, ◌*◌, ◌/◌, ◌%◌, ◌^◌, ◌<◌, ◌≤◌}
 use native.Mathlib.Omega.{arith}
+use native.Mathlib.Nat.{suc-add}
 use borrow.Author.Tests.{lt-ltb, le-ltb, ltb-true, ltb-false}
 use lib.Dec.{ltb}
-use lib.ListN.{length, get_or, take, drop, length-append, drop_of_length-le}
+use lib.ListN.{length, get_or, take, drop, length-append}
 use Rattle.text.specs.Quoted.{byte}
-use Rattle.text.proofs.Lists.{drop_at}
 use Rattle.writing.specs.Numbers.{digit_byte, digits, decimal, after, line}
 
 -- a digit alone
@@ -39,9 +39,10 @@ line_cons : (n : ℕ) (rest : List ℕ) → line (n ∷ rest) ≡ (decimal n ++ 
 unfolding line
 line_cons n rest = sym (append_assoc (decimal n) (after rest ∷ []) (line rest))
 
-pub line_none : line [] ≡ []
+pub line_none : (cells : List ℕ) → length cells ≡ 0 → line cells ≡ []
 unfolding line
-line_none = refl
+line_none [] e = refl
+line_none (n ∷ rest) e = absurd (omega arith)
 
 pub line_one : (n : ℕ) → line (n ∷ []) ≡ decimal n ++ (byte "\n" ∷ [])
 unfolding line
@@ -50,17 +51,17 @@ line_one n = refl
 pub line_two : (n m : ℕ) → line (n ∷ m ∷ []) ≡ (decimal n ++ (byte "," ∷ [])) ++ (decimal m ++ (byte "\n" ∷ []))
 line_two n m = rw (line_cons n (m ∷ []), line_one m) refl
 
-after_place : (s : List ℕ) (i : ℕ) → after (drop i s) ≡ cond (ltb i (length s)) (byte ",") (byte "\n")
-after_place s i = go (ltb i (length s)) refl
-  where
-    go : (b : Bool) → ltb i (length s) ≡ b → after (drop i s) ≡ cond b (byte ",") (byte "\n")
-    go true e = rw (drop_at s i (ltb-true i (length s) e)) refl
-    go false e = rw (drop_of_length-le s (ltb-false i (length s) e)) refl
+-- and so from any place of a line on, but the last
+pub line_step : (others : List ℕ) (last i : ℕ) → i < length others
+    → line (drop i (others ++ (last ∷ []))) ≡ (decimal (get_or others i 0) ++ (byte "," ∷ [])) ++ line (drop (i + 1) (others ++ (last ∷ [])))
+line_step [] last i h = absurd (omega arith)
+line_step (n ∷ []) last zero h = line_cons n (last ∷ [])
+line_step (n ∷ m ∷ others) last zero h = line_cons n (m ∷ others ++ (last ∷ []))
+line_step (n ∷ others) last (suc i) h = rw (suc-add i 1) (line_step others last i (omega arith))
 
--- and so from any place of a line on
-pub line_step : (s : List ℕ) (i : ℕ) → i < length s → (b : ℕ) → b ≡ cond (ltb (i + 1) (length s)) (byte ",") (byte "\n")
-    → line (drop i s) ≡ (decimal (get_or s i 0) ++ (b ∷ [])) ++ line (drop (i + 1) s)
-line_step s i h b e = rw (drop_at s i h, e, ← after_place s (i + 1)) (line_cons (get_or s i 0) (drop (i + 1) s))
+pub line_last : (others : List ℕ) (last : ℕ) → line (drop (length others) (others ++ (last ∷ []))) ≡ decimal last ++ (byte "\n" ∷ [])
+line_last [] last = line_one last
+line_last (n ∷ others) last = line_last others last
 
 -- a number below 10^k has at most k digits
 pub decimal-length : (k n : ℕ) → n < 10 ^ suc k → length (decimal n) ≤ suc k

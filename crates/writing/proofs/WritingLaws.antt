@@ -53,6 +53,11 @@ left_less whole x rest from start l p end last q = l end last (adds_both x rest 
 pub left_none : (whole from : List ℕ) (start : ℕ) (now : List ℕ) (at : ℕ) → Left whole [] from start now at → Adds from start whole now at
 left_none whole from start now at l = l now at (adds_none now at)
 
+-- a writer that was made of an output and used leaves there what it has
+pub of_writer : (said output : List ℕ) {was now after : List ℕ} {start at next : ℕ} → was ≡ output → start ≡ 0 → after ≡ now → next ≡ at
+    → Adds was start said now at → Adds output 0 said after next
+of_writer said output w z n a p = rw (← w, ← z, n, a) p
+
 -- where nothing was said before
 pub from_nothing : (said output now : List ℕ) (at : ℕ) → Adds output 0 said now at → Written output said now at
 from_nothing said output now at p = p output [] (record { at_is = omega arith; now_is = refl })

@@ -1,30 +1,51 @@
 // Bytes and numbers written to an output from a place on, as far as it has room.
 #![tactic(auto)]
 
-ghost use Rattle.std.specs.Prelude.{[], ◌∷◌};
+ghost use Rattle.std.specs.Prelude.{◌≡◌, [], ◌∷◌};
 ghost use Rattle.writing.specs.Machinery.Writing.{Adds};
 
 pub mod numbers;
 
-// Writes a byte if there is room, and answers the place after it.
-pub fn put_byte(output: &mut [u8], at: usize, byte: u8) -> usize
-    ensures { Adds output.old at (byte ∷ []) output.new result }
-{
-    if at < output.len() {
-        output[at] = byte;
-        return at + 1;
-    }
-    at
+// An output that is lent, and the place that is written next.
+#[derive(Drop)]
+pub struct Writer<'a> {
+    output: &'a mut [u8],
+    at: usize,
 }
 
-pub fn put_bytes(output: &mut [u8], at: usize, bytes: &[u8]) -> usize
-    ensures { Adds output.old at bytes.now output.new result }
-{
-    let mut next = at;
-    let mut i = 0;
-    while i < bytes.len() {
-        next = put_byte(output, next, bytes[i]);
-        i += 1;
+impl<'a> Writer<'a> {
+    pub fn new(output: &'a mut [u8]) -> Writer<'a>
+        ensures same_output { result.output.ghost_name ≡ output.entry.ghost_name }
+        ensures untouched { result.output.now ≡ output.old }
+        ensures at_start { result.at ≡ 0 }
+    {
+        Writer { output, at: 0 }
     }
-    next
+
+    // How many bytes were written.
+    pub fn count(&self) -> usize
+        ensures { result ≡ self.now.at }
+    {
+        self.at
+    }
+
+    // Writes a byte if there is room.
+    pub fn put_byte(&mut self, byte: u8)
+        ensures same_output { self.new.output.ghost_name ≡ self.old.output.ghost_name }
+        ensures adds { Adds self.old.output.now self.old.at (byte ∷ []) self.new.output.now self.new.at }
+    {
+        if self.at < self.output.len() {
+            self.output[self.at] = byte;
+            self.at += 1;
+        }
+    }
+
+    pub fn put_bytes(&mut self, bytes: &[u8])
+        ensures same_output { self.new.output.ghost_name ≡ self.old.output.ghost_name }
+        ensures adds { Adds self.old.output.now self.old.at bytes.now self.new.output.now self.new.at }
+    {
+        for &byte in bytes {
+            self.put_byte(byte);
+        }
+    }
 }

@@ -1,49 +1,41 @@
 // Numbers in decimal, and lines of them.
-ghost use Rattle.std.specs.Prelude.{◌≡◌, cond, [], ◌∷◌, ◌++◌};
-ghost use Rattle.text.specs.Quoted.{byte};
+ghost use Rattle.std.specs.Prelude.{◌≡◌, [], ◌∷◌, ◌++◌};
 ghost use Rattle.writing.specs.Numbers.{decimal, line};
 ghost use Rattle.writing.specs.Machinery.Writing.{Adds};
 
-use crate::put_byte;
+use crate::Writer;
 
-// Writes a number: the digits before its last are those of a tenth of it.
-fn put_decimal(output: &mut [u8], at: usize, number: usize) -> usize
-    ensures { Adds output.old at (decimal number) output.new result }
-{
-    let last = b'0' + (number % 10) as u8;
-    if number < 10 {
-        return put_byte(output, at, last);
+impl Writer<'_> {
+    // Writes a number: the digits before its last are those of a tenth of it.
+    fn put_decimal(&mut self, number: usize)
+        ensures same_output { self.new.output.ghost_name ≡ self.old.output.ghost_name }
+        ensures adds { Adds self.old.output.now self.old.at (decimal number) self.new.output.now self.new.at }
+    {
+        if 10 <= number {
+            self.put_decimal(number / 10);
+        }
+        self.put_byte(b'0' + (number % 10) as u8);
     }
-    let next = put_decimal(output, at, number / 10);
-    put_byte(output, next, last)
-}
 
-// Writes a number, and a byte behind it.
-pub fn put_number(output: &mut [u8], at: usize, number: usize, after: u8) -> usize
-    ensures { Adds output.old at (decimal number ++ (after ∷ [])) output.new result }
-{
-    let next = put_decimal(output, at, number);
-    put_byte(output, next, after)
-}
-
-// What stands behind a number: a comma if others follow on its line, else the line's end.
-fn separator(more: bool) -> u8
-    ensures { result ≡ cond more (byte ",") (byte "\n") }
-{
-    if more { b',' } else { b'\n' }
-}
-
-// Writes numbers in a line.
-pub fn put_line(output: &mut [u8], at: usize, numbers: &[u32]) -> usize
-    ensures { Adds output.old at (line numbers.now) output.new result }
-{
-    let mut next = at;
-    let mut i = 0;
-    while i < numbers.len() {
-        let number = numbers[i] as usize;
-        i += 1;
-        let after = separator(i < numbers.len());
-        next = put_number(output, next, number, after);
+    // Writes a number, and a byte behind it.
+    pub fn put_number(&mut self, number: usize, after: u8)
+        ensures same_output { self.new.output.ghost_name ≡ self.old.output.ghost_name }
+        ensures adds { Adds self.old.output.now self.old.at (decimal number ++ (after ∷ [])) self.new.output.now self.new.at }
+    {
+        self.put_decimal(number);
+        self.put_byte(after);
     }
-    next
+
+    // Writes numbers in a line: a comma stands behind each that others follow, and the line's end behind the last.
+    pub fn put_line(&mut self, numbers: &[u32])
+        ensures same_output { self.new.output.ghost_name ≡ self.old.output.ghost_name }
+        ensures adds { Adds self.old.output.now self.old.at (line numbers.now) self.new.output.now self.new.at }
+    {
+        if let Some((last, others)) = numbers.split_last() {
+            for number in others {
+                self.put_number(*number as usize, b',');
+            }
+            self.put_number(*last as usize, b'\n');
+        }
+    }
 }

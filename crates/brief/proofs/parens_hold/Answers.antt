@@ -1,8 +1,4 @@
 -- An operand may stand alone in parentheses, by what they are.
-use Prim.Native.Nat.{ℕ}
-use native.Mathlib.Omega.{arith}
-use mathlib.Core.Path.{◌≡◌}
-use mathlib.Core.Bool.{Bool, true, false}
 use Rattle.controls.specs.Machinery.Numbers.{inside_by}
 use Rattle.brief.specs.Machinery.Brief.{in_parens, in_arguments}
 use Rattle.brief.proofs.parens_hold.Goals as goal
@@ -26,6 +22,3 @@ returns-in-10 c = λ holds. rw c.in-10.is in_parens
 pub returns-in-11 : goal.returns-in-11
 unfolding inside_by
 returns-in-11 c = λ holds. rw c.in-11.is in_parens
-
-pub returns-in_default : goal.returns-in_default
-returns-in_default c = λ holds. absurd (let w : ◌≡◌ {A = Bool} false true = holds in let z : ◌≡◌ {A = ℕ} 0 1 = cc in omega arith)

@@ -1,5 +1,5 @@
 -- Groups that need no level: where the inside of an empty group may end, where one operand alone may stand, and what the machine makes of both. Machinery.
-use Rattle.std.specs.Prelude.{ℕ, ◌≤◌, ◌≡◌, true, false, List, ◌∷◌, ◌++◌}
+use Rattle.std.specs.Prelude.{ℕ, ◌≤◌, ◌≡◌, true, false, Option, Some, List, ◌∷◌, ◌++◌}
 use Rattle.machine.specs.Tokens.{Token, name, close_paren, close_brace, close_bracket}
 use Rattle.machine.specs.Syntax.{Syntax, nil, size}
 use Rattle.machine.specs.Scopes.{Scope, call_arguments, array_elements, object_properties}
@@ -28,11 +28,11 @@ pub data HoldsOperand : Control → ℕ → Type 0 where
   in_arguments : HoldsOperand (item_due call_arguments) close_paren
   in_elements : HoldsOperand (item_due array_elements) close_bracket
 
--- the only record of a group, of a class or 0
-pub data Lone (class closer closing : ℕ) : Found → Type 0 where
-  lone_parameter : class ≡ name → closer ≡ close_paren → inside_by closing ≡ parameter_due false → Lone class closer closing Nothing
-  lone_operand : (class ≡ 0 → ⊥) → HoldsOperand (inside_by closing) closer → Lone class closer closing (Operand class)
-  lone_more : Lone class closer closing NeedsLevel
+-- the only record of a group, by its class where it is an operand's
+pub data Lone (leaf : Option ℕ) (closer closing : ℕ) : Found → Type 0 where
+  lone_parameter : leaf ≡ Some name → closer ≡ close_paren → inside_by closing ≡ parameter_due false → Lone leaf closer closing Nothing
+  lone_operand : {class : ℕ} → leaf ≡ Some class → HoldsOperand (inside_by closing) closer → Lone leaf closer closing (Operand class)
+  lone_more : Lone leaf closer closing NeedsLevel
 
 -- a level whose run pops a value, whatever stands around it; that of parameters is nothing
 pub record PopsValue (class : ℕ) (p : Segment) (c : Control) (value : Syntax) : Type 0 where

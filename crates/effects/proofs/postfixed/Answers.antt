@@ -5,4 +5,4 @@ use Rattle.effects.proofs.postfixed.Goals as goal
 
 pub returns : goal.returns
 returns c =
-    postfix_affects (postfix_kind c.args.class) c.args.mark c.postfix_kind-kind.ensures c.closed-whole.ensures c.made.ensures
+    postfix_affects (postfix_kind c.args.class) c.args.mark c.postfix_kind.ensures c.closed-whole.ensures c.made.ensures

@@ -1,30 +1,22 @@
--- `is_delimiter` is `delimiter`, test for test.
+-- `is_delimiter` is `delimiter`: the six numbers stand side by side.
+use native.Mathlib.Omega.{arith}
+use mathlib.Core.Path.{sym}
+use mathlib.Core.Bool.{true}
 use borrow.Author.Tests.{ne_eqb}
 use Rattle.text.specs.Runs.{same}
+use Rattle.text.proofs.Range.{agree}
 use Rattle.signs.specs.Signs.{longest_sign, longest_of}
 use Rattle.elements.specs.Elements.{delimiter}
 use Rattle.elements.proofs.is_delimiter.Goals as goal
 
-pub returns-then-sign-eq-OPEN_BRACE : goal.returns-then-sign-eq-OPEN_BRACE
+pub returns-in-1 : goal.returns-in-1
 unfolding delimiter longest_sign longest_of same
-returns-then-sign-eq-OPEN_BRACE c = rw c.if-sign-eq-OPEN_BRACE.true
+returns-in-1 c = sym (agree delimiter (λ _. true) 1 6 c.args.sign tt (omega arith) (omega arith))
 
-pub returns-then-sign-eq-CLOSE_BRACE : goal.returns-then-sign-eq-CLOSE_BRACE
+pub returns-in_default : goal.returns-in_default
 unfolding delimiter longest_sign longest_of same
-returns-then-sign-eq-CLOSE_BRACE c = rw c.if-sign-eq-CLOSE_BRACE.true
+returns-in_default c = rw (ne_eqb c.args.sign 1 (omega arith), ne_eqb c.args.sign 2 (omega arith), ne_eqb c.args.sign 3 (omega arith), ne_eqb c.args.sign 4 (omega arith), ne_eqb c.args.sign 5 (omega arith), ne_eqb c.args.sign 6 (omega arith))
 
-pub returns-then-sign-eq-OPEN_PAREN : goal.returns-then-sign-eq-OPEN_PAREN
+pub returns-in_default-2 : goal.returns-in_default-2
 unfolding delimiter longest_sign longest_of same
-returns-then-sign-eq-OPEN_PAREN c = rw c.if-sign-eq-OPEN_PAREN.true
-
-pub returns-then-sign-eq-CLOSE_PAREN : goal.returns-then-sign-eq-CLOSE_PAREN
-unfolding delimiter longest_sign longest_of same
-returns-then-sign-eq-CLOSE_PAREN c = rw c.if-sign-eq-CLOSE_PAREN.true
-
-pub returns-then-sign-eq-OPEN_BRACKET : goal.returns-then-sign-eq-OPEN_BRACKET
-unfolding delimiter longest_sign longest_of same
-returns-then-sign-eq-OPEN_BRACKET c = rw c.if-sign-eq-OPEN_BRACKET.true
-
-pub returns : goal.returns
-unfolding delimiter longest_sign longest_of same
-returns c = rw (ne_eqb _ 1 c.if-sign-eq-OPEN_BRACE.false, ne_eqb _ 2 c.if-sign-eq-CLOSE_BRACE.false, ne_eqb _ 3 c.if-sign-eq-OPEN_PAREN.false, ne_eqb _ 4 c.if-sign-eq-CLOSE_PAREN.false, ne_eqb _ 5 c.if-sign-eq-OPEN_BRACKET.false)
+returns-in_default-2 c = rw (ne_eqb c.args.sign 1 (omega arith), ne_eqb c.args.sign 2 (omega arith), ne_eqb c.args.sign 3 (omega arith), ne_eqb c.args.sign 4 (omega arith), ne_eqb c.args.sign 5 (omega arith), ne_eqb c.args.sign 6 (omega arith))

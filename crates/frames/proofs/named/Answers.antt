@@ -3,4 +3,4 @@ use Rattle.frames.proofs.ReadyLaws.{name_readies}
 use Rattle.frames.proofs.named.Goals as goal
 
 pub returns : goal.returns
-returns c = name_readies c.requires.place_is c.stand-control.ensures c.made-level.ensures
+returns c = name_readies c.requires.place_is c.stand.ensures c.made.ensures

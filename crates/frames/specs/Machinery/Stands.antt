@@ -79,8 +79,9 @@ use Rattle.machine.specs.Machinery.Machine.{
   asking,
 }
 use Rattle.controls.specs.Machinery.Numbers.{setting_by, ending_by, behind_by, left_by}
-use Rattle.waiting.specs.Machinery.Waiting.{width, binding, nest_kind, ask_kind, settings, Holds}
+use Rattle.waiting.specs.Machinery.Waiting.{nothing_waits, binding, nest_kind, ask_kind, settings, Holds}
 use Rattle.waiting.specs.declared.Level.{Level}
+use Rattle.waiting.specs.declared.Waiting.{Waiting}
 
 -- what waits for an operand are operators, of which `new` has no left side; what waits for a statement are beginnings of statements
 pub data Operators : List Pending → Type 0 where
@@ -391,13 +392,13 @@ owed parameter_named = 0
 owed finished = 0
 
 -- the stack below a level's floor is as it was
-pub record Kept (before after : List ℕ) (floor : ℕ) : Type 0 where
+pub record Kept (before after : List Waiting) (floor : ℕ) : Type 0 where
   pub same_length : length after ≡ length before
-  pub same : (k : ℕ) → k < floor * width → get_or after k 0 ≡ get_or before k 0
+  pub same : (k : ℕ) → k < floor → get_or after k nothing_waits ≡ get_or before k nothing_waits
 
 -- The level stands at a control, with the machine's frame and nests: its records are written behind the first `first` of a table, what
 -- waits is on the stack, which was `stack₀`, and so many tree records are passed, each of which made one record or part that waits at most.
-pub record Stands (c : Control) (g : Frame) (nests : List machine.Open) (table stack₀ : List ℕ) (first floor passed : ℕ) (l : Level) (stack cells : List ℕ) : Type 0 where
+pub record Stands (c : Control) (g : Frame) (nests : List machine.Open) (table : List ℕ) (stack₀ : List Waiting) (first floor passed : ℕ) (l : Level) (stack : List Waiting) (cells : List ℕ) : Type 0 where
   pub done : Syntax
   pub starts : List Pending
   pub waiting : List Pending

@@ -12,8 +12,8 @@ loop-i-init c = (omega arith, λ newline. rw (or-false newline))
 pub loop-i-preserved-then-code-eq-LINE_END : goal.loop-i-preserved-then-code-eq-LINE_END
 loop-i-preserved-then-code-eq-LINE_END c = (omega arith, λ newline. rw (or-true newline) (c.loop-i.invariant.1 newline ∙ block_passed _ _ _ _ _ c.run_end-i.ensures ∙ block_line_end _ _ _ _ (omega arith) (omega arith)))
 
-pub returns-then-code-eq-ILLEGAL : goal.returns-then-code-eq-ILLEGAL
-returns-then-code-eq-ILLEGAL c = (λ newline. c.loop-i.invariant.1 newline ∙ block_passed _ _ _ _ _ c.run_end-i.ensures ∙ block_stray _ _ _ _ (omega arith) (omega arith), tt)
+pub returns-then-code-eq-ILLEGAL-clause-resumes : goal.returns-then-code-eq-ILLEGAL-clause-resumes
+returns-then-code-eq-ILLEGAL-clause-resumes c = λ newline. c.loop-i.invariant.1 newline ∙ block_passed _ _ _ _ _ c.run_end-i.ensures ∙ block_stray _ _ _ _ (omega arith) (omega arith)
 
 pub loop-i-preserved-then-b-ne42 : goal.loop-i-preserved-then-b-ne42
 loop-i-preserved-then-b-ne42 c = (omega arith, λ newline. c.loop-i.invariant.1 newline ∙ block_passed _ _ _ _ _ c.run_end-i.ensures ∙ block_more _ _ _ _ (omega arith) (omega arith) (omega arith))
@@ -24,11 +24,11 @@ loop-i-preserved-then-i-text c = (omega arith, λ newline. c.loop-i.invariant.1 
 pub loop-i-preserved : goal.loop-i-preserved
 loop-i-preserved c = (omega arith, λ newline. c.loop-i.invariant.1 newline ∙ block_passed _ _ _ _ _ c.run_end-i.ensures ∙ block_star _ _ _ _ (omega arith) (omega arith) (omega arith) (omega arith))
 
-pub returns-in-loop-i : goal.returns-in-loop-i
-returns-in-loop-i c = (λ newline. c.loop-i.invariant.1 newline ∙ block_passed _ _ _ _ _ c.run_end-i.ensures ∙ block_close _ _ _ _ (omega arith) (omega arith) (omega arith) (omega arith) (omega arith), omega arith)
+pub returns-in-loop-i-clause-resumes : goal.returns-in-loop-i-clause-resumes
+returns-in-loop-i-clause-resumes c = λ newline. c.loop-i.invariant.1 newline ∙ block_passed _ _ _ _ _ c.run_end-i.ensures ∙ block_close _ _ _ _ (omega arith) (omega arith) (omega arith) (omega arith) (omega arith)
 
-pub returns-after-loop-i : goal.returns-after-loop-i
-returns-after-loop-i c = (λ newline. c.loop-i.invariant.1 newline ∙ block_past _ _ _ _ c.loop-i-test.false, tt)
+pub returns-after-loop-i-clause-resumes : goal.returns-after-loop-i-clause-resumes
+returns-after-loop-i-clause-resumes c = λ newline. c.loop-i.invariant.1 newline ∙ block_past _ _ _ _ c.loop-i-test.false
 
-pub returns-then-text-i : goal.returns-then-text-i
-returns-then-text-i c = (λ newline. c.loop-i.invariant.1 newline ∙ block_passed _ _ _ _ _ c.run_end-i.ensures ∙ block_past _ _ _ _ c.if-text-i.true, tt)
+pub returns-then-text-i-clause-resumes : goal.returns-then-text-i-clause-resumes
+returns-then-text-i-clause-resumes c = λ newline. c.loop-i.invariant.1 newline ∙ block_passed _ _ _ _ _ c.run_end-i.ensures ∙ block_past _ _ _ _ c.if-text-i.true

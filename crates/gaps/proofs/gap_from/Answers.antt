@@ -14,9 +14,6 @@ loop-i-preserved-then-b-eq32 c = c.loop-i.invariant ∙ gap_space _ _ _ (omega a
 pub returns-then-b-gt47 : goal.returns-then-b-gt47
 returns-then-b-gt47 c = sym (c.loop-i.invariant ∙ gap_over_slash _ _ _ (omega arith) (omega arith))
 
-pub code-code-requires : goal.code-code-requires
-code-code-requires c = c.requires
-
 pub loop-i-preserved-then-code-eq-BLANK : goal.loop-i-preserved-then-code-eq-BLANK
 loop-i-preserved-then-code-eq-BLANK c = c.loop-i.invariant ∙ gap_blank _ _ _ (omega arith) (coded_in by_blank _ (omega arith))
 
@@ -31,8 +28,5 @@ returns-then-b-ne47 c = sym
     (code_no_line_end _ (omega arith))
     c.if-b-ne47.true)
 
-pub comment_at-comment-requires : goal.comment_at-comment-requires
-comment_at-comment-requires c = (c.requires, omega arith, omega arith)
-
-pub returns : goal.returns
-returns c = sym (c.loop-i.invariant ∙ gap_past _ _ _ c.loop-i-test.false)
+pub returns-after-loop-i : goal.returns-after-loop-i
+returns-after-loop-i c = sym (c.loop-i.invariant ∙ gap_past _ _ _ c.loop-i-test.false)

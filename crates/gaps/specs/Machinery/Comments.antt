@@ -1,17 +1,16 @@
 -- What the code's answer about a comment says of the gap around it. Machinery: no public contract cites it.
-use Rattle.std.specs.Prelude.{ℕ, ◌≤◌, List, Bool, ◌||◌, drop}
-use Rattle.gaps.specs.Gaps.{gap}
+use Rattle.std.specs.Prelude.{ℕ, List, Bool, ◌||◌, drop, Option, None, Some, Result, Ok, Err}
+use Rattle.answers.specs.declared.faults.Fault.{Fault}
+use Rattle.gaps.specs.Gaps.{ends, gap}
 use Rattle.gaps.specs.declared.Gap.{Gap}
-use Rattle.gaps.specs.declared.Comment.{Comment}
 
--- the rest of a gap: no comment at the slash, or what follows the comment, or the comment's fault
-abbrev pub resumed : List ℕ → ℕ → Bool → Comment → Gap
-resumed text slash newline Comment.Absent = Gap.Ends slash newline
-resumed text slash newline (Comment.Ends end lined) = gap end (newline || lined) (drop end text)
-resumed text slash newline (Comment.Fault number place) = Gap.Fault number place
+-- the rest of a gap behind a comment, or the comment's fault
+abbrev pub behind : List ℕ → Bool → Result Gap Fault → Result Gap Fault
+behind text newline (Ok comment) = gap comment.end (newline || comment.newline) (drop comment.end text)
+behind text newline (Err fault) = Err fault
 
--- a comment does not end before a place
-abbrev pub NotBefore : ℕ → Comment → Type 0
-NotBefore place Comment.Absent = Unit {0}
-NotBefore place (Comment.Ends end lined) = place ≤ end
-NotBefore place (Comment.Fault number at) = Unit {0}
+-- the same at a slash, where no comment may start
+abbrev pub resumed : List ℕ → ℕ → Bool → Result (Option Gap) Fault → Result Gap Fault
+resumed text slash newline (Ok None) = ends slash newline
+resumed text slash newline (Ok (Some comment)) = behind text newline (Ok comment)
+resumed text slash newline (Err fault) = Err fault

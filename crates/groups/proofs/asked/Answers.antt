@@ -6,7 +6,7 @@ use Rattle.groups.proofs.asked.Goals as goal
 pub returns : goal.returns
 returns c =
     asks_there c.args.at (omega (arith, c.requires.marked)) c.requires.room c.closed-condition.ensures c.asking-number.ensures
-    c.wait-level.ensures c.stand.ensures
+    c.wait.ensures c.stand.ensures
 
-pub wait-level-requires : goal.wait-level-requires
-wait-level-requires c = ask_asks c.args.at 4 c.requires c.closed-condition.ensures c.asking-number.ensures.1
+pub wait-requires : goal.wait-requires
+wait-requires c = ask_asks c.args.at 4 c.requires c.closed-condition.ensures c.asking-number.ensures.1

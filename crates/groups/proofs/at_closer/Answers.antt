@@ -3,10 +3,10 @@ use Rattle.groups.proofs.CloserLaws.{may_end, ends, dies}
 use Rattle.groups.proofs.at_closer.Goals as goal
 
 pub ended-requires : goal.ended-requires
-ended-requires c = may_end c.ready_at_end-s.ensures c.requires.0
+ended-requires c = may_end c.ready-s.ensures c.requires.0
 
 pub returns-then-ends : goal.returns-then-ends
-returns-then-ends c = ends c.ready_at_end-s.ensures c.ends.ensures c.requires.1 c.if-ends.true c.ended.ensures c.is_object-within.ensures
+returns-then-ends c = ends c.ready-s.ensures c.ends.ensures c.requires.1 c.if-ends.true c.ended.ensures c.is_object.ensures
 
 pub returns : goal.returns
-returns c = dies c.ready_at_end-s.ensures c.ends.ensures c.requires.1 c.if-ends.false
+returns c = dies c.ready-s.ensures c.ends.ensures c.requires.1 c.if-ends.false

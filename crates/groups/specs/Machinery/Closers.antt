@@ -1,5 +1,5 @@
 -- What a level comes to at its closer: for whatever frame stands there, the machine pops its value, which is written, or dies. Machinery.
-use Rattle.std.specs.Prelude.{ℕ, ◌+◌, ◌≤◌, ◌≡◌, Bool, true, false, cond, List, [], ◌∷◌, ◌++◌, eqb}
+use Rattle.std.specs.Prelude.{ℕ, Result, Ok, Err, ◌+◌, ◌≤◌, ◌≡◌, Bool, true, false, cond, List, [], ◌∷◌, ◌++◌, eqb}
 use Rattle.machine.specs.Tokens.{Token, token}
 use Rattle.machine.specs.Syntax.{Syntax, nil, size}
 use Rattle.machine.specs.Machinery.Machine.{
@@ -76,10 +76,11 @@ use Rattle.controls.specs.Machinery.Numbers.{control_of}
 use Rattle.controls.specs.declared.Control as code
 use Rattle.controls.specs.Machinery.Written.{put_syntax}
 use Rattle.waiting.specs.declared.Level.{Level}
+use Rattle.waiting.specs.declared.Waiting.{Waiting}
 use Rattle.frames.specs.Machinery.Stands.{Kept, Stands}
 use Rattle.frames.specs.Machinery.Effects.{of_parameter}
+use Rattle.answers.specs.declared.faults.Fault.{Fault}
 use Rattle.groups.specs.declared.Parsed.{Parsed}
-use Rattle.groups.specs.declared.Parsed.TheVariants.{Done, Bad}
 
 -- behind a level stands its closer, or the end of the text
 abbrev pub closer_token : ℕ → ℕ → ℕ → Token
@@ -151,7 +152,7 @@ closed_state class place within value around =
     cond (eqb class end_of_text) (finish_in place (frame value [] [] nil) around) (pop_to place value (cond within (head_in around) around))
 
 -- whatever stands around the level, its value is popped, and the value's records are written
-pub record Pops (class place : ℕ) (c : Control) (g : Frame) (nests : List Open) (table stack₀ : List ℕ) (first floor passed n : ℕ) (within : Bool) (stack cells : List ℕ) : Type 0 where
+pub record Pops (class place : ℕ) (c : Control) (g : Frame) (nests : List Open) (table : List ℕ) (stack₀ : List Waiting) (first floor passed n : ℕ) (within : Bool) (stack : List Waiting) (cells : List ℕ) : Type 0 where
   pub value : Syntax
   pub runs : (around : List Open) (mark : ℕ) (u : List Token)
       → run (live c g (nests ++ around)) (closer_token class place mark ∷ u) ≡ run (closed_state class place within value around) u
@@ -161,13 +162,13 @@ pub record Pops (class place : ℕ) (c : Control) (g : Frame) (nests : List Open
   pub passes : n ≤ first + passed
   pub plain : of_parameter c ≡ true → value ≡ nil
 
-pub data AtCloser (class place : ℕ) (c : Control) (g : Frame) (nests : List Open) (table stack₀ : List ℕ) (first floor passed : ℕ) : Parsed → List ℕ → List ℕ → Type 0 where
-  pops_there : {n : ℕ} {within : Bool} {stack cells : List ℕ} → Pops class place c g nests table stack₀ first floor passed n within stack cells
-      → AtCloser class place c g nests table stack₀ first floor passed (Done n within) stack cells
-  dies_there : {stack cells : List ℕ}
+pub data AtCloser (class place : ℕ) (c : Control) (g : Frame) (nests : List Open) (table : List ℕ) (stack₀ : List Waiting) (first floor passed : ℕ) : Result Parsed Fault → List Waiting → List ℕ → Type 0 where
+  pops_there : {n : ℕ} {within : Bool} {stack : List Waiting} {cells : List ℕ} → Pops class place c g nests table stack₀ first floor passed n within stack cells
+      → AtCloser class place c g nests table stack₀ first floor passed (Ok (record { count = n; within = within })) stack cells
+  dies_there : {stack : List Waiting} {cells : List ℕ}
       → ((around : List Open) (mark : ℕ) (u : List Token) → run (live c g (nests ++ around)) (closer_token class place mark ∷ u) ≡ dead place)
-      → AtCloser class place c g nests table stack₀ first floor passed (Bad place) stack cells
+      → AtCloser class place c g nests table stack₀ first floor passed (Err (Fault.NoProgram place)) stack cells
 
-abbrev pub ComesTo : code.Control → ℕ → ℕ → Level → List ℕ → List ℕ → Parsed → List ℕ → List ℕ → Type 0
-ComesTo at class place l stack cells r stack' cells' = (g : Frame) (nests : List Open) (table stack₀ : List ℕ) (first floor passed : ℕ)
+abbrev pub ComesTo : code.Control → ℕ → ℕ → Level → List Waiting → List ℕ → Result Parsed Fault → List Waiting → List ℕ → Type 0
+ComesTo at class place l stack cells r stack' cells' = (g : Frame) (nests : List Open) (table : List ℕ) (stack₀ : List Waiting) (first floor passed : ℕ)
     → Stands (control_of at) g nests table stack₀ first floor passed l stack cells → AtCloser class place (control_of at) g nests table stack₀ first floor passed r stack' cells'

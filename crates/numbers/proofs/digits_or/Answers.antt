@@ -7,9 +7,6 @@ use Rattle.text.specs.Bytes.{digit}
 use Rattle.text.specs.Runs.{run}
 use Rattle.numbers.proofs.digits_or.Goals as goal
 
-pub digits_end-end-requires : goal.digits_end-end-requires
-digits_end-end-requires c = c.requires
-
 pub returns-then-end-digits : goal.returns-then-end-digits
 returns-then-end-digits c = let a = c.args in
     let z : run digit (drop a.digits a.text.now) ≡ 0 = omega (arith, c.digits_end-end.ensures) in

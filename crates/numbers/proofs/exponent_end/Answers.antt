@@ -12,14 +12,8 @@ returns-then-not-is_either c = sym (exponent_no _ _ (sym c.is_either.ensures ∙
 pub returns-then-text-at-2 : goal.returns-then-text-at-2
 returns-then-text-at-2 c = sym (exponent_short _ _ c.if-text-at-2.true)
 
-pub digits_or-requires : goal.digits_or-requires
-digits_or-requires c = c.requires
-
 pub returns-then-is_either : goal.returns-then-is_either
 returns-then-is_either c = exponent_signed _ _ (sym c.is_either.ensures ∙ c.if-not-is_either.false) (sym c.is_either-2.ensures ∙ c.if-is_either.true) _ c.digits_or.ensures
-
-pub digits_or-requires-2 : goal.digits_or-requires-2
-digits_or-requires-2 c = c.requires
 
 pub returns : goal.returns
 returns c = exponent_plain _ _ (sym c.is_either.ensures ∙ c.if-not-is_either.false) (sym c.is_either-2.ensures ∙ c.if-is_either.false) _ c.digits_or-2.ensures

@@ -9,8 +9,5 @@ returns-then-text-at c = sym (fraction_past _ _ c.if-text-at.true)
 pub returns-then-text-at-ne46 : goal.returns-then-text-at-ne46
 returns-then-text-at-ne46 c = sym (fraction_no _ _ c.if-text-at-ne46.true)
 
-pub digits_end-requires : goal.digits_end-requires
-digits_end-requires c = c.requires
-
 pub returns : goal.returns
 returns c = c.digits_end.ensures ∙ sym (fraction_dot _ _ c.if-text-at-ne46.false)

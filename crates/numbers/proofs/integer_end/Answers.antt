@@ -6,8 +6,5 @@ use Rattle.numbers.proofs.integer_end.Goals as goal
 pub returns-then-text-at-eq48 : goal.returns-then-text-at-eq48
 returns-then-text-at-eq48 c = sym (integer_zero _ _ c.if-text-at-eq48.true)
 
-pub digits_end-requires : goal.digits_end-requires
-digits_end-requires c = c.requires.0
-
 pub returns : goal.returns
 returns c = c.digits_end.ensures ∙ sym (integer_digits _ _ c.if-text-at-eq48.false)

@@ -8,17 +8,11 @@ use Rattle.numbers.proofs.number_at.Goals as goal
 pub returns-then-text-first : goal.returns-then-text-first
 returns-then-text-first c = sym (number_past _ _ c.if-text-first.true)
 
-pub number_end-end-requires : goal.number_end-end-requires
-number_end-end-requires c = (c.requires, omega arith)
+pub returns-then-of-gt-BLANK : goal.returns-then-of-gt-BLANK
+returns-then-of-gt-BLANK c = sym (number_named _ _ _ c.number_end-end.ensures (code_name _ (omega arith)))
 
-pub code-requires : goal.code-requires
-code-requires c = c.requires
-
-pub returns-then-code-gt-BLANK : goal.returns-then-code-gt-BLANK
-returns-then-code-gt-BLANK c = sym (number_named _ _ _ c.number_end-end.ensures (code_name _ (omega arith)))
-
-pub returns-else-code-gt-BLANK : goal.returns-else-code-gt-BLANK
-returns-else-code-gt-BLANK c = sym (number_ends _ _ _ c.number_end-end.ensures (code_no_name _ (omega arith)))
+pub returns-else-of-gt-BLANK : goal.returns-else-of-gt-BLANK
+returns-else-of-gt-BLANK c = sym (number_ends _ _ _ c.number_end-end.ensures (code_no_name _ (omega arith)))
 
 pub returns-else-end-text : goal.returns-else-end-text
 returns-else-end-text c = sym (number_last _ _ _ c.number_end-end.ensures c.if-end-text.false)

@@ -3,14 +3,8 @@ use mathlib.Core.Path.{sym, ◌∙◌}
 use Rattle.numbers.proofs.NumberPlaces.{number_hex, number_decimal}
 use Rattle.numbers.proofs.number_end.Goals as goal
 
-pub hex_end-end-requires : goal.hex_end-end-requires
-hex_end-end-requires c = c.requires.1
-
 pub returns-then-end-at : goal.returns-then-end-at
 returns-then-end-at c = number_hex _ _ _ c.hex_end-end.ensures c.if-end-at.true
-
-pub decimal_end-requires : goal.decimal_end-requires
-decimal_end-requires c = c.requires
 
 pub returns : goal.returns
 returns c = c.decimal_end.ensures ∙ sym (number_decimal _ _ _ c.hex_end-end.ensures c.if-end-at.false)

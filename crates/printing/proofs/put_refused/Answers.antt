@@ -1,17 +1,19 @@
 -- The text, and a line of two numbers.
-use borrow.Author.Rules.{rules}
-use mathlib.Core.List.{[], ◌∷◌, ◌++◌}
+use Rattle.std.proofs.Common.{rules, [], ◌∷◌, ◌++◌}
 use Rattle.text.specs.Quoted.{byte, bytes}
 use Rattle.writing.specs.Numbers.{decimal}
-use Rattle.writing.proofs.WritingLaws.{adds_both}
+use Rattle.printing.specs.Printed.{refusal}
+use Rattle.writing.proofs.WritingLaws.{adds_both, of_writer}
 use Rattle.printing.proofs.PrintedLaws.{refusal_is, refusal_length}
 use Rattle.printing.proofs.put_refused.Goals as goal
 
-pub returns : goal.returns
-returns c = let a = c.args in record {
-  adds = rw (refusal_is a.number a.place)
-      (adds_both (bytes "refused,") ((decimal a.number ++ (byte "," ∷ [])) ++ (decimal a.place ++ (byte "\n" ∷ []))) c.put_bytes-next.ensures
-      (adds_both (decimal a.number ++ (byte "," ∷ [])) (decimal a.place ++ (byte "\n" ∷ []))
-      c.put_number-next.ensures c.put_number.ensures));
-  place_len_bound = refusal_length a.number a.place (search rules) (search rules);
-}
+pub returns-clause-adds : goal.returns-clause-adds
+returns-clause-adds c = let a = c.args in
+    let w = c.new-to.ensures in
+    of_writer (refusal a.number a.place) a.output.now w.untouched w.at_start (c.output-1.given.1.1 (search rules)) c.count.ensures
+    (rw (refusal_is a.number a.place)
+    (adds_both (bytes "refused,") ((decimal a.number ++ (byte "," ∷ [])) ++ (decimal a.place ++ (byte "\n" ∷ []))) c.put_bytes.ensures.adds
+    (adds_both (decimal a.number ++ (byte "," ∷ [])) (decimal a.place ++ (byte "\n" ∷ [])) c.put_number.ensures.adds c.put_number-2.ensures.adds)))
+
+pub returns-clause-place_len_bound : goal.returns-clause-place_len_bound
+returns-clause-place_len_bound c = refusal_length c.args.number c.args.place (search rules) (search rules)

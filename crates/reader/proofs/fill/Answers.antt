@@ -6,13 +6,13 @@ use Rattle.reader.proofs.fill.Goals as goal
 pub read_on-run-requires : goal.read_on-run-requires
 read_on-run-requires c = let p = c.requires in
     let room = c.room_for-room.ensures in
-    (p.0, record { short = p.1; stack_is = p.2; room_small = omega (arith, room); room_fits = λ read. omega (arith, room) })
+    record { short = p.0; stack_is = p.1; room_small = omega (arith, room); room_fits = λ read. omega (arith, room) }
 
 pub ending-requires : goal.ending-requires
 ending-requires c = (_, ran_some _ _ _ _ (rw c.in-End.is at c.read_on-run.ensures))
 
 pub returns-in-End : goal.returns-in-End
-returns-in-End c = ran_answered _ _ _ _ c.requires.1 c.room_for-room.ensures (rw c.in-End.is at c.read_on-run.ensures) _ c.ending.ensures
+returns-in-End c = ran_answered _ _ _ _ c.requires.0 c.room_for-room.ensures (rw c.in-End.is at c.read_on-run.ensures) _ c.ending.ensures
 
 pub returns-in-Stop : goal.returns-in-Stop
-returns-in-Stop c = halted_answered _ _ _ _ c.requires.1 c.room_for-room.ensures (rw c.in-Stop.is at c.read_on-run.ensures)
+returns-in-Stop c = halted_answered _ _ _ _ c.requires.0 c.room_for-room.ensures (rw c.in-Stop.is at c.read_on-run.ensures)

@@ -6,15 +6,15 @@ use Rattle.respacer.proofs.write_text.Goals as goal
 
 pub read_on-run-requires : goal.read_on-run-requires
 read_on-run-requires c = let p = c.requires in
-    (p.0, record { short = p.1; stack_is = p.2; room_small = omega arith; room_fits = λ read. absurd (true≢false read) })
+    record { short = p.0; stack_is = p.1; room_small = omega arith; room_fits = λ read. absurd (true≢false read) }
 
 pub write_end-requires : goal.write_end-requires
 write_end-requires c = let l = left _ _ _ (rw c.in-End.is at c.read_on-run.ensures) in
-    (omega (arith, l.writes.few, l.inside, c.requires.1), l.writes.represented.fits)
+    (omega (arith, l.writes.few, l.inside, c.requires.0), l.writes.represented.fits)
 
 pub returns-in-End : goal.returns-in-End
 returns-in-End c = let l = left _ _ _ (rw c.in-End.is at c.read_on-run.ensures) in
-    end_told _ _ c.requires.1 _ l _ (c.write_end.ensures _ _ _ l.levels l.writes)
+    end_told _ _ c.requires.0 _ l _ (c.write_end.ensures _ _ _ l.levels l.writes)
 
 pub returns-in-Stop : goal.returns-in-Stop
-returns-in-Stop c = halt_told _ _ c.requires.1 _ (rw c.in-Stop.is at c.read_on-run.ensures)
+returns-in-Stop c = halt_told _ _ c.requires.0 _ (rw c.in-Stop.is at c.read_on-run.ensures)

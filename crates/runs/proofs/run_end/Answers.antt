@@ -6,21 +6,21 @@ use Prim.Native.Nat.{◌+◌}
 use Rattle.text.proofs.CodeLaws.{over_stop, over_more}
 use Rattle.runs.proofs.run_end.Goals as goal
 
-pub returns-then-code-limit : goal.returns-then-code-limit
-returns-then-code-limit c = sym (c.loop-i.invariant ∙ over_stop _ _ _ (omega arith) (omega arith))
+pub returns-then-of-limit : goal.returns-then-of-limit
+returns-then-of-limit c = sym (c.loop-i.invariant ∙ over_stop _ _ _ (omega arith) (omega arith))
 
-pub returns-then-code-limit-2 : goal.returns-then-code-limit-2
-returns-then-code-limit-2 c = sym (c.loop-i.invariant ∙ over_more _ _ _ (omega arith) _ (omega arith) (omega arith) ∙ over_stop _ _ _ (omega arith) (omega arith))
+pub returns-then-of-limit-2 : goal.returns-then-of-limit-2
+returns-then-of-limit-2 c = sym (c.loop-i.invariant ∙ over_more _ _ _ (omega arith) _ (omega arith) (omega arith) ∙ over_stop _ _ _ (omega arith) (omega arith))
 
-pub returns-then-code-limit-3 : goal.returns-then-code-limit-3
-returns-then-code-limit-3 c = sym
+pub returns-then-of-limit-3 : goal.returns-then-of-limit-3
+returns-then-of-limit-3 c = sym
     (c.loop-i.invariant
     ∙ over_more _ _ _ (omega arith) (c.loop-i.i + 1) (omega arith) (omega arith)
     ∙ over_more _ _ _ (omega arith) _ (omega arith) (omega arith)
     ∙ over_stop _ _ _ (omega arith) (omega arith))
 
-pub returns-then-code-limit-4 : goal.returns-then-code-limit-4
-returns-then-code-limit-4 c = sym
+pub returns-then-of-limit-4 : goal.returns-then-of-limit-4
+returns-then-of-limit-4 c = sym
     (c.loop-i.invariant
     ∙ over_more _ _ _ (omega arith) (c.loop-i.i + 1) (omega arith) (omega arith)
     ∙ over_more _ _ _ (omega arith) (c.loop-i.i + 2) (omega arith) (omega arith)

@@ -1,12 +1,13 @@
 -- A part of the tree table: whole tree records, as they stand in the text or inside a group, and their tokens. Machinery: the
 -- tokens of a reading's records are those of its elements, as records show them.
-use Rattle.std.specs.Prelude.{ℕ, zero, suc, ◌+◌, ◌-◌, ◌*◌, ◌/◌, ◌≤◌, ◌<◌, Bool, false, cond, ◌||◌, List, [], ◌∷◌, ◌++◌, eqb, ltb, leb, length, get_or, take, drop}
+use Rattle.std.specs.Prelude.{ℕ, zero, suc, ◌+◌, ◌-◌, ◌*◌, ◌/◌, ◌≤◌, ◌<◌, Bool, false, Option, None, Some, cond, ◌||◌, List, [], ◌∷◌, ◌++◌, eqb, ltb, leb, length, get_or, take, drop}
 use Rattle.text.specs.Quoted.{byte}
 use Rattle.elements.specs.Elements.{name_kind, word_kind, number_kind, string_kind, pattern_kind, sign_kind}
 use Rattle.rule.specs.Trees.{paren_kind, object_kind, block_kind, bracket_kind, before_kind, after_kind, answer_kind}
 use Rattle.tables.specs.Records.{tree_width, most_trees}
 use Rattle.machine.specs.Tokens.{name, number, open_brace, open_paren, pattern, Spot, string, Token, token, and_assign, assign, at_least, at_most, bit_and, bit_or, bit_xor, break_word, case_word, catch_word, colon, comma, complement, continue_word, debugger_word, decrement, default_word, delete_word, divide, divide_assign, dot, do_word, else_word, equal, false_word, finally_word, for_word, function_word, greater, identical, if_word, increment, instanceof_word, in_word, left_shift, left_shift_assign, less, logical_and, logical_or, minus, minus_assign, multiply, multiply_assign, negation, new_word, null_word, open_bracket, or_assign, plus, plus_assign, question, remainder, remainder_assign, return_word, right_shift, right_shift_assign, semicolon, switch_word, this_word, throw_word, true_word, try_word, typeof_word, unequal, unidentical, unsigned_shift, unsigned_shift_assign, var_word, void_word, while_word, with_word, xor_assign}
 use Rattle.machine.specs.Machinery.Classes.{is_opener}
+use Rattle.segments.specs.declared.Segment as code
 
 -- the number of records among cells
 abbrev pub count_of : List ℕ → ℕ
@@ -218,6 +219,10 @@ class_at text cells i =
 unfoldable pub leaf_at : List ℕ → ℕ → ℕ
 leaf_at cells i = cond (leb (kind_by (kind_at cells i)) pattern) (kind_by (kind_at cells i)) 0
 
+-- the class, where it is one
+abbrev pub leaf_of : ℕ → Option ℕ
+leaf_of class = cond (eqb class 0) None (Some class)
+
 -- the cells of a group's content: those of the records behind its own, as far as its size says
 unfoldable pub content_of : List ℕ → ℕ → List ℕ
 content_of cells i = take ((i + size_at cells i) * tree_width - (i + 1) * tree_width) (drop ((i + 1) * tree_width) cells)
@@ -232,6 +237,10 @@ pub record Segment : Type 0 where
 
 abbrev pub segment : List ℕ → List ℕ → ℕ → ℕ → Segment
 segment text cells base close = record { text = text; cells = cells; base = base; close = close }
+
+-- a part as the code has it
+abbrev pub segment_of : code.Segment → Segment
+segment_of s = segment s.text.now s.trees.now s.base s.close
 
 -- the part inside a group
 abbrev pub inside : Segment → ℕ → Segment

@@ -1,7 +1,6 @@
 -- `by_table` is `longest_sign`: the code's table is that of the signs, by computing both, and the first of its signs is the longest.
 use native.Mathlib.Omega.{arith}
 use mathlib.Core.Path.{refl, ◌∙◌}
-use Prim.Native.Nat.{◌+◌}
 use lib.ListN.{drop}
 use Rattle.text.proofs.Lists.{drop_at}
 use Rattle.signs.specs.Machinery.Rows.{table}
@@ -10,9 +9,8 @@ use Rattle.signs.proofs.by_table.Goals as goal
 
 pub scan-requires : goal.scan-requires
 unfolding table
-scan-requires c = (refl, omega arith)
+scan-requires c = refl
 
 pub returns : goal.returns
-returns c = let a = c.args in
-    let e = drop_at a.text.now a.at (omega arith) in
-    c.scan.ensures ∙ rw e (c.first_row.ensures (drop (a.at + 1) a.text.now)) ∙ first_longest _
+returns c = let s = c.args.text.now in
+    c.scan.ensures ∙ rw (drop_at s 0 (omega arith)) (c.first_row.ensures (drop 1 s)) ∙ first_longest _

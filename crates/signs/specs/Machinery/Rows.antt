@@ -1,10 +1,9 @@
 -- The code's table of the signs, and how it is scanned. Machinery: no public contract cites it.
-use Rattle.std.specs.Prelude.{ℕ, List, [], ◌∷◌, Bool, cond, ◌||◌, eqb, length, get_or}
+use Rattle.std.specs.Prelude.{ℕ, List, [], ◌∷◌, Bool, cond, ◌||◌, eqb, length, get_or, Option, None}
 use Rattle.text.specs.Quoted.{byte}
 use Rattle.vocabulary.specs.Vocabulary.{spelling, signs, row_at}
-use Rattle.signs.specs.Signs.{starts_with}
-use Rattle.signs.specs.declared.Longest.{Longest}
-use Rattle.signs.specs.declared.Longest.TheVariants.{None, Sign}
+use Rattle.signs.specs.Signs.{starts_with, found}
+use Rattle.signs.specs.declared.Sign.{Sign}
 
 -- the sign of a number
 abbrev pub sign : ℕ → List ℕ
@@ -42,9 +41,9 @@ unfolding row_at
 table = rows order
 
 -- the first of the signs that a text starts with
-unfoldable pub first_of : List ℕ → List ℕ → Longest
+unfoldable pub first_of : List ℕ → List ℕ → Option Sign
 first_of s [] = None
-first_of s (number ∷ numbers) = cond (starts_with (sign number) s) (Sign number (length (sign number))) (first_of s numbers)
+first_of s (number ∷ numbers) = cond (starts_with (sign number) s) (found number (length (sign number))) (first_of s numbers)
 
 -- a byte with which some sign goes on behind its first
 abbrev pub goes_on : ℕ → Bool

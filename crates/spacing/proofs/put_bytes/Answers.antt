@@ -1,33 +1,20 @@
--- The bytes up to the place where the loop stands are written.
-use native.Mathlib.Omega.{arith}
-use mathlib.Core.Path.{◌≡◌, refl, ◌∙◌}
-use mathlib.Core.List.{◌++◌}
-use Rattle.elements.specs.Lexemes.{bytes_of}
-use Rattle.spacing.proofs.OverLaws.{bytes_start, bytes_step, bytes_place}
+-- The bytes before the one at which the loop stands are written.
+use Rattle.std.proofs.Common.{arith, rules, ◌++◌, take}
+use lib.Seq.{take_all}
+use Rattle.spacing.proofs.OverLaws.{bytes_step, bytes_place}
 use Rattle.spacing.proofs.put_bytes.Goals as goal
 
-pub loop-i-init : goal.loop-i-init
-loop-i-init c = let a = c.args in
-    (omega arith, omega arith, omega arith, refl, λ written old e o. bytes_start a.text.now a.first written old _ o)
-
-pub loop-i-preserved : goal.loop-i-preserved
-loop-i-preserved c = let a = c.args in
-    let l = c.loop-i in
+pub loop-b-preserved : goal.loop-b-preserved
+loop-b-preserved c = let a = c.args in
+    let s = a.bytes.now in
+    let l = c.loop-b in
     let p = c.put_byte-to.ensures in (
-      omega arith,
-      omega arith,
       omega (arith, p.0),
-      c.output-1.given ∙ l.invariant.3,
-      λ written old e o.
-          bytes_step a.text.now a.first written old l.i l.invariant.0 (omega arith) _
-          (p.1 (written ++ bytes_of a.text.now a.first l.i) old
-          (bytes_place a.text.now a.first written old l.i l.invariant.0 (omega arith) a.at l.to e l.invariant.2) (l.invariant.4 written old e o)),
+      search rules,
+      λ written old e o. bytes_step s written old _ l.b-index (omega arith) (p.1 (written ++ take l.b-index s) old (bytes_place s written l.b-index a.at l.to (omega arith) e l.invariant.0) (l.invariant.2 written old e o)),
     )
 
-pub shape_of-output : goal.shape_of-output
-shape_of-output c = c.loop-i.invariant.3
-
 pub returns : goal.returns
-returns c = let l = c.loop-i in
-    let q : l.i ≡ c.args.end = omega arith in
-    (omega arith, λ written old e o. rw q at (l.invariant.4 written old e o))
+returns c = let l = c.loop-b in
+    let s = c.args.bytes.now in
+    (omega arith, λ written old e o. rw (take_all l.b-index s (omega arith)) at (l.invariant.2 written old e o))

@@ -1,60 +1,58 @@
 -- The loop: the levels of which something is kept read the rest of the text as the whole is read.
 use native.Mathlib.Omega.{arith}
-use mathlib.Core.Path.{refl, sym, ◌∙◌}
+use Rattle.std.specs.Prelude.{Ok}
+use mathlib.Core.Path.{refl, sym, ap, ◌∙◌}
 use Rattle.elements.proofs.Bounds.{found_placed}
 use Rattle.keeping.specs.Machinery.Keeping.{tag_of}
 use Rattle.keeping.proofs.KeepLaws.{keeps_represented}
 use Rattle.turns.proofs.RunLaws.{start_at, at_end, at_fault, may_take, at_stop, at_more}
 use Rattle.turns.proofs.read_on.Goals as goal
 
-pub loop-number-init : goal.loop-number-init
-loop-number-init c = record { trees_length = refl; output_length = refl; stack_length = refl; here = start_at _ _ _ _ _ c.requires.1 (c.start-state.ensures (tag_of c.args.spaced) _) }
+pub loop-next-init : goal.loop-next-init
+loop-next-init c = record { trees_length = refl; output_length = refl; stack_length = refl; here = start_at _ _ _ _ _ c.requires (c.start-state.ensures (tag_of c.args.spaced) _) }
 
-pub element_by-next-requires : goal.element_by-next-requires
-element_by-next-requires c = c.requires.0
+pub shape_of-trees-in_default : goal.shape_of-trees-in_default
+shape_of-trees-in_default c = c.loop-next.invariant.trees_length
 
-pub shape_of-trees-in-End : goal.shape_of-trees-in-End
-shape_of-trees-in-End c = c.loop-number.invariant.trees_length
+pub shape_of-output-in_default : goal.shape_of-output-in_default
+shape_of-output-in_default c = c.loop-next.invariant.output_length
 
-pub shape_of-output-in-End : goal.shape_of-output-in-End
-shape_of-output-in-End c = c.loop-number.invariant.output_length
+pub shape_of-stack-in_default : goal.shape_of-stack-in_default
+shape_of-stack-in_default c = c.loop-next.invariant.stack_length
 
-pub shape_of-stack-in-End : goal.shape_of-stack-in-End
-shape_of-stack-in-End c = c.loop-number.invariant.stack_length
-
-pub returns-in-End : goal.returns-in-End
-returns-in-End c = let here = c.loop-number.invariant.here in
+pub returns-in_default : goal.returns-in_default
+returns-in_default c = let here = c.loop-next.invariant.here in
     let rule = c.stated_by-stated.ensures.1 _ _ here.levels (keeps_represented _ _ _ _ _ _ _ here.levels _ here.keeps) in
-    at_end _ _ _ _ _ _ _ _ here _ rule (sym c.element_by-next.ensures.0 ∙ c.in-End.is)
+    at_end _ _ _ _ _ _ _ _ here _ rule (sym c.in-Ok.ensures.0 ∙ ap Ok c.in_default.is)
 
-pub shape_of-trees-in-Fault : goal.shape_of-trees-in-Fault
-shape_of-trees-in-Fault c = c.loop-number.invariant.trees_length
+pub shape_of-trees-in-Err : goal.shape_of-trees-in-Err
+shape_of-trees-in-Err c = c.loop-next.invariant.trees_length
 
-pub shape_of-output-in-Fault : goal.shape_of-output-in-Fault
-shape_of-output-in-Fault c = c.loop-number.invariant.output_length
+pub shape_of-output-in-Err : goal.shape_of-output-in-Err
+shape_of-output-in-Err c = c.loop-next.invariant.output_length
 
-pub shape_of-stack-in-Fault : goal.shape_of-stack-in-Fault
-shape_of-stack-in-Fault c = c.loop-number.invariant.stack_length
+pub shape_of-stack-in-Err : goal.shape_of-stack-in-Err
+shape_of-stack-in-Err c = c.loop-next.invariant.stack_length
 
-pub returns-in-Fault : goal.returns-in-Fault
-returns-in-Fault c = let here = c.loop-number.invariant.here in
+pub returns-in-Err : goal.returns-in-Err
+returns-in-Err c = let here = c.loop-next.invariant.here in
     let rule = c.stated_by-stated.ensures.1 _ _ here.levels (keeps_represented _ _ _ _ _ _ _ here.levels _ here.keeps) in
-    at_fault _ _ _ _ _ _ _ _ here _ rule _ _ _ (sym c.element_by-next.ensures.0 ∙ c.in-Fault.is)
+    rw (c.number.ensures, c.place.ensures) (at_fault _ _ _ _ _ _ _ _ here _ rule _ _ (sym c.in-Err.ensures.0))
 
 pub take_element-taken-requires : goal.take_element-taken-requires
-take_element-taken-requires c = let here = c.loop-number.invariant.here in
+take_element-taken-requires c = let here = c.loop-next.invariant.here in
     let rule = c.stated_by-stated.ensures.1 _ _ here.levels (keeps_represented _ _ _ _ _ _ _ here.levels _ here.keeps) in
-    may_take _ _ _ _ _ _ _ _ here _ rule _ (sym c.element_by-next.ensures.0 ∙ c.in-Found.is) c.requires.1
+    may_take _ _ _ _ _ _ _ _ here _ rule _ (sym c.in-Ok.ensures.0 ∙ ap Ok c.in-Some.is) c.requires
 
-pub loop-number-smaller : goal.loop-number-smaller
-loop-number-smaller c = let placed = found_placed _ _ _ _ (sym c.element_by-next.ensures.0 ∙ c.in-Found.is) in
+pub loop-next-smaller : goal.loop-next-smaller
+loop-next-smaller c = let placed = found_placed _ _ _ _ (sym c.in-Ok.ensures.0 ∙ ap Ok c.in-Some.is) in
     omega (arith, placed.from, placed.some, placed.within)
 
-pub loop-number-preserved : goal.loop-number-preserved
-loop-number-preserved c = let loop = c.loop-number.invariant in
+pub loop-next-preserved : goal.loop-next-preserved
+loop-next-preserved c = let loop = c.loop-next.invariant in
     let here = loop.here in
     let rule = c.stated_by-stated.ensures.1 _ _ here.levels (keeps_represented _ _ _ _ _ _ _ here.levels _ here.keeps) in
-    let found = sym c.element_by-next.ensures.0 ∙ c.in-Found.is in
+    let found = sym c.in-Ok.ensures.0 ∙ ap Ok c.in-Some.is in
     let placed = found_placed _ _ _ _ found in
     record {
       trees_length = c.trees-1.given ∙ loop.trees_length;
@@ -64,17 +62,17 @@ loop-number-preserved c = let loop = c.loop-number.invariant in
     }
 
 pub shape_of-trees-in-Stop : goal.shape_of-trees-in-Stop
-shape_of-trees-in-Stop c = c.trees-1.given ∙ c.loop-number.invariant.trees_length
+shape_of-trees-in-Stop c = c.trees-1.given ∙ c.loop-next.invariant.trees_length
 
 pub shape_of-output-in-Stop : goal.shape_of-output-in-Stop
-shape_of-output-in-Stop c = c.output-1.given ∙ c.loop-number.invariant.output_length
+shape_of-output-in-Stop c = c.output-1.given ∙ c.loop-next.invariant.output_length
 
 pub shape_of-stack-in-Stop : goal.shape_of-stack-in-Stop
-shape_of-stack-in-Stop c = c.stack-1.given ∙ c.loop-number.invariant.stack_length
+shape_of-stack-in-Stop c = c.stack-1.given ∙ c.loop-next.invariant.stack_length
 
 pub returns-in-Stop : goal.returns-in-Stop
-returns-in-Stop c = let here = c.loop-number.invariant.here in
+returns-in-Stop c = let here = c.loop-next.invariant.here in
     let rule = c.stated_by-stated.ensures.1 _ _ here.levels (keeps_represented _ _ _ _ _ _ _ here.levels _ here.keeps) in
-    let found = sym c.element_by-next.ensures.0 ∙ c.in-Found.is in
+    let found = sym c.in-Ok.ensures.0 ∙ ap Ok c.in-Some.is in
     let placed = found_placed _ _ _ _ found in
     at_stop _ _ _ _ _ _ _ _ here _ rule _ found _ _ _ (rw c.in-Stop.is at (c.take_element-taken.ensures _ _ here.levels placed.from here.keeps))

@@ -4,4 +4,4 @@ use Rattle.walk.proofs.lexeme_of.Goals as goal
 
 pub returns : goal.returns
 returns c =
-    rw (c.lesser-first.ensures, c.lesser-end.ensures) (lexeme_clipped c.args.e.first c.args.e.end c.args.text.now)
+    rw (c.min-first.ensures, c.min-end.ensures) (lexeme_clipped c.args.e.first c.args.e.end c.args.text.now)

@@ -1,8 +1,6 @@
--- `spelling::text_of` is safe and ends. The measure is the number of turns left; nothing has to hold from turn to turn.
+-- `spelling::text_of` ends. The measure is what is left of the line.
+use Rattle.std.proofs.Common.{length}
 use Rattle.cases.proofs.spelling.text_of.Given as goal
 
-abbrev pub invariant-loop-turns : goal.invariant-loop-turns
-invariant-loop-turns l = Unit {0}
-
-abbrev pub decreases-loop-turns : goal.decreases-loop-turns
-decreases-loop-turns l = l.turns
+abbrev pub decreases-loop-rest : goal.decreases-loop-rest
+decreases-loop-rest l = length l.rest

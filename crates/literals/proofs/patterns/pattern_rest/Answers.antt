@@ -1,16 +1,13 @@
 -- `pattern_rest` is `pattern_rest`: the rest of the regular expression, from the place where the loop stands, is what is
 -- left to cut.
+use Rattle.std.specs.Prelude.{Ok}
 use native.Mathlib.Omega.{arith}
 use mathlib.Core.Path.{refl, sym, ap, ◌∙◌}
-use Rattle.answers.specs.declared.Literal.{Literal}
 use Rattle.literals.proofs.PatternLaws.{pattern_past, pattern_passed, pattern_newline, pattern_stray, pattern_taken, pattern_backslash, pattern_class, pattern_close, pattern_more}
 use Rattle.literals.proofs.patterns.pattern_rest.Goals as goal
 
 pub loop-i-init : goal.loop-i-init
 loop-i-init c = refl
-
-pub code-code-requires : goal.code-code-requires
-code-code-requires c = c.requires
 
 pub loop-i-preserved-then-code-gt-TURNING : goal.loop-i-preserved-then-code-gt-TURNING
 loop-i-preserved-then-code-gt-TURNING c = c.loop-i.invariant ∙ pattern_passed _ _ _ (omega arith) (omega arith) _ _ _ c.run_end-i.ensures
@@ -32,14 +29,11 @@ loop-i-preserved-then-class c = rw c.if-taken.false
     (rw (c.if-taken.false, c.if-class.true) at c.loop-i.invariant
     ∙ pattern_class _ _ _ (omega arith) (omega arith) (omega arith))
 
-pub name_end-requires : goal.name_end-requires
-name_end-requires c = c.requires
-
 pub returns-then-b-eq47 : goal.returns-then-b-eq47
 returns-then-b-eq47 c = sym
     (rw (c.if-taken.false, c.if-class.false) at c.loop-i.invariant
     ∙ pattern_close _ _ _ (omega arith) (omega arith) (omega arith) (omega arith)
-    ∙ ap Literal.Ends (sym c.name_end.ensures))
+    ∙ ap Ok (sym c.name_end.ensures))
 
 pub loop-i-preserved : goal.loop-i-preserved
 loop-i-preserved c = rw c.if-taken.false

@@ -7,12 +7,9 @@ use Rattle.literals.proofs.strings.string_rest.Goals as goal
 pub loop-i-init : goal.loop-i-init
 loop-i-init c = refl
 
-pub code-code-requires : goal.code-code-requires
-code-code-requires c = c.requires.0
-
 pub loop-i-preserved-then-code-gt-TURNING : goal.loop-i-preserved-then-code-gt-TURNING
 loop-i-preserved-then-code-gt-TURNING c = c.loop-i.invariant
-    ∙ string_passed _ _ _ _ (omega arith) c.requires.1 (omega arith) _ _ c.run_end-i.ensures
+    ∙ string_passed _ _ _ _ (omega arith) c.requires (omega arith) _ _ c.run_end-i.ensures
 
 pub returns-then-code-eq-LINE_END : goal.returns-then-code-eq-LINE_END
 returns-then-code-eq-LINE_END c = sym (c.loop-i.invariant ∙ string_newline _ _ _ _ (omega arith) _ (omega arith))

@@ -1,9 +1,0 @@
--- `is_either` is the first test, or else the second.
-use borrow.Author.Tests.{eq-eqb, ne_eqb}
-use Rattle.numbers.proofs.is_either.Goals as goal
-
-pub returns-then-b-x : goal.returns-then-b-x
-returns-then-b-x c = rw (eq-eqb _ _ c.if-b-x.true)
-
-pub returns : goal.returns
-returns c = rw (ne_eqb _ _ c.if-b-x.false)

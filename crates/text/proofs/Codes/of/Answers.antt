@@ -1,0 +1,7 @@
+-- The code is the table's cell.
+use Rattle.std.proofs.Common.{arith}
+use Rattle.text.proofs.CodeLaws.{codes_at}
+use Rattle.text.proofs.Codes.of.Goals as goal
+
+pub returns : goal.returns
+returns c = codes_at _ c.args.self.now.by_byte _ (omega arith)
