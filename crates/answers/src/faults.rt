@@ -1,6 +1,6 @@
 // The faults for which a text is refused, and the numbers that document 01's table of refused texts gives them.
 ghost use Rattle.std.specs.Prelude.{◌≡◌};
-ghost use Rattle.answers.specs.Faults.{fault_number, fault_place, refusal, answered};
+ghost use Rattle.answers.specs.Faults.{fault_number, fault_place, refusal};
 
 use crate::Answer;
 
@@ -74,16 +74,5 @@ impl From<Fault> for Answer {
 
     fn from(fault: Fault) -> Answer {
         Answer::Refused(fault.number(), fault.place())
-    }
-}
-
-impl From<Result<usize, Fault>> for Answer {
-    ghost from_gives = { λ outcome answer. answer ≡ answered outcome };
-
-    fn from(outcome: Result<usize, Fault>) -> Answer {
-        match outcome {
-            Ok(count) => Answer::Accepted(count),
-            Err(fault) => Answer::from(fault),
-        }
     }
 }

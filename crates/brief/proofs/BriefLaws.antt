@@ -13,6 +13,7 @@ use Rattle.machine.specs.Syntax.{Syntax, nil, node, snoc, size}
 use Rattle.machine.specs.Machinery.Machine.{empty, Control, parameter_due, Open, live, run}
 use Rattle.machine.specs.Scopes.{body, block}
 use Rattle.controls.specs.Machinery.Numbers.{inside_by}
+use Rattle.controls.specs.declared.Closing as closings
 use Rattle.controls.specs.Machinery.Written.{put_record, put_syntax}
 use Rattle.frames.specs.Machinery.Effects.{of_parameter}
 use Rattle.segments.specs.Machinery.Segments.{Segment, count_of, class_at, leaf_at, leaf_of, tokens_at, spot_at, Fine}
@@ -147,7 +148,7 @@ module _ {p : Segment} (fine : Fine p) (one : count_of p.cells ≡ 1) (class : �
   })
 
 -- as what a lone record is found to be, if its class is told
-pub lone_found : {p : Segment} → Fine p → count_of p.cells ≡ 1 → {leaf : Option ℕ} {closer closing : ℕ} {r : Found}
+pub lone_found : {p : Segment} → Fine p → count_of p.cells ≡ 1 → {leaf : Option ℕ} {closer : ℕ} {closing : closings.Closing} {r : Found}
     → leaf ≡ leaf_of (leaf_at p.cells 0) → Lone leaf closer closing r → FindsInside closer p (inside_by closing) r
 lone_found {p} fine one is (lone_parameter named ends inside) =
     let t = told p.cells (sym is ∙ named) in

@@ -9,10 +9,7 @@ ghost use Rattle.controls.specs.Machinery.Numbers.{inside_by};
 ghost use Rattle.segments.specs.Machinery.Segments.{Fine, segment_of};
 ghost use Rattle.brief.specs.Machinery.Brief.{MayBeEmpty, HoldsOperand, Lone, FindsInside};
 
-use controls::{
-    TO_ARRAY, TO_BLOCK, TO_CALL, TO_CLAUSES, TO_CONDITION, TO_DECLARATION, TO_FUNCTION, TO_HEAD,
-    TO_INDEX, TO_OBJECT, TO_PARAMETER, TO_PARENS, TO_TEST,
-};
+use controls::Closing;
 use machine::tokens;
 use segments::Segment;
 use tables::TreeRecord;
@@ -27,49 +24,41 @@ pub enum Found {
 }
 
 // The closer of a group that may be empty.
-fn empty_closer(closing: u32) -> Option<u32>
+fn empty_closer(closing: Closing) -> Option<u32>
     ensures { IfSome result (MayBeEmpty (inside_by closing)) }
 {
     match closing {
-        TO_CALL => Some(tokens::CLOSE_PAREN),
-        TO_PARAMETER => Some(tokens::CLOSE_PAREN),
-        TO_ARRAY => Some(tokens::CLOSE_BRACKET),
-        TO_OBJECT => Some(tokens::CLOSE_BRACE),
-        TO_BLOCK => Some(tokens::CLOSE_BRACE),
-        TO_DECLARATION => Some(tokens::CLOSE_BRACE),
-        TO_FUNCTION => Some(tokens::CLOSE_BRACE),
-        TO_CLAUSES => Some(tokens::CLOSE_BRACE),
+        Closing::Call | Closing::Parameter => Some(tokens::CLOSE_PAREN),
+        Closing::Array => Some(tokens::CLOSE_BRACKET),
+        Closing::Object | Closing::Clauses => Some(tokens::CLOSE_BRACE),
+        Closing::Block | Closing::Declaration | Closing::Function => Some(tokens::CLOSE_BRACE),
         _ => None,
     }
 }
 
 // The parentheses that may hold one operand alone.
-fn parens_hold(closing: u32) -> bool
+fn parens_hold(closing: Closing) -> bool
     ensures { result ≡ true → HoldsOperand (inside_by closing) close_paren }
 {
-    match closing {
-        TO_PARENS => true,
-        TO_CALL => true,
-        TO_CONDITION => true,
-        TO_HEAD => true,
-        TO_TEST => true,
-        _ => false,
-    }
+    matches!(
+        closing,
+        Closing::Parens | Closing::Call | Closing::Condition | Closing::Head | Closing::Test
+    )
 }
 
 // Whether one operand alone may stand in a group before its closer. The closer is told first: that took fewer instructions than one look
 // by what the group is.
-fn holds_operand(closing: u32, closer: u32) -> bool
+fn holds_operand(closing: Closing, closer: u32) -> bool
     ensures { result ≡ true → HoldsOperand (inside_by closing) closer }
 {
     if closer == tokens::CLOSE_PAREN {
         return parens_hold(closing);
     }
-    closer == tokens::CLOSE_BRACKET && (closing == TO_ARRAY || closing == TO_INDEX)
+    closer == tokens::CLOSE_BRACKET && matches!(closing, Closing::Array | Closing::Index)
 }
 
 // The one record inside a group, by its class as an operand: the only parameter, or an operand.
-fn alone(leaf: Option<u32>, closer: u32, closing: u32) -> Found
+fn alone(leaf: Option<u32>, closer: u32, closing: Closing) -> Found
     ensures { Lone leaf closer closing result }
 {
     let Some(class) = leaf else {
@@ -78,14 +67,17 @@ fn alone(leaf: Option<u32>, closer: u32, closing: u32) -> Found
     if holds_operand(closing, closer) {
         return Found::Operand(class);
     }
-    if closing == TO_PARAMETER && closer == tokens::CLOSE_PAREN && class == tokens::NAME {
+    if matches!(closing, Closing::Parameter)
+        && closer == tokens::CLOSE_PAREN
+        && class == tokens::NAME
+    {
         return Found::Nothing;
     }
     Found::NeedsLevel
 }
 
 // What stands inside a group, before its closer.
-pub fn look_inside(part: Segment, closer: u32, closing: u32) -> Found
+pub fn look_inside(part: Segment, closer: u32, closing: Closing) -> Found
     ensures { Fine (segment_of part.entry) → T (is_end closer) → FindsInside closer (segment_of part.entry) (inside_by closing) result }
 {
     if part.trees.len() == TreeRecord::WIDTH {

@@ -6,11 +6,11 @@ ghost use Rattle.std.specs.Prelude.{◌<◌};
 
 use tables::{SyntaxRecord, TreeRecord};
 
-// Room for one record more than 16,384, and a cell of a further one.
-pub const CELLS: usize = 81926;
+// Room for one record more than there may be, and a cell of a further one.
+pub const CELLS: usize = (TreeRecord::MOST + 1) * TreeRecord::WIDTH + 1;
 
-// Room for one syntax record more than 16,385, and a cell of a further one.
-pub const SYNTAX_CELLS: usize = 49159;
+// The same for syntax records.
+pub const SYNTAX_CELLS: usize = (SyntaxRecord::MOST + 1) * SyntaxRecord::WIDTH + 1;
 
 // The bytes of the array whose front is lent to the respacer.
 pub const BYTES: usize = 500;

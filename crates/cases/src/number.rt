@@ -24,10 +24,3 @@ fn value_of(digits: &[u8]) -> Option<usize> {
         (more <= LARGEST).then_some(more)
     })
 }
-
-// The byte of two hexadecimal digits.
-pub fn byte_of(high: u8, low: u8) -> Option<u8> {
-    let high = char::from(high).to_digit(16)?;
-    let low = char::from(low).to_digit(16)?;
-    u8::try_from(high * 16 + low).ok()
-}

@@ -51,7 +51,7 @@ impl Spelling {
                 Ok(rest)
             }
             [b'~', high, low, rest @ ..] => {
-                let byte = number::byte_of(*high, *low).ok_or(CaseError::Bad)?;
+                let byte = byte_of(*high, *low).ok_or(CaseError::Bad)?;
                 self.put(byte)?;
                 Ok(rest)
             }
@@ -101,4 +101,11 @@ fn extend(text: &mut Vec<u8>, bytes: &[u8]) -> Result<(), CaseError> {
     }
     text.extend_from_slice(bytes)?;
     Ok(())
+}
+
+// The byte of two hexadecimal digits.
+fn byte_of(high: u8, low: u8) -> Option<u8> {
+    let high = char::from(high).to_digit(16)?;
+    let low = char::from(low).to_digit(16)?;
+    u8::try_from(high * 16 + low).ok()
 }

@@ -2,9 +2,10 @@
 use mathlib.Core.Path.{◌≡◌, refl}
 use mathlib.Core.Bool.{Bool, true, false, not, ◌&&◌}
 use mathlib.Core.List.{List}
+use mathlib.Core.Logic.{◌⊎◌, inl, inr}
 use Prim.Native.Nat.{ℕ, ◌+◌, ◌-◌, ◌≤◌, ◌<◌}
 use native.Mathlib.Omega.{arith}
-use borrow.Author.Tests.{eq-eqb, ne_eqb}
+use borrow.Author.Tests.{eq-eqb}
 use lib.Dec.{T, eqb, eqb→eq, leb, leb→le}
 use lib.ListN.{length, get_or}
 use Rattle.text.proofs.Range.{and_left, and_right}
@@ -44,7 +45,6 @@ use Rattle.machine.specs.Machinery.Machine.{
   Setting,
   Control,
 }
-use Rattle.controls.specs.Machinery.Numbers.{effect_by}
 use Rattle.controls.specs.Machinery.Steps.{
   ended_operand,
   Started,
@@ -193,29 +193,10 @@ start_begins to_catch = tt
 start_begins to_finally = tt
 start_begins to_finally_behind = tt
 
--- the effects that have a number
-pub effect_kept : (effect class : ℕ) → (effect ≡ 1 → ⊥) → (effect ≡ 2 → ⊥) → (effect ≡ 3 → ⊥) → (effect ≡ 4 → ⊥) → (effect ≡ 5 → ⊥) → (effect ≡ 6 → ⊥)
-    → (effect ≡ 7 → ⊥) → (effect ≡ 8 → ⊥) → (effect ≡ 9 → ⊥) → (effect ≡ 10 → ⊥) → (effect ≡ 11 → ⊥) → (effect ≡ 12 → ⊥) → (effect ≡ 13 → ⊥)
-    → (effect ≡ 14 → ⊥) → (effect ≡ 15 → ⊥) → effect_by effect class ≡ keep
-unfolding effect_by
-effect_kept effect class a b d e f g h i j k m n o p q =
-    rw (
-      ne_eqb effect 1 a,
-      ne_eqb effect 2 b,
-      ne_eqb effect 3 d,
-      ne_eqb effect 4 e,
-      ne_eqb effect 5 f,
-      ne_eqb effect 6 g,
-      ne_eqb effect 7 h,
-      ne_eqb effect 8 i,
-      ne_eqb effect 9 j,
-      ne_eqb effect 10 k,
-      ne_eqb effect 11 m,
-      ne_eqb effect 12 n,
-      ne_eqb effect 13 o,
-      ne_eqb effect 14 p,
-      ne_eqb effect 15 q,
-    )
+-- of either of two
+pub by_either : {A B C : Type 0} → (A → C) → (B → C) → A ⊎ B → C
+by_either f g (inl a) = f a
+by_either f g (inr b) = g b
 
 module _ {l : Level} {stack : List Waiting} {cells : List ℕ} where
   pub leaf_affects : (class mark : ℕ) {r : Level} {cells' : List ℕ} → (r ≡ made_one l) × (cells' ≡ put_record cells l.count class mark (l.count - l.start + 1))

@@ -6,7 +6,7 @@ ghost use Rattle.machine.specs.Machinery.Machine.{end_expression, end_bare, end_
 ghost use Rattle.controls.specs.Machinery.Numbers.{effect_by};
 ghost use Rattle.frames.specs.Machinery.Effects.{MayAffect, Affects};
 
-use controls::{bindings, records};
+use controls::{Effect, bindings, records};
 use machine::tokens;
 use waiting::{Level, Waiting};
 
@@ -99,9 +99,8 @@ fn empty_ended(l: Level, mark: usize, waiting: &[Waiting], syntax: &mut [u32]) -
 }
 
 // What a token of a class does.
-#[tactic(auto, unfolding(controls::specs::Machinery::Numbers::effect_by))]
 pub fn affect(
-    effect: u32,
+    effect: Effect,
     class: u32,
     mark: usize,
     l: Level,
@@ -112,21 +111,20 @@ pub fn affect(
     ensures { Affects (effect_by effect class) mark l waiting.old syntax.old result waiting.new syntax.new }
 {
     match effect {
-        controls::TAKE_LEAF => l.made(class, mark, syntax),
-        controls::TAKE_MEMBER => l.made(records::MEMBER, mark, syntax),
-        controls::TAKE_OPERATOR => operated(l, class, mark, waiting, syntax),
-        controls::TAKE_LABEL => l.wait(records::LABEL, l.held, waiting),
-        controls::HOLD_WORD => l.holding(mark),
-        controls::HOLD_NAME => l.holding(mark),
-        controls::START_STATEMENT => l.wait(controls::start_kind(class), mark, waiting),
-        controls::END_EXPRESSION => expression_ended(l, mark, waiting, syntax),
-        controls::END_VALUE => l.completed(waiting, syntax),
-        controls::END_BARE => bare_ended(l, waiting, syntax),
-        controls::TAKE_PREFIX => prefixed(l, class, mark, waiting, syntax),
-        controls::TAKE_POSTFIX => postfixed(l, class, mark, waiting, syntax),
-        controls::END_EMPTY => empty_ended(l, mark, waiting, syntax),
-        controls::END_VARIABLE => variable_ended(l, waiting, syntax),
-        controls::TAKE_ELSE => other_started(l, mark, waiting, syntax),
-        _ => l,
+        Effect::Keep => l,
+        Effect::TakeLeaf => l.made(class, mark, syntax),
+        Effect::TakeMember => l.made(records::MEMBER, mark, syntax),
+        Effect::TakeOperator => operated(l, class, mark, waiting, syntax),
+        Effect::TakeLabel => l.wait(records::LABEL, l.held, waiting),
+        Effect::HoldWord | Effect::HoldName => l.holding(mark),
+        Effect::StartStatement => l.wait(controls::start_kind(class), mark, waiting),
+        Effect::EndExpression => expression_ended(l, mark, waiting, syntax),
+        Effect::EndValue => l.completed(waiting, syntax),
+        Effect::EndBare => bare_ended(l, waiting, syntax),
+        Effect::TakePrefix => prefixed(l, class, mark, waiting, syntax),
+        Effect::TakePostfix => postfixed(l, class, mark, waiting, syntax),
+        Effect::EndEmpty => empty_ended(l, mark, waiting, syntax),
+        Effect::EndVariable => variable_ended(l, waiting, syntax),
+        Effect::TakeElse => other_started(l, mark, waiting, syntax),
     }
 }

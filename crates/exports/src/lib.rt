@@ -1,4 +1,5 @@
-// The calls for programs in other languages. A slice is passed as a pointer and a length.
+// The calls for programs in other languages, as `include` declares them: names, slices and the packed answer are the C interface. A slice is
+// passed as a pointer and a length.
 #![tactic(auto)]
 
 ghost use Rattle.reading.specs.Read.{Reads};

@@ -1,3 +1,4 @@
+pub mod NumberLaws
 pub mod CloseLaws
 pub mod CarryLaws
 pub mod AtLaws

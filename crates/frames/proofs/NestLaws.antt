@@ -16,10 +16,13 @@ use Rattle.controls.specs.Machinery.Numbers.{setting_by, control_by, control_of,
 use Rattle.controls.specs.Machinery.Steps.{Enters, enters_if, enters_do, enters_try, enters_case, enters_last_case, enters_default}
 use Rattle.controls.specs.declared.Control as code
 use Rattle.controls.specs.Machinery.Written.{put_record}
+use Rattle.controls.specs.declared.Setting as codes
+use Rattle.controls.specs.declared.Nest as opened
+use Rattle.controls.specs.declared.Nest.TheVariants as kinds
 use Rattle.waiting.specs.Machinery.Waiting.{Completes, stack_with, stack_as, waiting_one, made_one, with_held, restarted}
 use Rattle.waiting.specs.declared.Level.{Level}
 use Rattle.waiting.specs.declared.Waiting.{Waiting}
-use Rattle.frames.specs.Machinery.Stands.{InNest, in-nest, InNumbered, nest_in, owed, Stands}
+use Rattle.frames.specs.Machinery.Stands.{InNest, in-nest, InNumbered, of_clause, nest_in, owed, Stands}
 use Rattle.frames.specs.Machinery.Effects.{of_parameter, Heads, Moved, Leaving, leaving_statement, leaving_catch, leaving_try, leaving_case, leaving_default, leaving_clauses}
 use Rattle.frames.proofs.CloseLaws.{reduce_wraps}
 use Rattle.frames.proofs.CarryLaws.{Carries, carried, stands, closes_lightens, carries_word, carries_made, carries_nest, carries_headed, carries_expression, carries_statement, completes_lightens, left-one, left_all, Around, carries_around}
@@ -59,21 +62,17 @@ pub name_takes : (setting : Setting) (g : Frame) (around : List machine.Open) (c
 name_takes setting g around class spot u other = rw (ne_eqb class colon other)
 
 -- what stands where a nest starts
-entered : {nests : List machine.Open} {table : List ℕ} {stack₀ : List Waiting} {first floor passed : ℕ} {l : Level} {stack : List Waiting} {cells : List ℕ} (nest mark : ℕ) → InNest nests → l.held ≡ mark
+entered : {nests : List machine.Open} {table : List ℕ} {stack₀ : List Waiting} {first floor passed : ℕ} {l : Level} {stack : List Waiting} {cells : List ℕ} (nest : opened.Nest) (mark : ℕ) → InNest nests → l.held ≡ mark
     → Carries nests table stack₀ first floor nil [] [] nil l stack cells → l.count + l.top ≤ first + floor + passed → first + floor + passed ≤ most_trees
     → Stands (entered_by nest) (machine.affect (worded_by nest) mark empty) nests table stack₀ first floor passed l stack cells
-unfolding entered_by worded_by
-entered {nests = nests} {table = table} {stack₀ = stack₀} {first = first} {floor = floor} {passed = passed} {l = l} {stack = stack} {cells = cells} nest mark inside word h passes few =
-    go (eqb nest 0) (eqb nest 1) (eqb nest 2)
-  where
-    go : (a b d : Bool) → Stands (cond a if_first (cond b (statement_due true (in_nest do_nest)) (cond d try_first (statement_due false in_clause)))) (machine.affect (cond a hold_word keep) mark empty) nests table stack₀ first floor passed l stack cells
-    go true b d = stands (held_word mark) h (refl, refl, refl, inside) (rw word) (omega arith) few
-    go false true d = stands nil h (refl, refl, (refl, inside)) tt (omega arith) few
-    go false false true = stands nil h (refl, refl, inside) tt (omega arith) few
-    go false false false = stands nil h (refl, refl, refl, inside) tt (omega arith) few
+entered kinds.If mark inside word h passes few = stands (held_word mark) h (refl, refl, refl, inside) (rw word) (omega arith) few
+entered kinds.Do mark inside word h passes few = stands nil h (refl, refl, (refl, inside)) tt (omega arith) few
+entered kinds.Try mark inside word h passes few = stands nil h (refl, refl, inside) tt (omega arith) few
+entered kinds.Clause mark inside word h passes few = stands nil h (refl, refl, refl, inside) tt (omega arith) few
+entered kinds.LastClause mark inside word h passes few = stands nil h (refl, refl, refl, inside) tt (omega arith) few
 
 -- the frame around a nest that is opened
-pub record Outside (nest setting : ℕ) (f : Frame) (nests : List machine.Open) (table : List ℕ) (stack₀ : List Waiting) (first floor passed : ℕ) (l r : Level) (stack : List Waiting) (cells : List ℕ) : Type 0 where
+pub record Outside (nest : opened.Nest) (setting : codes.Setting) (f : Frame) (nests : List machine.Open) (table : List ℕ) (stack₀ : List Waiting) (first floor passed : ℕ) (l r : Level) (stack : List Waiting) (cells : List ℕ) : Type 0 where
   pub done : Syntax
   pub starts : List Pending
   pub is : f ≡ frame done starts [] nil
@@ -83,56 +82,54 @@ pub record Outside (nest setting : ℕ) (f : Frame) (nests : List machine.Open) 
   pub lower : r.top ≤ l.top
 
 module _ {g : Frame} {nests : List machine.Open} {table : List ℕ} {stack₀ : List Waiting} {first floor passed : ℕ} {l r : Level} {stack : List Waiting} {cells after : List ℕ} where
-  statement_outside : {nest : ℕ} (setting mark : ℕ) → nest < 3 → Heads nest l stack cells r after → AtStatement (setting_by setting) g nests table stack₀ first floor passed l stack cells
+  statement_outside : {nest : opened.Nest} (setting : codes.Setting) (mark : ℕ) → of_clause nest ≡ false → outside_by nest ≡ keep → Heads nest l stack cells r after → AtStatement (setting_by setting) g nests table stack₀ first floor passed l stack cells
       → Outside nest setting (machine.affect (outside_by nest) mark g) nests table stack₀ first floor passed l r stack after
-  unfolding outside_by
-  statement_outside {nest = nest} setting mark less heads h =
+  statement_outside setting mark less keeps heads h =
       let e = heads.other less in
-      rw (e.0, e.1, lt-ltb nest 3 less)
+      rw (e.0, e.1, keeps)
       (record {
         done = h.done;
         starts = h.starts;
         is = h.is;
-        within = record { in-statement = λ few. h.within; in_clauses = λ many. absurd (omega arith) };
+        within = record { in-statement = λ few. h.within; in_clauses = λ many. absurd (let q : ◌≡◌ {A = Bool} false true = sym less ∙ many in let z : ◌≡◌ {A = ℕ} 0 1 = cc in omega arith) };
         carries = h.carries;
         passes = h.passes;
         lower = omega arith;
       })
 
   -- behind the head of a clause
-  head_outside : {nest : ℕ} {seen : Bool} (setting mark : ℕ) → 3 ≤ nest → Heads nest l stack cells r after → AtEnded (by_case seen) g nests table stack₀ first floor passed l stack cells
+  head_outside : {nest : opened.Nest} {seen : Bool} (setting : codes.Setting) (mark : ℕ) → of_clause nest ≡ true → outside_by nest ≡ end_head → Heads nest l stack cells r after → AtEnded (by_case seen) g nests table stack₀ first floor passed l stack cells
       → Outside nest setting (machine.affect (outside_by nest) mark g) nests table stack₀ first floor passed l r stack after
-  unfolding outside_by
-  head_outside {nest = nest} setting mark many heads e =
+  head_outside setting mark many ends heads e =
       let k = heads.clause many in
       let b = e.within.0 in
       let light = closes_lightens _ e.carries.holds k.same_floor k.closes in
-      rw (k.is, le-ltb nest 3 many)
+      rw (k.is, ends)
       (record {
         done = e.done;
         starts = pending b.kind b.mark (wrap e.waiting e.operand) ∷ b.before;
         is = ap (machine.affect end_head mark) e.is ∙ ap complete_head (reduce_wraps e.done e.starts e.waiting e.operand) ∙ rw b.is;
-        within = record { in-statement = λ few. absurd (omega arith); in_clauses = λ more. e.within.1 };
+        within = record { in-statement = λ few. absurd (let q : ◌≡◌ {A = Bool} true false = sym many ∙ few in let z : ◌≡◌ {A = ℕ} 0 1 = cc in omega arith); in_clauses = λ more. e.within.1 };
         carries = carries_headed (rw b.is at (carries_expression e.carries k.same_floor k.same_held k.closes));
         passes = omega (arith, light, e.passes);
         lower = omega (arith, light);
       })
 
-  pub outside : {nest : ℕ} {from : Control} (setting mark : ℕ) → Heads nest l stack cells r after → Enters nest (setting_by setting) from
+  pub outside : {nest : opened.Nest} {from : Control} (setting : codes.Setting) (mark : ℕ) → Heads nest l stack cells r after → Enters nest (setting_by setting) from
       → Stands from g nests table stack₀ first floor passed l stack cells
       → Outside nest setting (machine.affect (outside_by nest) mark g) nests table stack₀ first floor passed l r stack after
   outside {nest = nest} {from = from} setting mark heads opens s = go setting from heads opens s
     where
-      go : {nest : ℕ} (setting : ℕ) (from : Control) → Heads nest l stack cells r after → Enters nest (setting_by setting) from
+      go : {nest : opened.Nest} (setting : codes.Setting) (from : Control) → Heads nest l stack cells r after → Enters nest (setting_by setting) from
           → Stands from g nests table stack₀ first floor passed l stack cells
           → Outside nest setting (machine.affect (outside_by nest) mark g) nests table stack₀ first floor passed l r stack after
-      go setting _ heads enters_if s = statement_outside setting mark (omega arith) heads (at_statement s)
-      go setting _ heads enters_do s = statement_outside setting mark (omega arith) heads (at_statement s)
-      go setting _ heads enters_try s = statement_outside setting mark (omega arith) heads (at_statement s)
-      go setting _ heads (enters_case ended) s = head_outside setting mark (omega arith) heads (at_ended ended s)
-      go setting _ heads (enters_last_case ended) s = head_outside setting mark (omega arith) heads (at_ended ended s)
+      go setting _ heads enters_if s = statement_outside setting mark refl refl heads (at_statement s)
+      go setting _ heads enters_do s = statement_outside setting mark refl refl heads (at_statement s)
+      go setting _ heads enters_try s = statement_outside setting mark refl refl heads (at_statement s)
+      go setting _ heads (enters_case ended) s = head_outside setting mark refl refl heads (at_ended ended s)
+      go setting _ heads (enters_last_case ended) s = head_outside setting mark refl refl heads (at_ended ended s)
       go setting _ heads enters_default s =
-          head_outside {seen = true} setting mark (omega arith) heads
+          head_outside {seen = true} setting mark refl refl heads
           (record {
             done = s.done;
             starts = s.starts;
@@ -144,74 +141,58 @@ module _ {g : Frame} {nests : List machine.Open} {table : List ℕ} {stack₀ : 
             passes = omega (arith, s.passes);
           })
 
-  pub enters : {from : Control} (nest setting mark : ℕ) → first + floor + passed < most_trees → nest ≤ 4 → setting ≤ 5 → mark ≤ most_trees → l.top < length stack
+  pub enters : {from : Control} (nest : opened.Nest) (setting : codes.Setting) (mark : ℕ) → first + floor + passed < most_trees → mark ≤ most_trees → l.top < length stack
       → Heads nest l stack cells r after → Enters nest (setting_by setting) from → Stands from g nests table stack₀ first floor passed l stack cells
       → Stands (entered_by nest) (machine.affect (worded_by nest) mark empty) (nested (behind_by nest (setting_by setting)) (left_by nest) mark (machine.affect (outside_by nest) mark g) ∷ nests) table stack₀ first floor (passed + 1)
       (with_held mark (waiting_one r)) (stack_with stack r.top (nest_in nest setting) mark r.start) after
-  enters nest setting mark more one few small fits heads opens s =
+  enters nest setting mark more small fits heads opens s =
       let h = outside setting mark heads opens s in
       let p = h.passes in
       rw h.is
-      (entered nest mark in-nest refl (carries_word (carries_nest nest setting mark h.carries h.within one few (omega arith) small (omega (arith, h.lower))) mark small) (omega arith) (omega arith))
+      (entered nest mark in-nest refl (carries_word (carries_nest nest setting mark h.carries h.within (omega arith) small (omega (arith, h.lower))) mark small) (omega arith) (omega arith))
 
 -- where the machine stands behind a nest
-module _ (nest : ℕ) (setting : Setting) where
-  nest-kind : of_parameter (behind_by nest setting) ≡ false
-  unfolding behind_by
-  nest-kind = go (eqb nest 1) (ltb nest 3)
-    where
-      go : (a b : Bool) → of_parameter (cond a (body_done setting) (cond b (behind_statement setting) (clause_due (eqb nest 4)))) ≡ false
-      go true b = refl
-      go false true = behind_kind setting
-      go false false = refl
+nest-kind : (nest : opened.Nest) (setting : Setting) → of_parameter (behind_by nest setting) ≡ false
+nest-kind kinds.If setting = behind_kind setting
+nest-kind kinds.Do setting = refl
+nest-kind kinds.Try setting = behind_kind setting
+nest-kind kinds.Clause setting = refl
+nest-kind kinds.LastClause setting = refl
 
-  pub nest_owes : owed (behind_by nest setting) ≡ 0
-  unfolding behind_by
-  nest_owes = go (eqb nest 1) (ltb nest 3)
-    where
-      behind_owes : (s : Setting) → owed (behind_statement s) ≡ 0
-      behind_owes (machine.among scope) = refl
-      behind_owes in_clause = refl
-      behind_owes (in_nest n) = refl
+behind_owes : (s : Setting) → owed (behind_statement s) ≡ 0
+behind_owes (machine.among scope) = refl
+behind_owes in_clause = refl
+behind_owes (in_nest n) = refl
 
-      go : (a b : Bool) → owed (cond a (body_done setting) (cond b (behind_statement setting) (clause_due (eqb nest 4)))) ≡ 0
-      go true b = refl
-      go false true = behind_owes setting
-      go false false = refl
+pub nest_owes : (nest : opened.Nest) (setting : Setting) → owed (behind_by nest setting) ≡ 0
+nest_owes kinds.If setting = behind_owes setting
+nest_owes kinds.Do setting = refl
+nest_owes kinds.Try setting = behind_owes setting
+nest_owes kinds.Clause setting = refl
+nest_owes kinds.LastClause setting = refl
 
-module _ (nest setting : ℕ) {done : Syntax} {nests : List machine.Open} where
-  nest_behind : (nest ≡ 1 → ⊥) → InNumbered nest setting done nests → Behind done nests (behind_by nest (setting_by setting))
-  unfolding behind_by
-  nest_behind other within = rw (ne_eqb nest 1 other) (go (ltb nest 3) refl)
-    where
-      go : (b : Bool) → ltb nest 3 ≡ b → Behind done nests (cond b (behind_statement (setting_by setting)) (clause_due (eqb nest 4)))
-      go true e = behind-statement (setting_by setting) (within.in-statement (ltb-true nest 3 e))
-      go false e = behind_clause (within.in_clauses (ltb-false nest 3 e))
-
-pub statement_behind : (nest setting : ℕ) → (nest ≡ 1 → ⊥) → nest < 3 → behind_by nest (setting_by setting) ≡ behind_statement (setting_by setting)
-unfolding behind_by
-statement_behind nest setting other less = rw (ne_eqb nest 1 other, lt-ltb nest 3 less)
-
-pub clause_behind : (nest setting : ℕ) → 3 ≤ nest → behind_by nest (setting_by setting) ≡ control_by 24 8 2 (eqb nest 4)
-unfolding behind_by control_by
-clause_behind nest setting many = rw (ne_eqb nest 1 (λ e. omega arith), le-ltb nest 3 many)
-
-pub do_behind : (setting : Setting) → behind_by 1 setting ≡ body_done setting
-unfolding behind_by
-do_behind setting = refl
+nest_behind : (nest : opened.Nest) (setting : codes.Setting) {done : Syntax} {nests : List machine.Open} → (nest ≡ kinds.Do → ⊥) → InNumbered nest setting done nests
+    → Behind done nests (behind_by nest (setting_by setting))
+nest_behind kinds.If setting other within = behind-statement (setting_by setting) (within.in-statement refl)
+nest_behind kinds.Do setting other within = absurd (other refl)
+nest_behind kinds.Try setting other within = behind-statement (setting_by setting) (within.in-statement refl)
+nest_behind kinds.Clause setting other within = behind_clause (within.in_clauses refl)
+nest_behind kinds.LastClause setting other within = behind_clause (within.in_clauses refl)
 
 -- what a nest does when it is left
-module _ (nest mark : ℕ) (value done : Syntax) (starts : List Pending) where
-  pub plain_closes : (nest ≡ 1 → ⊥) → (nest ≡ 2 → ⊥) → machine.close (left_by nest) mark value (frame done starts [] nil) ≡ frame (snoc done (wrap starts value)) [] [] nil
-  unfolding left_by
-  plain_closes no-do no_try = rw (ne_eqb nest 1 no-do, ne_eqb nest 2 no_try)
+pub plain_closes : (nest : opened.Nest) (mark : ℕ) (value done : Syntax) (starts : List Pending) → (nest ≡ kinds.Do → ⊥) → (nest ≡ kinds.Try → ⊥)
+    → machine.close (left_by nest) mark value (frame done starts [] nil) ≡ frame (snoc done (wrap starts value)) [] [] nil
+plain_closes kinds.If mark value done starts no-do no_try = refl
+plain_closes kinds.Do mark value done starts no-do no_try = absurd (no-do refl)
+plain_closes kinds.Try mark value done starts no-do no_try = absurd (no_try refl)
+plain_closes kinds.Clause mark value done starts no-do no_try = refl
+plain_closes kinds.LastClause mark value done starts no-do no_try = refl
 
-  pub do_closes : nest ≡ 1 → machine.close (left_by nest) mark value (frame done starts [] nil) ≡ frame done (pending do_word mark value ∷ starts) [] nil
-  unfolding left_by
+module _ (nest : opened.Nest) (mark : ℕ) (value done : Syntax) (starts : List Pending) where
+  pub do_closes : nest ≡ kinds.Do → machine.close (left_by nest) mark value (frame done starts [] nil) ≡ frame done (pending do_word mark value ∷ starts) [] nil
   do_closes e = rw e
 
-  pub try_closes : nest ≡ 2 → machine.close (left_by nest) mark value (frame done starts [] nil) ≡ frame (snoc done (wrap starts (node try_word mark value nil))) [] [] nil
-  unfolding left_by
+  pub try_closes : nest ≡ kinds.Try → machine.close (left_by nest) mark value (frame done starts [] nil) ≡ frame (snoc done (wrap starts (node try_word mark value nil))) [] [] nil
   try_closes e = rw e
 
 module _ {g : Frame} {nests : List machine.Open} {table : List ℕ} {stack₀ : List Waiting} {first floor passed : ℕ} {l : Level} {stack : List Waiting} {cells : List ℕ} where
@@ -233,7 +214,7 @@ module _ {g : Frame} {nests : List machine.Open} {table : List ℕ} {stack₀ : 
   module _ {class : ℕ} {from : Control} {kind : Value} (leaving : Leaving class from kind) (s : Stands from g nests table stack₀ first floor passed l stack cells)
       (a : Around nests table stack₀ first floor (value_of kind g) l stack cells) {c : code.Control} (behinds : control_of c ≡ behind_by a.nest (setting_by a.setting)) where
     -- a statement, a clause or a `try` is complete in what stands around
-    pub left_complete : {r all : Level} {last : Syntax} {cells₁ cells' : List ℕ} → (a.nest ≡ 1 → ⊥)
+    pub left_complete : {r all : Level} {last : Syntax} {cells₁ cells' : List ℕ} → (a.nest ≡ kinds.Do → ⊥)
         → machine.close (left_by a.nest) a.mark (value_of kind g) (frame a.done a.starts [] nil) ≡ frame (snoc a.done (wrap a.starts last)) [] [] nil
         → Carries a.rest table stack₀ first floor a.done a.starts [] last r stack cells₁ → r.count + r.top ≤ l.count + l.top → Completes r stack cells₁ all cells'
         → Moved from class g nests table stack₀ first floor passed (record { control = c; level = all }) stack cells'
@@ -248,11 +229,11 @@ module _ {g : Frame} {nests : List machine.Open} {table : List ℕ} {stack₀ : 
           takes = nest_takes g (frame a.done a.starts [] nil) nests a.rest leaving a.is behinds closes;
         }
 
-    pub left_do : a.nest ≡ 1 → Moved from class g nests table stack₀ first floor passed (record { control = c; level = restarted l }) (stack_as stack l.top do_word) cells
+    pub left_do : a.nest ≡ kinds.Do → Moved from class g nests table stack₀ first floor passed (record { control = c; level = restarted l }) (stack_as stack l.top do_word) cells
     left_do one =
         let p = leaving_passes leaving s in
-        let body : control_of c ≡ body_done (setting_by a.setting) = behinds ∙ rw one (do_behind (setting_by a.setting)) in
-        let less = a.within.in-statement (omega (arith, one)) in
+        let body : control_of c ≡ body_done (setting_by a.setting) = behinds ∙ rw one in
+        let less = a.within.in-statement (rw one) in
         record {
           frame_then = frame a.done (pending do_word a.mark (value_of kind g) ∷ a.starts) [] nil;
           nests_then = a.rest;

@@ -123,6 +123,8 @@ use Rattle.controls.specs.Machinery.Steps.{
   ends_clauses,
   ends_caught,
 }
+use Rattle.controls.specs.declared.Closing as closings
+use Rattle.controls.specs.declared.Closing.TheVariants as group
 use Rattle.frames.specs.Machinery.Effects.{of_parameter, IsValue, is_popped}
 
 due_kind : {from : Control} {ending : Ending} {target : Target} → Due from ending target → false ≡ of_parameter from
@@ -247,44 +249,10 @@ spans_kind past_declaration = refl
 spans_kind past_function = refl
 
 -- where it starts, and its value: no other group is one of parameters
-data Plain (inside : Bool) : Closing → Type 0 where
-  plain : {closing : Closing} → (closing ≡ to_parameter → inside ≡ true) → Plain inside closing
-
-either : {inside : Bool} (b : Bool) {x y : Closing} → (b ≡ true → Plain inside x) → Plain inside y → Plain inside (cond b x y)
-either true u v = u refl
-either false u v = v
-
-plain_inside : {inside : Bool} {closing : Closing} → Plain inside closing → closing ≡ to_parameter → inside ≡ true
-plain_inside (plain h) = h
-
-parameter_first : (closing : ℕ) → closing ≡ 4 → of_parameter (inside_by closing) ≡ true
-unfolding inside_by
-parameter_first closing e = rw e
-
-caught_first : (closing : ℕ) → closing ≡ 14 → of_parameter (inside_by closing) ≡ true
-unfolding inside_by
-caught_first closing e = rw e
-
-pub parameter_inside : (closing : ℕ) → closing_by closing ≡ to_parameter → of_parameter (inside_by closing) ≡ true
-unfolding closing_by
-parameter_inside closing =
-    plain_inside
-    (either (eqb closing 0) (λ b. plain (λ e. absurd (let z : ◌≡◌ {A = ℕ} 0 1 = cc in omega arith)))
-    (either (eqb closing 1) (λ b. plain (λ e. absurd (let z : ◌≡◌ {A = ℕ} 0 1 = cc in omega arith)))
-    (either (eqb closing 2) (λ b. plain (λ e. absurd (let z : ◌≡◌ {A = ℕ} 0 1 = cc in omega arith)))
-    (either (eqb closing 3) (λ b. plain (λ e. absurd (let z : ◌≡◌ {A = ℕ} 0 1 = cc in omega arith)))
-    (either (eqb closing 4) (λ b. plain (λ e. parameter_first closing (eqb-true closing 4 b)))
-    (either (eqb closing 5) (λ b. plain (λ e. absurd (let z : ◌≡◌ {A = ℕ} 0 1 = cc in omega arith)))
-    (either (eqb closing 6) (λ b. plain (λ e. absurd (let z : ◌≡◌ {A = ℕ} 0 1 = cc in omega arith)))
-    (either (eqb closing 7) (λ b. plain (λ e. absurd (let z : ◌≡◌ {A = ℕ} 0 1 = cc in omega arith)))
-    (either (eqb closing 8) (λ b. plain (λ e. absurd (let z : ◌≡◌ {A = ℕ} 0 1 = cc in omega arith)))
-    (either (eqb closing 10) (λ b. plain (λ e. absurd (let z : ◌≡◌ {A = ℕ} 0 1 = cc in omega arith)))
-    (either (eqb closing 11) (λ b. plain (λ e. absurd (let z : ◌≡◌ {A = ℕ} 0 1 = cc in omega arith)))
-    (either (eqb closing 12) (λ b. plain (λ e. absurd (let z : ◌≡◌ {A = ℕ} 0 1 = cc in omega arith)))
-    (either (eqb closing 13) (λ b. plain (λ e. absurd (let z : ◌≡◌ {A = ℕ} 0 1 = cc in omega arith)))
-    (either (eqb closing 14) (λ b. plain (λ e. caught_first closing (eqb-true closing 14 b)))
-    (either (eqb closing 15) (λ b. plain (λ e. absurd (let z : ◌≡◌ {A = ℕ} 0 1 = cc in omega arith)))
-    (plain (λ e. absurd (let z : ◌≡◌ {A = ℕ} 0 1 = cc in omega arith))))))))))))))))))
+pub parameter_inside : (closing : closings.Closing) → closing_by closing ≡ to_parameter → of_parameter (inside_by closing) ≡ true
+parameter_inside group.Parameter e = refl
+parameter_inside group.Catch e = refl
+parameter_inside _ e = absurd (let z : ◌≡◌ {A = ℕ} 0 1 = cc in omega arith)
 
 pub parameter_value : {class : ℕ} {c : Control} {action : Action} {g : Frame} {value : Syntax} → Ends class c true action → of_parameter c ≡ true → IsValue action g value → value ≡ nil
 parameter_value ends_statements e is = let z : ◌≡◌ {A = ℕ} 0 1 = cc in absurd (omega arith)

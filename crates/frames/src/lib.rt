@@ -2,12 +2,13 @@
 // token, and at the level's end.
 #![tactic(auto)]
 
-ghost use Rattle.std.specs.Prelude.{◌≡◌, List, ◌≤◌};
+ghost use Rattle.std.specs.Prelude.{◌≡◌, List};
+ghost use Rattle.controls.specs.declared.Nest.TheVariants.{Do};
 ghost use Rattle.controls.specs.Machinery.Numbers.{setting_by, control_of, behind_by};
 ghost use Rattle.waiting.specs.Machinery.Waiting.{Backed};
 ghost use Rattle.frames.specs.Machinery.Effects.{StandsSomewhere, ends_clause, is_done, MayLeaveOne, Leaves, MayLeave, MayName, Names, Readies, EndsLevel};
 
-use controls::Control;
+use controls::{Control, Ending, Nest, Place, Setting};
 use machine::tokens;
 use waiting::{Level, Waiting};
 
@@ -19,19 +20,14 @@ pub struct Standing {
 }
 
 // Where the machine stands behind a nest.
-fn behind_nest(nest: u32, setting: u32) -> Control
-    ensures { nest ≤ 4 → (nest ≡ 1 → ⊥) → control_of result ≡ behind_by nest (setting_by setting) }
+fn behind_nest(nest: Nest, setting: Setting) -> Control
+    ensures { (nest ≡ Do → ⊥) → control_of result ≡ behind_by nest (setting_by setting) }
 {
-    if nest < controls::OF_CLAUSE {
-        return controls::behind_statement(setting);
+    match nest {
+        Nest::If | Nest::Do | Nest::Try => controls::behind_statement(setting),
+        Nest::Clause => controls::stand(Place::ClauseDue, Ending::Case, Setting::Clause, false),
+        Nest::LastClause => controls::stand(Place::ClauseDue, Ending::Case, Setting::Clause, true),
     }
-    let seen = nest == controls::OF_LAST_CLAUSE;
-    controls::stand(
-        controls::CLAUSE_DUE,
-        controls::BY_CASE,
-        controls::CLAUSE,
-        seen,
-    )
 }
 
 // Leaves the nest that is done: the statement of a `do` waits for its test; an `if`, a `try` or a clause is complete in what stands around.
@@ -41,26 +37,28 @@ fn left(l: Level, waiting: &mut [Waiting], syntax: &mut [u32]) -> Standing
 {
     let part = waiting[l.top - 1];
     let number = u32::from(part.kind) - waiting::NEST;
-    let nest = number / waiting::SETTINGS;
-    let setting = number % waiting::SETTINGS;
-    if nest == controls::OF_DO {
-        return Standing {
-            control: controls::stand(controls::BODY_DONE, controls::BY_STATEMENT, setting, true),
+    let nest = Nest::numbered(number / waiting::SETTINGS);
+    let setting = Setting::numbered(number % waiting::SETTINGS);
+    match nest {
+        Nest::Do => Standing {
+            control: controls::stand(Place::BodyDone, Ending::Statement, setting, true),
             level: l.joined(tokens::DO, waiting),
-        };
-    }
-    let control = behind_nest(nest, setting);
-    let around = l.popped(waiting);
-    if nest == controls::OF_TRY {
-        let one = around.made(tokens::TRY, usize::from(part.mark), syntax);
-        return Standing {
-            control,
-            level: one.completed(waiting, syntax),
-        };
-    }
-    Standing {
-        control,
-        level: around.completed(waiting, syntax),
+        },
+        Nest::Try => {
+            let around = l.popped(waiting);
+            let one = around.made(tokens::TRY, usize::from(part.mark), syntax);
+            Standing {
+                control: controls::behind_statement(setting),
+                level: one.completed(waiting, syntax),
+            }
+        }
+        _ => {
+            let around = l.popped(waiting);
+            Standing {
+                control: behind_nest(nest, setting),
+                level: around.completed(waiting, syntax),
+            }
+        }
     }
 }
 
@@ -76,14 +74,11 @@ fn ends_clause(class: u32) -> bool
 fn is_done(at: Control, class: u32) -> bool
     ensures { result ≡ is_done at class }
 {
-    let place = at.place;
-    if controls::CLAUSE_STATEMENT <= place {
-        return ends_clause(class);
-    }
-    match place {
-        controls::STATEMENT_DONE => class != tokens::ELSE || at.setting != controls::IF_NEST,
-        controls::CATCH_DONE => class != tokens::FINALLY,
-        controls::TRY_ENDED => true,
+    match at.place {
+        Place::StatementDone => class != tokens::ELSE || !matches!(at.setting, Setting::IfNest),
+        Place::CatchDone => class != tokens::FINALLY,
+        Place::TryEnded => true,
+        Place::ClauseStatement => ends_clause(class),
         _ => false,
     }
 }
@@ -116,8 +111,8 @@ fn named(at: Control, l: Level, syntax: &mut [u32]) -> Standing
 {
     Standing {
         control: controls::stand(
-            controls::OPERAND_DONE,
-            controls::BY_STATEMENT,
+            Place::OperandDone,
+            Ending::Statement,
             at.setting,
             true,
         ),
@@ -163,23 +158,23 @@ pub fn ready(
     ensures { Readies at class l waiting.old syntax.old result waiting.new syntax.new }
 {
     // Only where a nest may be done, and behind a name that a statement starts with, is there something to do.
-    if at.place < controls::STATEMENT_DONE {
-        return Standing {
+    match at.place {
+        Place::StatementDone | Place::CatchDone | Place::TryEnded | Place::ClauseStatement => {
+            let s = left_all(
+                controls::copied(at),
+                class,
+                waiting::copied(l),
+                waiting,
+                syntax,
+            );
+            copied(s)
+        }
+        Place::NameFirst => name_ready(at, class, l, syntax),
+        _ => Standing {
             control: at,
             level: l,
-        };
+        },
     }
-    if at.place == controls::NAME_FIRST {
-        return name_ready(at, class, l, syntax);
-    }
-    let s = left_all(
-        controls::copied(at),
-        class,
-        waiting::copied(l),
-        waiting,
-        syntax,
-    );
-    copied(s)
 }
 
 // A level's end: nothing waits any more.

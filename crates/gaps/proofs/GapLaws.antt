@@ -1,13 +1,13 @@
 -- Laws of gaps and comments at a place of the text: one for each way that a byte is taken.
-use Rattle.std.specs.Prelude.{Err, IfOk, IsErrAnd, Result, Ok, Option, Some, None}
-use mathlib.Core.Path.{◌≡◌, refl, sym, ap, ◌∙◌}
+use Rattle.std.specs.Prelude.{Err, IsErrAnd, Result, Ok}
+use mathlib.Core.Path.{◌≡◌, refl, ap, ◌∙◌}
 use mathlib.Core.List.{List, ◌∷◌}
-use mathlib.Core.Bool.{Bool, true, false, ◌||◌}
+use mathlib.Core.Bool.{Bool, true, false, ◌||◌, or-true, or-false}
 use Prim.Native.Nat.{ℕ, ◌+◌, ◌<◌, ◌≤◌}
 use native.Mathlib.Omega.{arith}
-use borrow.Author.Tests.{eq-eqb, ne_eqb, eqb-true, ltb-true, ltb-false}
+use borrow.Author.Tests.{eq-eqb, ne_eqb, eqb-true, eqb-false, ltb-true, ltb-false}
 use lib.Dec.{eqb, ltb}
-use lib.ListN.{length, get_or, drop, drop_of_length-le, get_or-eq_default}
+use lib.ListN.{length, get_or, drop, drop_of_length-le}
 use Rattle.text.specs.Quoted.{byte}
 use Rattle.text.specs.Bytes.{blank, line_end, illegal}
 use Rattle.text.specs.Machinery.Codes.{turning, code_of, code_over}
@@ -16,8 +16,6 @@ use Rattle.text.proofs.Lists.{drop_at}
 use Rattle.text.proofs.CodeLaws.{code_passed, code_line_end, code_illegal, code_apart, over_passed}
 use Rattle.answers.specs.declared.faults.Fault.{Fault}
 use Rattle.gaps.specs.Gaps.{ends, gap, after_slash, in_line, in_block}
-use Rattle.gaps.specs.declared.Gap.{Gap}
-use Rattle.gaps.specs.Machinery.Comments.{resumed}
 
 -- a line end is no blank, and no `*`
 pub line_end_cases : (P : ℕ → Type 0) (b : ℕ) → P 0x0A → P 0x0D → line_end b ≡ true → P b
@@ -176,11 +174,6 @@ module _ (slash : ℕ) (s : List ℕ) (i : ℕ) (newline : Bool) (h : i < length
   pub block_star : (get_or s (i + 1) 0 ≡ byte "/" → ⊥) → in_block slash i newline false (drop i s) ≡ in_block slash (i + 1) newline false (drop (i + 1) s)
   block_star n = starred slash s i newline h k e ∙ star_forgotten slash s (i + 1) newline n
 
-  pub block_star_last : i + 1 ≡ length s → in_block slash i newline false (drop i s) ≡ in_block slash (i + 1) newline false (drop (i + 1) s)
-  block_star_last last =
-      let z : get_or s (i + 1) 0 ≡ 0 = get_or-eq_default s 0 (omega arith) in
-      block_star (λ x. let clash : ◌≡◌ {A = ℕ} 0 47 = sym z ∙ x in omega arith)
-
   pub block_close : i + 1 < length s → get_or s (i + 1) 0 ≡ byte "/" → in_block slash i newline false (drop i s) ≡ gap (i + 2) newline (drop (i + 2) s)
   unfolding in_block line_end illegal blank
   block_close n d =
@@ -190,23 +183,30 @@ module _ (slash : ℕ) (s : List ℕ) (i : ℕ) (newline : Bool) (h : i < length
       closed : (j : ℕ) → j < length s → get_or s j 0 ≡ byte "/" → in_block slash j newline true (drop j s) ≡ gap (j + 1) newline (drop (j + 1) s)
       closed j m q = rw (drop_at s j m) (rw q)
 
--- a comment that does not end before a place does not end before an earlier one
-pub later : (m n : ℕ) → m ≤ n → (r : Result Gap Fault) → IfOk r (λ comment. n ≤ comment.end) → IfOk r (λ comment. m ≤ comment.end)
-later m n h (Ok comment) p = omega arith
-later m n h (Err fault) p = tt
+-- a `*` is legal, and ends no line
+pub star_legal : (b : ℕ) → b ≡ byte "*" → 1 < code_of b
+unfolding code_of line_end illegal blank turning
+star_legal b e = rw e (omega arith)
+
+-- a legal byte that does not close the comment
+pub block_on : (slash : ℕ) (s : List ℕ) (i : ℕ) (newline : Bool) → i < length s → (code_of (get_or s i 0) ≡ 0 → ⊥)
+    → (get_or s i 0 ≡ byte "*" → get_or s (i + 1) 0 ≡ byte "/" → ⊥)
+    → in_block slash i newline false (drop i s) ≡ in_block slash (i + 1) (newline || eqb (code_of (get_or s i 0)) 1) false (drop (i + 1) s)
+block_on slash s i newline h legal left =
+    go (eqb (code_of (get_or s i 0)) 1) refl (eqb (get_or s i 0) (byte "*")) refl
+  where
+    go : (t : Bool) → eqb (code_of (get_or s i 0)) 1 ≡ t → (u : Bool) → eqb (get_or s i 0) (byte "*") ≡ u
+        → in_block slash i newline false (drop i s) ≡ in_block slash (i + 1) (newline || t) false (drop (i + 1) s)
+    go true e u f = rw (or-true newline) (block_line_end slash s i newline h (eqb-true _ 1 e))
+    go false e true f =
+        let n = eqb-false (code_of (get_or s i 0)) 1 e in
+        let star = eqb-true (get_or s i 0) (byte "*") f in
+        rw (or-false newline) (block_star slash s i newline h (omega (arith, legal, n)) star (left star))
+    go false e false f =
+        let n = eqb-false (code_of (get_or s i 0)) 1 e in
+        rw (or-false newline) (block_more slash s i newline h (omega (arith, legal, n)) (eqb-false (get_or s i 0) (byte "*") f))
 
 -- a fault that is handed on is the same
 pub handed : {T : Type 0} (r : Result T Fault) (fault : Fault) → IsErrAnd r (λ e. e ≡ fault) → r ≡ Err fault
 handed (Ok x) fault h = absurd h
 handed (Err e) fault h = ap Err h
-
--- what the answer about a comment says of the gap
-module _ (s : List ℕ) (i : ℕ) (newline : Bool) (r : Result (Option Gap) Fault) (known : gap i newline (drop i s) ≡ resumed s i newline r) where
-  pub gap_no_comment : r ≡ Ok None → gap i newline (drop i s) ≡ ends i newline
-  gap_no_comment e = known ∙ ap (resumed s i newline) e
-
-  pub gap_comment : (comment : Gap) → r ≡ Ok (Some comment) → gap i newline (drop i s) ≡ gap comment.end (newline || comment.newline) (drop comment.end s)
-  gap_comment comment e = known ∙ ap (resumed s i newline) e
-
-  pub gap_fault : (fault : Fault) → r ≡ Err fault → gap i newline (drop i s) ≡ Err fault
-  gap_fault fault e = known ∙ ap (resumed s i newline) e

@@ -22,10 +22,8 @@ fn line_comment(codes: &Codes, text: &[u8], slash: usize) -> Result<Gap, Fault>
     ensures goes_on { IfOk result (λ comment. slash + 2 ≤ comment.end) }
 {
     let end = runs::run_end(codes, text, slash + 2, text::LINE_END);
-    if end < text.len() {
-        if codes.of(text[end]) == text::ILLEGAL {
-            return Err(Fault::Stray(end));
-        }
+    if end < text.len() && codes.of(text[end]) == text::ILLEGAL {
+        return Err(Fault::Stray(end));
     }
     Ok(Gap {
         end,
@@ -41,6 +39,7 @@ fn block_comment(codes: &Codes, text: &[u8], slash: usize) -> Result<Gap, Fault>
 {
     let mut lined = false;
     let mut i = slash + 2;
+    // The place goes by whole runs, so that no iterator over bytes gives it.
     while i < text.len() {
         i = runs::run_end(codes, text, i, text::TURNING);
         if text.len() <= i {
@@ -48,30 +47,17 @@ fn block_comment(codes: &Codes, text: &[u8], slash: usize) -> Result<Gap, Fault>
         }
         let b = text[i];
         let code = codes.of(b);
-        if code == text::LINE_END {
-            lined = true;
-            i += 1;
-            continue;
-        }
         if code == text::ILLEGAL {
             return Err(Fault::Stray(i));
         }
-        if b != b'*' {
-            i += 1;
-            continue;
+        if b == b'*' && i + 1 < text.len() && text[i + 1] == b'/' {
+            return Ok(Gap {
+                end: i + 2,
+                newline: lined,
+            });
         }
-        if i + 1 == text.len() {
-            i += 1;
-            continue;
-        }
-        if text[i + 1] != b'/' {
-            i += 1;
-            continue;
-        }
-        return Ok(Gap {
-            end: i + 2,
-            newline: lined,
-        });
+        lined = lined || code == text::LINE_END;
+        i += 1;
     }
     Err(Fault::OpenComment(slash))
 }
@@ -98,6 +84,7 @@ pub fn gap_from(codes: &Codes, text: &[u8], from: usize) -> Result<Gap, Fault>
 {
     let mut newline = false;
     let mut i = from;
+    // The place goes by whole comments, so that no iterator over bytes gives it.
     while i < text.len() {
         let b = text[i];
         if b == b' ' {

@@ -2,6 +2,7 @@
 use mathlib.Core.Path.{◌≡◌, refl, sym, subst, ap, ◌∙◌}
 use mathlib.Core.Bool.{Bool, true, false}
 use mathlib.Core.List.{List, [], ◌++◌}
+use mathlib.Core.Logic.{inl, inr}
 use Prim.Native.Nat.{ℕ}
 use native.Mathlib.Omega.{arith}
 use borrow.Author.Tests.{ne_eqb}
@@ -12,7 +13,9 @@ use Rattle.machine.specs.Scopes.{Items, call_arguments, array_elements, object_p
 use Rattle.machine.specs.Machinery.Machine.{end_of_text, Frame, Control, clause_due, item_due, Action, fail, pop, pop_in, finish, Value, done_value, Ending, by_statement, by_return, by_variable, by_start, by_test, by_step, by_object, by_case, by_paren, by_bracket, by_colon, by_item, look, row, Open, act, run}
 use Rattle.machine.specs.Machinery.Classes.{is_end}
 use Rattle.machine.proofs.Ran.{stays_dead}
-use Rattle.controls.specs.Machinery.Numbers.{ending_by, control_of}
+use Rattle.controls.specs.declared.Setting.TheVariants as sits
+use Rattle.controls.specs.declared.Ending.TheVariants as by
+use Rattle.controls.specs.Machinery.Numbers.{control_of}
 use Rattle.controls.specs.Machinery.Steps.{Ended, ended_operand, ended_postfix, Settled, in_group, Ends, ends_statements, ends_text, ends_expression, ends_item, ends_items, ends_no_parameter, ends_parameter, ends_head, ends_object, ends_no_step, ends_clauses, ends_caught, goes_on}
 use Rattle.controls.specs.declared.Control as code
 use Rattle.controls.proofs.LevelEnds.{parens_end, bracket_ends, item_ends}
@@ -37,16 +40,13 @@ goes_on_entry goes_on = refl
 
 -- no expression of a group takes the text's end, and no list
 paren_text : {from : Control} → Ended from by_paren → look end_of_text (row from false) ≡ fail
-unfolding ending_by
-paren_text ended = goes_on_entry (parens_end end_of_text tt 12 0 (omega arith) (omega arith) ended)
+paren_text ended = goes_on_entry (parens_end end_of_text tt by.Paren sits.Body (inr (inr refl)) ended)
 
 step_text : {from : Control} → Ended from by_step → look end_of_text (row from false) ≡ fail
-unfolding ending_by
-step_text ended = goes_on_entry (parens_end end_of_text tt 10 0 (omega arith) (omega arith) ended)
+step_text ended = goes_on_entry (parens_end end_of_text tt by.Step sits.Body (inl refl) ended)
 
 object_text : {from : Control} → Ended from by_object → look end_of_text (row from false) ≡ fail
-unfolding ending_by
-object_text ended = goes_on_entry (parens_end end_of_text tt 11 0 (omega arith) (omega arith) ended)
+object_text ended = goes_on_entry (parens_end end_of_text tt by.Object sits.Body (inr (inl refl)) ended)
 
 item_text : {from : Control} (items : Items) → Ended from (by_item items) → look end_of_text (row from false) ≡ fail
 item_text call_arguments ended = goes_on_entry (item_ends end_of_text tt call_arguments ended)

@@ -1,7 +1,6 @@
 -- What a group that closes does to the frame around it, as the level has it.
-use mathlib.Core.Path.{◌≡◌, refl, sym, ◌∙◌}
+use mathlib.Core.Path.{◌≡◌, refl, ◌∙◌}
 use mathlib.Core.Bool.{Bool, true, false, cond}
-use lib.Dec.{eqb}
 use mathlib.Core.List.{List, [], ◌∷◌, ◌++◌}
 use mathlib.Core.Logic.{◌⊎◌, inl, inr}
 use Prim.Native.Nat.{ℕ, ◌+◌, ◌-◌, ◌≤◌, ◌<◌}
@@ -59,6 +58,8 @@ use Rattle.machine.specs.Machinery.Machine.{
 use Rattle.controls.specs.Machinery.Numbers.{closing_by}
 use Rattle.controls.specs.Machinery.Steps.{Due, Spans, past_parens, past_object, past_array, past_index, past_call, past_condition, past_head, past_for, past_for_in, past_subject, past_clauses, past_tried, past_caught, past_handled, past_finally, past_test, past_parameter, past_unnamed, past_block, past_declaration, past_function}
 use Rattle.controls.specs.Machinery.Written.{put_record}
+use Rattle.controls.specs.declared.Closing as closings
+use Rattle.controls.specs.declared.Closing.TheVariants as group
 use Rattle.waiting.specs.Machinery.Waiting.{nothing_waits, popped, binding, Holds, Backed, Completes, stack_with, stack_as, waiting_one, made_one, restarted}
 use Rattle.waiting.specs.declared.Level.{Level}
 use Rattle.waiting.specs.declared.Waiting.{Waiting}
@@ -248,67 +249,11 @@ module _ {g : Frame} {nests : List machine.Open} {table : List ℕ} {stack₀ : 
       let lighter = completes_lightens one completes in
       rw (s.is, s.held) (behind (behind-statement (among body) s.shaped.2) (rw s.shaped.1 at (carries_statement one completes)) (omega (arith, lighter)) few)
 
--- the groups by number
-pub closing_index : (closing : ℕ) → (closing ≡ 0 → ⊥) → (closing ≡ 1 → ⊥) → (closing ≡ 2 → ⊥) → (closing ≡ 3 → ⊥) → (closing ≡ 4 → ⊥) → (closing ≡ 5 → ⊥) → (closing ≡ 6 → ⊥) → (closing ≡ 7 → ⊥) → (closing ≡ 8 → ⊥) → (closing ≡ 10 → ⊥) → (closing ≡ 11 → ⊥) → (closing ≡ 12 → ⊥) → (closing ≡ 13 → ⊥) → (closing ≡ 14 → ⊥) → (closing ≡ 15 → ⊥) → closing_by closing ≡ to_index
-unfolding closing_by
-closing_index closing a b d e f g h i j k m n o p q =
-    rw (
-      ne_eqb closing 0 a,
-      ne_eqb closing 1 b,
-      ne_eqb closing 2 d,
-      ne_eqb closing 3 e,
-      ne_eqb closing 4 f,
-      ne_eqb closing 5 g,
-      ne_eqb closing 6 h,
-      ne_eqb closing 7 i,
-      ne_eqb closing 8 j,
-      ne_eqb closing 10 k,
-      ne_eqb closing 11 m,
-      ne_eqb closing 12 n,
-      ne_eqb closing 13 o,
-      ne_eqb closing 14 p,
-      ne_eqb closing 15 q,
-    )
-
 -- only the head of a `for` may have `in`
-data Unmoved : Closing → Type 0 where
-  unmoved : {closing : Closing} → in_for closing ≡ closing → Unmoved closing
-
-unmoved_is : {closing : Closing} → Unmoved closing → in_for closing ≡ closing
-unmoved_is (unmoved e) = e
-
-either : (b : Bool) {x y : Closing} → Unmoved x → Unmoved y → Unmoved (cond b x y)
-either true u v = u
-either false u v = v
-
-other_closing : (closing : ℕ) → (closing ≡ 12 → ⊥) → in_for (closing_by closing) ≡ closing_by closing
-unfolding closing_by
-other_closing closing other =
-    rw (ne_eqb closing 12 other)
-    (unmoved_is
-    (either (eqb closing 0) (unmoved refl)
-    (either (eqb closing 1) (unmoved refl)
-    (either (eqb closing 2) (unmoved refl)
-    (either (eqb closing 3) (unmoved refl)
-    (either (eqb closing 4) (unmoved refl)
-    (either (eqb closing 5) (unmoved refl)
-    (either (eqb closing 6) (unmoved refl)
-    (either (eqb closing 7) (unmoved refl)
-    (either (eqb closing 8) (unmoved refl)
-    (either (eqb closing 10) (unmoved refl)
-    (either (eqb closing 11) (unmoved refl)
-    (either (eqb closing 13) (unmoved refl)
-    (either (eqb closing 14) (unmoved refl)
-    (either (eqb closing 15) (unmoved refl)
-    (unmoved refl))))))))))))))))
-
-pub closing_other : (closing : ℕ) (within : Bool) → (closing ≡ 12 → ⊥) → closing_by closing ≡ cond within (in_for (closing_by closing)) (closing_by closing)
-closing_other closing true other = sym (other_closing closing other)
+pub closing_other : (closing : closings.Closing) (within : Bool) → (closing ≡ group.For → ⊥) → closing_by closing ≡ cond within (in_for (closing_by closing)) (closing_by closing)
 closing_other closing false other = refl
-
-pub closing_for : (closing : ℕ) → closing ≡ 12 → closing_by 15 ≡ in_for (closing_by closing)
-unfolding closing_by
-closing_for closing e = rw e
+closing_other group.For true other = absurd (other refl)
+closing_other _ true other = refl
 
 -- a statement that is a block, or a block of a `try`
 block_closed : {from to : Control} {g : Frame} {nests : List machine.Open} {table : List ℕ} {stack₀ : List Waiting} {first floor passed next n : ℕ} {l : Level} {stack_before stack : List Waiting} {cells_before cells : List ℕ} (mark : ℕ) (value : Syntax)
@@ -325,92 +270,76 @@ block_closed mark value s past_finally valued fits few completes =
     closes_block value valued fits few mark completes (λ done within. behind_finally within) (at_part {setting = in_clause} s s.shaped refl)
 
 module _ {l : Level} {stack : List Waiting} {cells : List ℕ} (mark n : ℕ) where
-  pub parens_close : {r : Level} {cells' : List ℕ} → (r ≡ made_one (with_count n l)) × (cells' ≡ put_record cells n parenthesised_syntax mark (n - l.start + 1)) → ClosesGroup 0 mark n l stack cells r stack cells'
-  unfolding closing_by
+  pub parens_close : {r : Level} {cells' : List ℕ} → (r ≡ made_one (with_count n l)) × (cells' ≡ put_record cells n parenthesised_syntax mark (n - l.start + 1)) → ClosesGroup group.Parens mark n l stack cells r stack cells'
   parens_close e from to g nests table stack₀ first floor passed next value stack_before cells_before s (past_parens due) valued none fits few =
       rw (e.0, e.1) (closes_alone value valued fits few to_parens parenthesised_syntax mark (λ done starts waiting. refl) due s)
 
   pub call_closes : {r : Level} {cells' : List ℕ} → (l.floor < l.top → (get_or stack (l.top - 1) nothing_waits).kind ≡ new_word → ⊥)
-      → (r ≡ made_one (with_count n l)) × (cells' ≡ put_record cells n call_syntax mark (n - l.start + 1)) → ClosesGroup 1 mark n l stack cells r stack cells'
-  unfolding closing_by
+      → (r ≡ made_one (with_count n l)) × (cells' ≡ put_record cells n call_syntax mark (n - l.start + 1)) → ClosesGroup group.Call mark n l stack cells r stack cells'
   call_closes none-new e from to g nests table stack₀ first floor passed next value stack_before cells_before s past_call valued none fits few =
       rw (e.0, e.1) (closes_call value valued fits few mark none-new s)
 
   pub construct_closes : {r : Level} {cells' : List ℕ} (word : ℕ) → l.floor < l.top → (get_or stack (l.top - 1) nothing_waits).kind ≡ new_word
       → (get_or stack (l.top - 1) nothing_waits).mark ≡ word
       → (r ≡ made_one (popped (with_count n l) stack)) × (cells' ≡ put_record cells n construct_syntax word (n - (get_or stack (l.top - 1) nothing_waits).start + 1))
-      → ClosesGroup 1 mark n l stack cells r stack cells'
-  unfolding closing_by
+      → ClosesGroup group.Call mark n l stack cells r stack cells'
   construct_closes word more is-new is_IsWord e from to g nests table stack₀ first floor passed next value stack_before cells_before s past_call valued none fits few =
       rw (e.0, e.1) (closes_construct value valued fits few mark word more is-new is_IsWord s)
 
-  pub object_closes : {r : Level} {cells' : List ℕ} → (r ≡ made_one (with_count n l)) × (cells' ≡ put_record cells n object_syntax mark (n - l.start + 1)) → ClosesGroup 2 mark n l stack cells r stack cells'
-  unfolding closing_by
+  pub object_closes : {r : Level} {cells' : List ℕ} → (r ≡ made_one (with_count n l)) × (cells' ≡ put_record cells n object_syntax mark (n - l.start + 1)) → ClosesGroup group.Object mark n l stack cells r stack cells'
   object_closes e from to g nests table stack₀ first floor passed next value stack_before cells_before s (past_object due) valued none fits few =
       rw (e.0, e.1) (closes_alone value valued fits few to_object object_syntax mark (λ done starts waiting. refl) due s)
 
   pub condition_closes : {r : Level} {after : List Waiting} → l.top < length stack
-      → (r ≡ waiting_one (with_count n l)) × (after ≡ stack_with stack l.top if_syntax l.held l.start) → ClosesGroup 3 mark n l stack cells r after cells
-  unfolding closing_by
+      → (r ≡ waiting_one (with_count n l)) × (after ≡ stack_with stack l.top if_syntax l.held l.start) → ClosesGroup group.Condition mark n l stack cells r after cells
   condition_closes room e from to g nests table stack₀ first floor passed next value stack_before cells_before s past_condition valued none fits few =
       rw (e.0, e.1) (closes_condition value valued fits few mark room s)
 
-  pub parameter_closes : ClosesGroup 4 mark n l stack cells (with_count n l) stack cells
-  unfolding closing_by
+  pub parameter_closes : ClosesGroup group.Parameter mark n l stack cells (with_count n l) stack cells
   parameter_closes from to g nests table stack₀ first floor passed next value stack_before cells_before s spans valued none fits few =
       closes_parameter value valued fits few mark (none refl) s spans
 
   pub block_closes : {r all : Level} {cells' cells'' : List ℕ} → (r ≡ made_one (with_count n l)) × (cells' ≡ put_record cells n block_syntax mark (n - l.start + 1)) → Completes r stack cells' all cells''
-      → ClosesGroup 5 mark n l stack cells all stack cells''
-  unfolding closing_by
+      → ClosesGroup group.Block mark n l stack cells all stack cells''
   block_closes e completes from to g nests table stack₀ first floor passed next value stack_before cells_before s spans valued none fits few =
       block_closed mark value s spans valued fits few (rw (e.0, e.1) at completes)
 
   pub declaration_closes : {r all : Level} {cells' cells'' : List ℕ} → (r ≡ made_one (with_count n l)) × (cells' ≡ put_record cells n declaration_syntax l.held (n - l.start + 1)) → Completes r stack cells' all cells''
-      → ClosesGroup 6 mark n l stack cells all stack cells''
-  unfolding closing_by
+      → ClosesGroup group.Declaration mark n l stack cells all stack cells''
   declaration_closes e completes from to g nests table stack₀ first floor passed next value stack_before cells_before s past_declaration valued none fits few =
       closes_declaration value valued fits few mark (rw (e.0, e.1) at completes) s
 
-  pub function_closes : {r : Level} {cells' : List ℕ} → (r ≡ made_one (with_count n l)) × (cells' ≡ put_record cells n function_syntax l.held (n - l.start + 1)) → ClosesGroup 7 mark n l stack cells r stack cells'
-  unfolding closing_by
+  pub function_closes : {r : Level} {cells' : List ℕ} → (r ≡ made_one (with_count n l)) × (cells' ≡ put_record cells n function_syntax l.held (n - l.start + 1)) → ClosesGroup group.Function mark n l stack cells r stack cells'
   function_closes e from to g nests table stack₀ first floor passed next value stack_before cells_before s past_function valued none fits few =
       rw (e.0, e.1) (closes_function value valued fits few mark s)
 
-  pub array_closes : {r : Level} {cells' : List ℕ} → (r ≡ made_one (with_count n l)) × (cells' ≡ put_record cells n array_syntax mark (n - l.start + 1)) → ClosesGroup 8 mark n l stack cells r stack cells'
-  unfolding closing_by
+  pub array_closes : {r : Level} {cells' : List ℕ} → (r ≡ made_one (with_count n l)) × (cells' ≡ put_record cells n array_syntax mark (n - l.start + 1)) → ClosesGroup group.Array mark n l stack cells r stack cells'
   array_closes e from to g nests table stack₀ first floor passed next value stack_before cells_before s (past_array due) valued none fits few =
       rw (e.0, e.1) (closes_alone value valued fits few to_array array_syntax mark (λ done starts waiting. refl) due s)
 
-  pub head_closes : ClosesGroup 10 mark n l stack cells (restarted (with_count n l)) stack cells
-  unfolding closing_by
+  pub head_closes : ClosesGroup group.Head mark n l stack cells (restarted (with_count n l)) stack cells
   head_closes from to g nests table stack₀ first floor passed next value stack_before cells_before s (past_head {setting = setting}) valued none fits few =
       closes_head value valued fits few mark (at_word {setting = setting} s s.shaped refl)
   head_closes from to g nests table stack₀ first floor passed next value stack_before cells_before s (past_subject {setting = setting}) valued none fits few =
       closes_subject value valued fits few mark (at_word {setting = setting} s s.shaped refl)
 
-  pub for_closes : ClosesGroup 12 mark n l stack cells (restarted (with_count n l)) stack cells
-  unfolding closing_by
+  pub for_closes : ClosesGroup group.For mark n l stack cells (restarted (with_count n l)) stack cells
   for_closes from to g nests table stack₀ first floor passed next value stack_before cells_before s (past_for {setting = setting}) valued none fits few =
       closes_for value valued fits few mark (at_word {setting = setting} s s.shaped refl)
 
-  pub for_in_closes : {r : Level} {after : List Waiting} → (r ≡ restarted (with_count n l)) × (after ≡ stack_as stack l.top for_in_syntax) → ClosesGroup 15 mark n l stack cells r after cells
-  unfolding closing_by
+  pub for_in_closes : {r : Level} {after : List Waiting} → (r ≡ restarted (with_count n l)) × (after ≡ stack_as stack l.top for_in_syntax) → ClosesGroup group.ForIn mark n l stack cells r after cells
   for_in_closes e from to g nests table stack₀ first floor passed next value stack_before cells_before s (past_for_in {setting = setting}) valued none fits few =
       rw (e.0, e.1) (closes_for_in value valued fits few mark (at_word {setting = setting} s s.shaped refl))
 
-  pub clauses_close : {all : Level} {cells' : List ℕ} → Completes (with_count n l) stack cells all cells' → ClosesGroup 13 mark n l stack cells all stack cells'
-  unfolding closing_by
+  pub clauses_close : {all : Level} {cells' : List ℕ} → Completes (with_count n l) stack cells all cells' → ClosesGroup group.Clauses mark n l stack cells all stack cells'
   clauses_close completes from to g nests table stack₀ first floor passed next value stack_before cells_before s (past_clauses {setting = setting}) valued none fits few =
       closes_clauses value valued fits few mark completes (at_part {setting = setting} s s.shaped refl)
 
-  pub catch_closes : ClosesGroup 14 mark n l stack cells (with_count n l) stack cells
-  unfolding closing_by
+  pub catch_closes : ClosesGroup group.Catch mark n l stack cells (with_count n l) stack cells
   catch_closes from to g nests table stack₀ first floor passed next value stack_before cells_before s spans valued none fits few =
       closes_parameter value valued fits few mark (none refl) s spans
 
-  pub test_closes : ClosesGroup 11 mark n l stack cells (with_count n l) stack cells
-  unfolding closing_by
+  pub test_closes : ClosesGroup group.Test mark n l stack cells (with_count n l) stack cells
   test_closes from to g nests table stack₀ first floor passed next value stack_before cells_before s past_test valued none fits few = closes_test value valued fits few mark s
 
   index_closed : {from to : Control} {g : Frame} {nests : List machine.Open} {table : List ℕ} {stack₀ : List Waiting} {first floor passed next : ℕ} {stack_before : List Waiting} {cells_before : List ℕ} (value : Syntax)
@@ -420,10 +349,10 @@ module _ {l : Level} {stack : List Waiting} {cells : List ℕ} (mark n : ℕ) wh
       (put_record cells n index_syntax mark (n - l.start + 1))
   index_closed value s past_index valued fits few = closes_behind value valued fits few to_index index_syntax mark (λ done starts waiting operand. refl) s
 
-  pub index_closes : (closing : ℕ) {r : Level} {cells' : List ℕ} → closing_by closing ≡ to_index → (r ≡ made_one (with_count n l)) × (cells' ≡ put_record cells n index_syntax mark (n - l.start + 1))
-      → ClosesGroup closing mark n l stack cells r stack cells'
-  index_closes closing is e from to g nests table stack₀ first floor passed next value stack_before cells_before s spans valued none fits few =
-      rw (is, e.0, e.1) (index_closed value s (rw is at spans) valued fits few)
+  pub index_closes : {r : Level} {cells' : List ℕ} → (r ≡ made_one (with_count n l)) × (cells' ≡ put_record cells n index_syntax mark (n - l.start + 1))
+      → ClosesGroup group.Index mark n l stack cells r stack cells'
+  index_closes e from to g nests table stack₀ first floor passed next value stack_before cells_before s spans valued none fits few =
+      rw (e.0, e.1) (index_closed value s spans valued fits few)
 
 -- two ways to where none waits
 pub by_either : {A B C : Type 0} → (A → C) → (B → C) → A ⊎ B → C
@@ -431,16 +360,16 @@ by_either f g (inl a) = f a
 by_either f g (inr b) = g b
 
 -- what the call in between asks for
-pub group_held : {closing mark n : ℕ} {l r : Level} {stack : List Waiting} {cells cells' : List ℕ} (kind m : ℕ) → MayClose closing mark n l stack cells
+pub group_held : {closing : closings.Closing} {mark n : ℕ} {l r : Level} {stack : List Waiting} {cells cells' : List ℕ} (kind m : ℕ) → MayClose closing mark n l stack cells
     → (r ≡ made_one (with_count n l)) × (cells' ≡ put_record cells n kind m (n - l.start + 1)) → Backed r stack cells'
 group_held {n = n} kind m may e =
     rw (e.0, e.1)
     (backed (carries_made (carries_valued (carried may.somewhere.stands) n may.value may.valued (omega (arith, may.more))) kind m (omega (arith, may.more))).holds)
 
-pub call_asks : {closing mark n : ℕ} {l : Level} {stack : List Waiting} {cells : List ℕ} → MayClose closing mark n l stack cells → l.floor < l.top → Usable (with_count n l) stack
+pub call_asks : {closing : closings.Closing} {mark n : ℕ} {l : Level} {stack : List Waiting} {cells : List ℕ} → MayClose closing mark n l stack cells → l.floor < l.top → Usable (with_count n l) stack
 call_asks {n = n} may more = usable (backed (carries_valued (carried may.somewhere.stands) n may.value may.valued (omega (arith, may.more))).holds) more
 
-pub valued_backed : {closing mark n : ℕ} {l : Level} {stack : List Waiting} {cells : List ℕ} → MayClose closing mark n l stack cells → Backed (with_count n l) stack cells
+pub valued_backed : {closing : closings.Closing} {mark n : ℕ} {l : Level} {stack : List Waiting} {cells : List ℕ} → MayClose closing mark n l stack cells → Backed (with_count n l) stack cells
 valued_backed {n = n} may = backed (carries_valued (carried may.somewhere.stands) n may.value may.valued (omega (arith, may.more))).holds
 
 -- the `for` that waits uppermost
@@ -453,6 +382,5 @@ for_waits : {from to : Control} {g : Frame} {nests : List machine.Open} {table :
 for_waits (past_for_in {setting = setting}) s =
     let u = uppermost (at_word {setting = setting} s s.shaped refl).carries.holds in record { waits = u.some; fits = u.fits }
 
-pub for_asks : {mark n : ℕ} {l : Level} {stack : List Waiting} {cells : List ℕ} → MayClose 15 mark n l stack cells → ForWaits l stack
-unfolding closing_by
+pub for_asks : {mark n : ℕ} {l : Level} {stack : List Waiting} {cells : List ℕ} → MayClose group.ForIn mark n l stack cells → ForWaits l stack
 for_asks may = let w = for_waits may.spans may.somewhere.stands in record { waits = w.waits; fits = omega (arith, w.fits, may.valued.kept.same_length) }

@@ -1,17 +1,17 @@
 // A level's end, what a group does to the level around it, the beginning of a nest, and a `?` and its `:`.
 #![tactic(auto)]
 
-ghost use Rattle.std.specs.Prelude.{◌≡◌, ◌<◌, T, cond};
+ghost use Rattle.std.specs.Prelude.{◌≡◌, T, cond};
 ghost use Rattle.machine.specs.Machinery.Machine.{in_for};
 ghost use Rattle.machine.specs.Machinery.Classes.{is_end};
-ghost use Rattle.controls.specs.Machinery.Numbers.{ending_by, control_of, closing_by};
+ghost use Rattle.controls.specs.Machinery.Numbers.{control_of, closing_by};
 ghost use Rattle.waiting.specs.Machinery.Waiting.{Backed};
-ghost use Rattle.frames.specs.Machinery.Stands.{AskNumber, asked_in};
+ghost use Rattle.controls.specs.declared.Closing.TheVariants.{Call};
 ghost use Rattle.frames.specs.Machinery.Effects.{StandsSomewhere, MayClose, ClosesGroup, MayEnter, EntersNest, Heads, MayAsk, Asks, MayTurn, Turns};
-ghost use Rattle.groups.specs.Machinery.Closers.{is_object, ComesTo};
+ghost use Rattle.groups.specs.Machinery.Closers.{is_object, AsksIn, ComesTo};
 
 use answers::faults::Fault;
-use controls::{Control, ends, records};
+use controls::{Closing, Control, Ending, Nest, Place, Setting, ends, records};
 use frames::Standing;
 use machine::tokens;
 use waiting::{Level, Waiting};
@@ -50,28 +50,22 @@ pub fn at_closer(
 fn is_object(at: Control) -> bool
     ensures { result ≡ is_object (control_of at) }
 {
-    if at.ending != controls::BY_OBJECT {
-        return false;
-    }
-    at.place == controls::OPERAND_DONE || at.place == controls::POSTFIX_DONE
+    matches!(at.ending, Ending::Object) && matches!(at.place, Place::OperandDone | Place::PostfixDone)
 }
 
 // What a group does when it closes, if its inside is the head of a `for` with `in` or not.
-pub fn closing_by(closing: u32, within: bool) -> u32
+pub fn closing_by(closing: Closing, within: bool) -> Closing
     ensures { closing_by result ≡ cond within (in_for (closing_by closing)) (closing_by closing) }
 {
-    if closing != controls::TO_FOR {
-        return closing;
+    match closing {
+        Closing::For if within => Closing::ForIn,
+        _ => closing,
     }
-    if within {
-        return controls::TO_FOR_IN;
-    }
-    closing
 }
 
 // What a group that closes does to the level around it, when there are so many records with its own.
 pub fn close(
-    closing: u32,
+    closing: Closing,
     mark: usize,
     count: usize,
     l: Level,
@@ -83,34 +77,32 @@ pub fn close(
 {
     let g = Level { count, ..l };
     match closing {
-        controls::TO_PARENS => g.made(records::PARENTHESISED, mark, syntax),
-        controls::TO_CALL => called(l, mark, count, waiting, syntax),
-        controls::TO_OBJECT => g.made(records::OBJECT, mark, syntax),
-        controls::TO_CONDITION => g.wait(records::IF, l.held, waiting),
-        controls::TO_PARAMETER => g,
-        controls::TO_BLOCK => {
+        Closing::Parens => g.made(records::PARENTHESISED, mark, syntax),
+        Closing::Call => called(l, mark, count, waiting, syntax),
+        Closing::Object => g.made(records::OBJECT, mark, syntax),
+        Closing::Condition => g.wait(records::IF, l.held, waiting),
+        Closing::Block => {
             let one = g.made(records::BLOCK, mark, syntax);
             one.completed(waiting, syntax)
         }
-        controls::TO_DECLARATION => {
+        Closing::Declaration => {
             let one = g.made(records::DECLARATION, l.held, syntax);
             one.completed(waiting, syntax)
         }
-        controls::TO_FUNCTION => g.made(records::FUNCTION, l.held, syntax),
-        controls::TO_ARRAY => g.made(records::ARRAY, mark, syntax),
-        controls::TO_FOR_IN => g.joined(records::FOR_IN, waiting),
-        controls::TO_CLAUSES => g.completed(waiting, syntax),
-        controls::TO_CATCH => g,
-        controls::TO_HEAD | controls::TO_FOR => Level { start: count, ..g },
-        controls::TO_TEST => g,
-        _ => g.made(records::INDEX, mark, syntax),
+        Closing::Function => g.made(records::FUNCTION, l.held, syntax),
+        Closing::Array => g.made(records::ARRAY, mark, syntax),
+        Closing::Index => g.made(records::INDEX, mark, syntax),
+        Closing::ForIn => g.joined(records::FOR_IN, waiting),
+        Closing::Clauses => g.completed(waiting, syntax),
+        Closing::Head | Closing::For => Level { start: count, ..g },
+        Closing::Parameter | Closing::Catch | Closing::Test => g,
     }
 }
 
 // Arguments belong to the `new` that waits uppermost, if one does, or make a call.
 fn called(l: Level, mark: usize, count: usize, waiting: &[Waiting], syntax: &mut [u32]) -> Level
-    requires { MayClose 1 mark count l waiting.now syntax.old }
-    ensures { ClosesGroup 1 mark count l waiting.now syntax.old result waiting.now syntax.new }
+    requires { MayClose Call mark count l waiting.now syntax.old }
+    ensures { ClosesGroup Call mark count l waiting.now syntax.old result waiting.now syntax.new }
 {
     let g = Level { count, ..l };
     if l.floor < l.top {
@@ -125,12 +117,11 @@ fn called(l: Level, mark: usize, count: usize, waiting: &[Waiting], syntax: &mut
 }
 
 // The number that stands for an open `?` tells what ends the expression that it is in.
-fn asking(ending: u32, setting: u32) -> u32
-    ensures { AskNumber result × (result < 65536) × (asked_in result ≡ ending_by ending setting) }
+fn asking(ending: Ending, setting: Setting) -> u32
+    ensures { AsksIn ending setting result }
 {
-    let by = controls::past_start(ending).min(controls::BY_PROPERTY);
-    let among = setting.min(controls::DO_NEST);
-    waiting::ASK + by * waiting::SETTINGS + among
+    let past = controls::past_start(ending);
+    waiting::ASK + past.number() * waiting::SETTINGS + setting.number()
 }
 
 // A `?` is open: what is binary or tighter is closed, the operand is its condition, and behind it an expression is due that a `:` ends.
@@ -148,9 +139,9 @@ pub fn asked(
     let number = asking(at.ending, at.setting);
     Standing {
         control: controls::stand(
-            controls::OPERAND_DUE,
-            controls::BY_COLON,
-            controls::BODY,
+            Place::OperandDue,
+            Ending::Colon,
+            Setting::Body,
             true,
         ),
         level: condition.wait(number, mark, waiting),
@@ -166,9 +157,9 @@ pub fn turned(l: Level, waiting: &mut [Waiting], syntax: &mut [u32]) -> Standing
     let number = u32::from(waiting[answer.top - 1].kind) - waiting::ASK;
     Standing {
         control: controls::stand(
-            controls::OPERAND_DUE,
-            number / waiting::SETTINGS,
-            number % waiting::SETTINGS,
+            Place::OperandDue,
+            Ending::numbered(number / waiting::SETTINGS),
+            Setting::numbered(number % waiting::SETTINGS),
             true,
         ),
         level: answer.joined(tokens::QUESTION, waiting),
@@ -178,8 +169,8 @@ pub fn turned(l: Level, waiting: &mut [Waiting], syntax: &mut [u32]) -> Standing
 // Opens a nest, with its word held, where a statement of a setting is due or behind the head of a clause.
 pub fn entered(
     l: Level,
-    nest: u32,
-    setting: u32,
+    nest: Nest,
+    setting: Setting,
     word: usize,
     waiting: &mut [Waiting],
     syntax: &mut [u32],
@@ -187,23 +178,25 @@ pub fn entered(
     requires { MayEnter nest setting word l waiting.old syntax.old }
     ensures { EntersNest nest setting word l waiting.old syntax.old result waiting.new syntax.new }
 {
-    let number = waiting::NEST + nest * waiting::SETTINGS + setting;
+    let number = waiting::NEST + nest.number() * waiting::SETTINGS + setting.number();
     let outside = headed(l, nest, waiting, syntax);
     let inside = outside.wait(number, word, waiting);
     inside.holding(word)
 }
 
 // Behind the head of a clause, what waits on its left has the head for its left side.
-fn headed(l: Level, nest: u32, waiting: &[Waiting], syntax: &mut [u32]) -> Level
+fn headed(l: Level, nest: Nest, waiting: &[Waiting], syntax: &mut [u32]) -> Level
     requires { Backed l waiting.now syntax.old }
     ensures { Heads nest l waiting.now syntax.old result syntax.new }
 {
-    if nest < controls::OF_CLAUSE {
-        return l;
-    }
-    let head = l.closed(2, waiting, syntax);
-    Level {
-        start: head.count,
-        ..head
+    match nest {
+        Nest::Clause | Nest::LastClause => {
+            let head = l.closed(2, waiting, syntax);
+            Level {
+                start: head.count,
+                ..head
+            }
+        }
+        _ => l,
     }
 }

@@ -7,6 +7,7 @@ use native.Mathlib.Omega.{arith}
 use lib.ListN.{length, take, drop, set}
 use Rattle.elements.specs.declared.Element.{Element}
 use Rattle.rule.specs.Levels.{Levels}
+use Rattle.prefix.specs.declared.OpenGroup.{OpenGroup}
 use Rattle.prefix.specs.Machinery.Represents.{Represents}
 use Rattle.prefix.specs.declared.State.{State}
 use Rattle.tables.specs.Records.{tree_width, tree_record}
@@ -23,7 +24,7 @@ module _ (bytes : List ℕ) (was is : Lent) (room : ℕ) (state : State) (at pla
   keeps_represented true h = h.represented
   keeps_represented false h = h.represented
 
-  pub keeps_stack : (spaced : Bool) → Keeps spaced bytes was is room state at place levels → length is.stack ≡ 200
+  pub keeps_stack : (spaced : Bool) → Keeps spaced bytes was is room state at place levels → length is.stack ≡ 100
   unfolding Keeps
   keeps_stack true h = h.stack_is
   keeps_stack false h = h.stack_is
@@ -92,7 +93,7 @@ module _ (bytes trees output trees' output' : List ℕ) (state : State) (at : �
 
 -- what keeping asks of the places and of the table
 module _ (bytes trees output : List ℕ) (state : State) (at : ℕ) (e : Element) where
-  pub spaced_few : (spaced : Bool) → spaced ≡ true → (stack : List ℕ) (room : ℕ) → MayTake spaced bytes (lent trees output stack) room state at e → at ≤ 2 * e.first
+  pub spaced_few : (spaced : Bool) → spaced ≡ true → (stack : List OpenGroup) (room : ℕ) → MayTake spaced bytes (lent trees output stack) room state at e → at ≤ 2 * e.first
   unfolding Keeps
   spaced_few true z stack room may = let k = may.keeps in omega (arith, k.few, may.near)
   spaced_few false z stack room may = absurd (true≢false (sym z))

@@ -16,6 +16,8 @@ use Rattle.controls.specs.Machinery.Numbers.{control_of, inside_by}
 use Rattle.machine.specs.Machinery.Classes.{is_opener, is_end, is_single}
 use Rattle.controls.specs.declared.Control as code
 use Rattle.controls.specs.Machinery.Written.{put_syntax}
+use Rattle.controls.specs.declared.Closing as closings
+use Rattle.controls.specs.declared.Closing.TheVariants as group
 use Rattle.waiting.specs.Machinery.Waiting.{bare}
 use Rattle.waiting.specs.declared.Waiting.{Waiting}
 use Rattle.waiting.specs.declared.Level.{Level}
@@ -57,27 +59,21 @@ record Fresh (c : Control) : Type 0 where
 fresh : {c : Control} → Shaped c nil [] [] nil [] → written c nil ≡ nil → ((word : ℕ) → HeldAt c nil word) → owed c ≡ 0 → Fresh c
 fresh shape none held owes = record { shaped = shape; written_none = none; held_none = held; owes_none = owes }
 
-either : (b : Bool) {x y : Control} → Fresh x → Fresh y → Fresh (cond b x y)
-either true u v = u
-either false u v = v
+fresh_inside : (closing : closings.Closing) → Fresh (inside_by closing)
+fresh_inside group.Call = fresh (refl, refl, refl, refl) refl (λ word. tt) refl
+fresh_inside group.Object = fresh (refl, refl, refl, refl) refl (λ word. tt) refl
+fresh_inside group.Parameter = fresh (refl, refl, refl, refl, refl) refl (λ word. tt) refl
+fresh_inside group.Block = fresh (refl, refl, refl, refl) refl (λ word. tt) refl
+fresh_inside group.Declaration = fresh (refl, refl, refl, refl) refl (λ word. tt) refl
+fresh_inside group.Function = fresh (refl, refl, refl, refl) refl (λ word. tt) refl
+fresh_inside group.Array = fresh (refl, refl, refl, refl) refl (λ word. tt) refl
+fresh_inside group.Index = fresh (refl, (refl, refl, refl)) refl (λ word. tt) refl
+fresh_inside group.For = fresh (refl, refl, refl, refl) refl (λ word. tt) refl
+fresh_inside group.Clauses = fresh (refl, refl, refl, refl) refl (λ word. tt) refl
+fresh_inside group.Catch = fresh (refl, refl, refl, refl, refl) refl (λ word. tt) refl
+fresh_inside _ = fresh (refl, (refl, refl, refl)) refl (λ word. tt) refl
 
-fresh_inside : (closing : ℕ) → Fresh (inside_by closing)
-unfolding inside_by
-fresh_inside closing =
-    (either (eqb closing 1) (fresh (refl, refl, refl, refl) refl (λ word. tt) refl)
-    (either (eqb closing 2) (fresh (refl, refl, refl, refl) refl (λ word. tt) refl)
-    (either (eqb closing 4) (fresh (refl, refl, refl, refl, refl) refl (λ word. tt) refl)
-    (either (eqb closing 5) (fresh (refl, refl, refl, refl) refl (λ word. tt) refl)
-    (either (eqb closing 6) (fresh (refl, refl, refl, refl) refl (λ word. tt) refl)
-    (either (eqb closing 7) (fresh (refl, refl, refl, refl) refl (λ word. tt) refl)
-    (either (eqb closing 8) (fresh (refl, refl, refl, refl) refl (λ word. tt) refl)
-    (either (eqb closing 9) (fresh (refl, (refl, refl, refl)) refl (λ word. tt) refl)
-    (either (eqb closing 12) (fresh (refl, refl, refl, refl) refl (λ word. tt) refl)
-    (either (eqb closing 13) (fresh (refl, refl, refl, refl) refl (λ word. tt) refl)
-    (either (eqb closing 14) (fresh (refl, refl, refl, refl, refl) refl (λ word. tt) refl)
-    (fresh (refl, (refl, refl, refl)) refl (λ word. tt) refl))))))))))))
-
-pub starts_underway : {p : Segment} {closer count top : ℕ} {table : List ℕ} {stack : List Waiting} {l : Level} (closing : ℕ) → MayRun p closer count top stack
+pub starts_underway : {p : Segment} {closer count top : ℕ} {table : List ℕ} {stack : List Waiting} {l : Level} (closing : closings.Closing) → MayRun p closer count top stack
     → l.count ≡ count → l.top ≡ top → l.floor ≡ top → l.start ≡ count → l.held ≡ 0
     → Underway p (inside_by closing) count top table stack (inside_by closing) l 0 table stack
 unfolding put_syntax

@@ -2,6 +2,7 @@
 use mathlib.Core.Path.{◌≡◌, refl, sym, ◌∙◌, subst}
 use mathlib.Core.Bool.{Bool, true, false, cond, not}
 use mathlib.Core.List.{List}
+use mathlib.Core.Logic.{◌⊎◌, inl, inr}
 use Prim.Native.Nat.{ℕ, ◌+◌, ◌-◌, ◌≤◌, ◌<◌}
 use native.Mathlib.Omega.{arith}
 use borrow.Author.Tests.{eqb-true, eqb-false}
@@ -17,7 +18,14 @@ use Rattle.machine.specs.Machinery.Classes.{is_opener, is_end, is_single}
 use Rattle.controls.specs.Machinery.Steps.{Ended, Leads, Spans, past_parens, past_object, past_array, past_index, past_call, past_condition, past_head, past_for, past_for_in, past_subject, past_clauses, past_tried, past_caught, past_handled, past_finally, past_test, past_parameter, past_unnamed, past_block, past_declaration, past_function, Enters, enters_if, enters_do, enters_try, enters_case, enters_last_case, enters_default, Settled, Means, means_end, means_fail, means_goto, means_push, means_enter, means_ask, means_turn}
 use Rattle.controls.specs.declared.Control as code
 use Rattle.controls.specs.declared.Step.{Step}
-use Rattle.controls.specs.declared.Step.TheVariants.{Fail, Goto, Push, Enter, Ask, Turn}
+use Rattle.controls.specs.declared.Step.TheVariants.{Goto, Push, Enter, Ask, Turn}
+use Rattle.controls.specs.declared.Setting as codes
+use Rattle.controls.specs.declared.Setting.TheVariants as sits
+use Rattle.controls.specs.declared.Effect as effects
+use Rattle.controls.specs.declared.Closing as closings
+use Rattle.controls.specs.declared.Closing.TheVariants as group
+use Rattle.controls.specs.declared.Nest as opened
+use Rattle.controls.specs.declared.Nest.TheVariants as kinds
 use Rattle.waiting.specs.declared.Waiting.{Waiting}
 use Rattle.waiting.specs.declared.Level.{Level}
 use Rattle.frames.specs.Machinery.Effects.{StandsSomewhere, Readies, MayAffect, Affects, MayEnter, EntersNest, MayAsk, Asks, MayTurn, Turns, Valued, MayClose, ClosesGroup, of_parameter}
@@ -27,7 +35,7 @@ use Rattle.segments.specs.Machinery.Segments.{Segment, inside, count_of, class_a
 use Rattle.segments.proofs.SegmentLaws.{at_openers, inside_fine, inside_count, never_ends}
 use Rattle.levels.specs.Machinery.Runs.{Through, Ran, ran_through, ran_dead, MayRun, MayOpen}
 use Rattle.groups.specs.declared.Parsed.{Parsed}
-use Rattle.std.proofs.Common.{Ok, Err, Result}
+use Rattle.std.proofs.Common.{Option, None, Some, Ok, Err, Result}
 use Rattle.answers.specs.declared.faults.Fault.{Fault}
 use Rattle.levels.proofs.RunLaws as runs
 use Rattle.levels.proofs.RunLaws.{Underway}
@@ -37,50 +45,42 @@ clash true t s = absurd s
 clash false t s = absurd t
 
 -- the action that a step means
-fail_entry : {c : Control} {class : ℕ} {action : Action} → T (not (is_end class)) → Means c class Fail action → action ≡ fail
+fail_entry : {c : Control} {class : ℕ} {action : Action} → T (not (is_end class)) → Means c class None action → action ≡ fail
 fail_entry {class = class} no_end (means_end t) = clash (is_end class) t no_end
 fail_entry no_end means_fail = refl
 
-record GotoEntry (c : Control) (class : ℕ) (to : Control) (effect : ℕ) (action : Action) : Type 0 where
+record GotoEntry (c : Control) (class : ℕ) (to : Control) (effect : effects.Effect) (action : Action) : Type 0 where
   entry : action ≡ goto to (effect_by effect class)
   single : T (is_single class)
   leads : Leads (effect_by effect class) c to
 
-goto_entry : {c : Control} {class effect : ℕ} {to : code.Control} {action : Action} → Means c class (Goto to effect) action
+goto_entry : {c : Control} {class : ℕ} {effect : effects.Effect} {to : code.Control} {action : Action} → Means c class (Some (Goto to effect)) action
     → GotoEntry c class (control_of to) effect action
 goto_entry (means_goto t l) = record { entry = refl; single = t; leads = l }
 
-record PushEntry (c : Control) (class : ℕ) (to : Control) (closing : ℕ) (action : Action) : Type 0 where
+record PushEntry (c : Control) (class : ℕ) (to : Control) (closing : closings.Closing) (action : Action) : Type 0 where
   entry : action ≡ push (inside_by closing) to (closing_by closing)
   opens : T (is_opener class)
   spans : Spans (closing_by closing) c to
 
-push_entry : {c : Control} {class closing : ℕ} {to : code.Control} {action : Action} → Means c class (Push to closing) action
+push_entry : {c : Control} {class : ℕ} {closing : closings.Closing} {to : code.Control} {action : Action} → Means c class (Some (Push to closing)) action
     → PushEntry c class (control_of to) closing action
 push_entry (means_push t s) = record { entry = refl; opens = t; spans = s }
 
-record EnterEntry (c : Control) (class nest number : ℕ) (action : Action) : Type 0 where
+record EnterEntry (c : Control) (class : ℕ) (nest : opened.Nest) (number : codes.Setting) (action : Action) : Type 0 where
   entry : action ≡ enter (entered_by nest) (worded_by nest) (outside_by nest) (behind_by nest (setting_by number)) (left_by nest)
   single : T (is_single class)
-  one : nest ≤ 4
-  small : number ≤ 5
   opens : Enters nest (setting_by number) c
 
-enter_entry : {c : Control} {class nest number : ℕ} {action : Action} → Means c class (Enter nest number) action → EnterEntry c class nest number action
-enter_entry (means_enter t o n e) = record { entry = refl; single = t; one = o; small = n; opens = e }
+enter_entry : {c : Control} {class : ℕ} {nest : opened.Nest} {number : codes.Setting} {action : Action} → Means c class (Some (Enter nest number)) action → EnterEntry c class nest number action
+enter_entry (means_enter t e) = record { entry = refl; single = t; opens = e }
 
 -- no nest is in a parameter's parentheses
-entered_kind : (nest : ℕ) → of_parameter (entered_by nest) ≡ false
-unfolding entered_by
-entered_kind nest = go (eqb nest 0) (eqb nest 1) (eqb nest 2)
-  where
-    go : (a b d : Bool) → of_parameter (cond a if_first (cond b (statement_due true (in_nest do_nest)) (cond d try_first (statement_due false in_clause)))) ≡ false
-    go true b d = refl
-    go false true d = refl
-    go false false true = refl
-    go false false false = refl
+entered_kind : (nest : opened.Nest) → of_parameter (entered_by nest) ≡ false
+entered_kind kinds.If = refl
+entered_kind _ = refl
 
-opens_kind : {nest : ℕ} {setting : Setting} {c : Control} → Enters nest setting c → of_parameter c ≡ false
+opens_kind : {nest : opened.Nest} {setting : Setting} {c : Control} → Enters nest setting c → of_parameter c ≡ false
 opens_kind enters_if = refl
 opens_kind enters_do = refl
 opens_kind enters_try = refl
@@ -139,7 +139,7 @@ record AskEntry (c : Control) (class : ℕ) (action : Action) : Type 0 where
   single : T (is_single class)
   ended : Ended c ending
 
-ask_entry : {c : Control} {class : ℕ} {action : Action} → Means c class Ask action → AskEntry c class action
+ask_entry : {c : Control} {class : ℕ} {action : Action} → Means c class (Some Ask) action → AskEntry c class action
 ask_entry (means_ask t e) = record { ending = _; entry = refl; single = t; ended = e }
 
 record TurnEntry (c : Control) (class : ℕ) (action : Action) : Type 0 where
@@ -147,7 +147,7 @@ record TurnEntry (c : Control) (class : ℕ) (action : Action) : Type 0 where
   single : T (is_single class)
   ended : Ended c by_colon
 
-turn_entry : {c : Control} {class : ℕ} {action : Action} → Means c class Turn action → TurnEntry c class action
+turn_entry : {c : Control} {class : ℕ} {action : Action} → Means c class (Some Turn) action → TurnEntry c class action
 turn_entry (means_turn t e) = record { entry = refl; single = t; ended = e }
 
 -- the class behind an opener's is a closer's
@@ -161,7 +161,7 @@ ran (ran_through t) = t
 -- a turn of the loop up to its step: the level is under way before a record, it is readied for the record's token, and the step is that of
 -- the table
 pub record Arrival (p : Segment) (from : Control) (count top : ℕ) (table : List ℕ) (before : List Waiting) (control : code.Control) (first : Level) (at : ℕ) (old : List ℕ) (oldStack : List Waiting)
-    (class : ℕ) (newline : Bool) (s : Standing) (stack : List Waiting) (cells : List ℕ) (step : Step) : Type 0 where
+    (class : ℕ) (newline : Bool) (s : Standing) (stack : List Waiting) (cells : List ℕ) (step : Option Step) : Type 0 where
   pub fine : Fine p
   pub underway : Underway p from count top table before (control_of control) first at old oldStack
   pub here : at < count_of p.cells
@@ -171,7 +171,7 @@ pub record Arrival (p : Segment) (from : Control) (count top : ℕ) (table : Lis
   pub steps : Settled s.control class → Means (control_of s.control) class step (look class (row (control_of s.control) newline))
 
 module _ {p : Segment} {from : Control} {count top : ℕ} {table : List ℕ} {before : List Waiting} {control : code.Control} {first : Level} {at : ℕ} {old : List ℕ} {oldStack : List Waiting}
-    {class : ℕ} {newline : Bool} {s : Standing} {stack : List Waiting} {cells : List ℕ} {step : Step}
+    {class : ℕ} {newline : Bool} {s : Standing} {stack : List Waiting} {cells : List ℕ} {step : Option Step}
     (turn : Arrival p from count top table before control first at old oldStack class newline s stack cells step) where
   abbrev fine : Fine p
   fine = turn.fine
@@ -197,8 +197,8 @@ module _ {p : Segment} {from : Control} {count top : ℕ} {table : List ℕ} {be
   entry_at : {action : Action} → look class (row c newline) ≡ action → look class (row c (line_at p.cells at)) ≡ action
   entry_at e = rw turn.lined at e
 
-  means_as : {s : Step} → step ≡ s → Means c class s (look class (row c newline))
-  means_as e = subst (λ (s : Step). Means c class s (look class (row c newline))) e means
+  means_as : {s : Option Step} → step ≡ s → Means c class s (look class (row c newline))
+  means_as e = subst (λ (s : Option Step). Means c class s (look class (row c newline))) e means
 
   abbrev somewhere : StandsSomewhere c l stack cells
   somewhere = runs.somewhere h
@@ -210,14 +210,14 @@ module _ {p : Segment} {from : Control} {count top : ℕ} {table : List ℕ} {be
   below_most = omega (arith, h.low, fine.few)
 
   -- it dies at the record
-  pub fails : {closer place : ℕ} {cells' : List ℕ} {stack' : List Waiting} → step ≡ Fail → place ≡ place_at p.cells p.close at
+  pub fails : {closer place : ℕ} {cells' : List ℕ} {stack' : List Waiting} → step ≡ None → place ≡ place_at p.cells p.close at
       → Ran closer p from count top table before (Err (Fault.NoProgram place)) cells' stack'
   fails e z =
       let entry = fail_entry (rw is (never_ends p.text p.cells at)) (means_as e) in
       rw z (ran_dead λ around mark u. runs.dies_here fine h class (sym is) here (entry_at entry) around _)
 
   -- it goes on
-  module _ {to : code.Control} {effect : ℕ} (e : step ≡ Goto to effect) where
+  module _ {to : code.Control} {effect : effects.Effect} (e : step ≡ Some (Goto to effect)) where
     goes : GotoEntry c class (control_of to) effect (look class (row c newline))
     goes = goto_entry (means_as e)
 
@@ -239,7 +239,7 @@ module _ {p : Segment} {from : Control} {count top : ℕ} {table : List ℕ} {be
         (affects c (control_of to) h.g h.nests table before count top at h.stands goes.leads below_most) (leads_kind goes.leads) long
 
   -- it enters a nest
-  module _ {nest number : ℕ} (e : step ≡ Enter nest number) where
+  module _ {nest : opened.Nest} {number : codes.Setting} (e : step ≡ Some (Enter nest number)) where
     enters : EnterEntry c class nest number (look class (row c newline))
     enters = enter_entry (means_as e)
 
@@ -249,8 +249,6 @@ module _ {p : Segment} {from : Control} {count top : ℕ} {table : List ℕ} {be
       opens = enters.opens;
       somewhere = somewhere;
       room = room;
-      nested = enters.one;
-      set = enters.small;
       marked = omega (arith, fine.few);
     }
 
@@ -263,7 +261,7 @@ module _ {p : Segment} {from : Control} {count top : ℕ} {table : List ℕ} {be
         (entered_kind nest ∙ sym (opens_kind enters.opens)) long)
 
   -- it asks
-  module _ (e : step ≡ Ask) where
+  module _ (e : step ≡ Some Ask) where
     asks : AskEntry c class (look class (row c newline))
     asks = ask_entry (means_as e)
 
@@ -278,7 +276,7 @@ module _ {p : Segment} {from : Control} {count top : ℕ} {table : List ℕ} {be
         (runs.goes_asking fine h class (sym is) here asks.single (entry_at asks.entry) a.stands (sym (ended_kind asks.ended)) long)
 
   -- and is answered
-  module _ (e : step ≡ Turn) where
+  module _ (e : step ≡ Some Turn) where
     turns : TurnEntry c class (look class (row c newline))
     turns = turn_entry (means_as e)
 
@@ -293,7 +291,7 @@ module _ {p : Segment} {from : Control} {count top : ℕ} {table : List ℕ} {be
         (runs.goes_turning fine h class (sym is) here turns.single (entry_at turns.entry) a (sym (ended_kind turns.ended)) long)
 
   -- it opens a group
-  module _ {to : code.Control} {closing : ℕ} (e : step ≡ Push to closing) where
+  module _ {to : code.Control} {closing : closings.Closing} (e : step ≡ Some (Push to closing)) where
     pushes : PushEntry c class (control_of to) closing (look class (row c newline))
     pushes = push_entry (means_as e)
 
@@ -321,7 +319,7 @@ module _ {p : Segment} {from : Control} {count top : ℕ} {table : List ℕ} {be
         inner_dead (subst (λ (x : Result Parsed Fault). Ran (class + 1) (inside p at) (inside_by closing) l.count l.top cells stack x cells₁ stack₁) q inner)
 
     module _ {r : Result Parsed Fault} {made : Parsed} {cells₁ : List ℕ} {stack₁ : List Waiting} (inside-ran : Ran (class + 1) (inside p at) (inside_by closing) l.count l.top cells stack r cells₁ stack₁) (q : r ≡ Ok made)
-        (by : ℕ) (closes_by : closing_by by ≡ cond made.within (in_for (closing_by closing)) (closing_by closing)) where
+        (by : closings.Closing) (closes_by : closing_by by ≡ cond made.within (in_for (closing_by closing)) (closing_by closing)) where
       inner : Ran (class + 1) (inside p at) (inside_by closing) l.count l.top cells stack (Ok made) cells₁ stack₁
       inner = subst (λ (x : Result Parsed Fault). Ran (class + 1) (inside p at) (inside_by closing) l.count l.top cells stack x cells₁ stack₁) q inside-ran
 
@@ -387,20 +385,11 @@ module _ {p : Segment} {at closer count top : ℕ} {stack : List Waiting} (may :
   fewer_inside = let f = may.fine.at at may.here in omega (arith, inside_count may.fine at may.here, f.some, f.fits)
 
 -- where the parsers start
-pub body_inside : (closing : ℕ) → (closing ≡ 5 → ⊥) → 5 ≤ closing → closing < 8 → statement_due false (among body) ≡ inside_by closing
-unfolding inside_by
-body_inside closing other low high = go (eqb closing 6) refl
-  where
-    go : (b : Bool) → eqb closing 6 ≡ b → statement_due false (among body) ≡ inside_by closing
-    go true e = rw (eqb-true closing 6 e)
-    go false e = let z : closing ≡ 7 = omega (arith, eqb-false closing 6 e, other) in rw z
+pub body_inside : {closing : closings.Closing} → (closing ≡ group.Declaration) ⊎ (closing ≡ group.Function) → statement_due false (among body) ≡ inside_by closing
+body_inside (inl e) = rw e
+body_inside (inr e) = rw e
 
-pub body_scope : statement_due false (setting_by 0) ≡ statement_due false (among body)
-unfolding setting_by
-body_scope = refl
-
-pub block_inside : {closing : ℕ} → closing ≡ 5 → statement_due false (setting_by 1) ≡ inside_by closing
-unfolding inside_by setting_by
+pub block_inside : {closing : closings.Closing} → closing ≡ group.Block → statement_due false (setting_by sits.Block) ≡ inside_by closing
 block_inside e = rw e
 
 pub ran_as : {class : ℕ} {p : Segment} {c d : Control} {count top : ℕ} {table : List ℕ} {before : List Waiting} {r : Result Parsed Fault} {cells : List ℕ} {stack : List Waiting}

@@ -3,25 +3,24 @@
 // what waits stands on the lent stack.
 #![tactic(auto)]
 
-ghost use Rattle.std.specs.Prelude.{◌≤◌};
-ghost use Rattle.controls.specs.Machinery.Numbers.{inside_by};
+ghost use Rattle.controls.specs.Machinery.Numbers.{IsScope, inside_by};
 ghost use Rattle.segments.specs.Machinery.Segments.{segment_of, inside};
 ghost use Rattle.levels.specs.Machinery.Runs.{MayRun, MayOpen, Ran, RanStatements, RanExpression, RanFunction};
 
 use answers::faults::Fault;
 use brief::Found;
-use controls::{Step, records};
+use controls::{Closing, Setting, Step, records};
 use groups::Parsed;
 use segments::Segment;
 use waiting::{Level, Waiting};
 
-// Runs the machine over a level, from where the inside of such a group starts to the closer. The number tells it, since a control would
-// be handed over through memory.
+// Runs the machine over a level, from where the inside of such a group starts to the closer. What the group is tells it, since a control
+// would be handed over through memory.
 #[cycle(level)]
 fn level(
     part: Segment,
     closer: u32,
-    inside: u32,
+    inside: Closing,
     waiting: &mut [Waiting],
     top: usize,
     syntax: &mut [u32],
@@ -39,11 +38,10 @@ fn level(
         let class = part.class_at(at);
         let newline = part.newline_at(at);
         let s = frames::ready(control, class, l, waiting, syntax);
-        let step = rows::row(s.control, class, newline);
+        let Some(step) = rows::row(s.control, class, newline) else {
+            return Err(Fault::NoProgram(part.place_at(at)));
+        };
         match step {
-            Step::Fail => {
-                return Err(Fault::NoProgram(part.place_at(at)));
-            }
             Step::Goto(next, effect) => {
                 l = effects::affect(effect, class, part.base + at, s.level, waiting, syntax);
                 control = next;
@@ -93,7 +91,7 @@ fn group(
     part: Segment,
     at: usize,
     closer: u32,
-    closing: u32,
+    closing: Closing,
     waiting: &mut [Waiting],
     top: usize,
     syntax: &mut [u32],
@@ -121,7 +119,7 @@ fn group(
 fn content(
     part: Segment,
     closer: u32,
-    closing: u32,
+    closing: Closing,
     waiting: &mut [Waiting],
     top: usize,
     syntax: &mut [u32],
@@ -131,10 +129,8 @@ fn content(
     ensures { Ran closer (segment_of part.entry) (inside_by closing) count top syntax.old waiting.old result syntax.new waiting.new }
 {
     match closing {
-        controls::TO_BLOCK => {
-            statements(part, closer, controls::BLOCK, waiting, top, syntax, count)
-        }
-        controls::TO_DECLARATION | controls::TO_FUNCTION => {
+        Closing::Block => statements(part, closer, Setting::Block, waiting, top, syntax, count),
+        Closing::Declaration | Closing::Function => {
             function(part, closer, waiting, top, syntax, count)
         }
         _ => expression(part, closer, closing, waiting, top, syntax, count),
@@ -146,13 +142,13 @@ fn content(
 pub fn statements(
     part: Segment,
     closer: u32,
-    scope: u32,
+    scope: Setting,
     waiting: &mut [Waiting],
     top: usize,
     syntax: &mut [u32],
     count: usize,
 ) -> Result<Parsed, Fault>
-    requires { MayRun (segment_of part) closer count top waiting.old × (scope ≤ 1) }
+    requires { MayRun (segment_of part) closer count top waiting.old × IsScope scope }
     ensures { RanStatements scope closer (segment_of part.entry) count top syntax.old waiting.old result syntax.new waiting.new }
 {
     let inside = controls::group_of(scope);
@@ -164,7 +160,7 @@ pub fn statements(
 fn expression(
     part: Segment,
     closer: u32,
-    closing: u32,
+    closing: Closing,
     waiting: &mut [Waiting],
     top: usize,
     syntax: &mut [u32],
@@ -189,5 +185,5 @@ fn function(
     requires { MayRun (segment_of part) closer count top waiting.old }
     ensures { RanFunction closer (segment_of part.entry) count top syntax.old waiting.old result syntax.new waiting.new }
 {
-    statements(part, closer, controls::BODY, waiting, top, syntax, count)
+    statements(part, closer, Setting::Body, waiting, top, syntax, count)
 }

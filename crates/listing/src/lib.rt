@@ -7,6 +7,7 @@ ghost use Rattle.reading.specs.Read.{answer_of, table_after};
 ghost use Rattle.listing.specs.Listing.{short_reading, whole_trees, ListsTrees, Counts};
 
 use answers::Answer;
+use answers::faults::Fault;
 use tables::TreeRecord;
 
 // The bytes and records that `treelist` lists at most.
@@ -23,7 +24,7 @@ pub const SHORT_TREES: usize = MOST_LISTED_TREES * TreeRecord::WIDTH;
 
 pub const TREES: usize = TreeRecord::MOST * TreeRecord::WIDTH;
 
-// A cell has at most 10 digits and a byte behind them.
+// A cell has at most 10 digits and a byte behind them. The sum is written out for each output, since a constant takes no call of a `const fn`.
 pub const SHORT_OUTPUT: usize = 11 * SHORT_TREES + 40;
 
 pub const TREES_OUTPUT: usize = 11 * TREES + 40;
@@ -41,7 +42,7 @@ fn read_short(text: &[u8], trees: &mut [u32; SHORT_TREES]) -> Answer
 {
     if MOST_LISTED < text.len() {
         tables::clear(trees);
-        return Answer::Refused(reader::LONG, reader::MOST_BYTES);
+        return Answer::from(Fault::Long(reader::MOST_BYTES));
     }
     reader::read(text, trees)
 }

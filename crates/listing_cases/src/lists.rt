@@ -1,4 +1,5 @@
-// Each case has buffers and tables of its own, as the programs have.
+// Each case has buffers and tables of its own, as the programs have. One function for all would take a closure over arrays of a
+// const length, which the borrow checker does not cover.
 use case_answers::print_listing;
 use listing::{INPUT, SHORT_INPUT};
 use std::io;

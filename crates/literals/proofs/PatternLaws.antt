@@ -69,6 +69,13 @@ module _ (first : ℕ) (s : List ℕ) (i : ℕ) where
             let f = code_passed (get_or s i 0) k in
             rw (drop_at s i h) (rw (f.0, f.1, ne_eqb _ _ n, ne_eqb _ _ e, pattern_rest))
 
+      -- a byte that no backslash takes, and that neither is one nor closes: by whether a class is left open
+      pub pattern_goes : (get_or s i 0 ≡ backslash → ⊥) → (class next : Bool) → (class ≡ true → not (eqb (get_or s i 0) (byte "]")) ≡ next)
+          → (class ≡ false → (get_or s i 0 ≡ byte "/" → ⊥) × (eqb (get_or s i 0) (byte "[") ≡ next))
+          → pattern_rest first class false i (drop i s) ≡ pattern_rest first next false (i + 1) (drop (i + 1) s)
+      pattern_goes n true next f g = rw (f refl) at (pattern_class n)
+      pattern_goes n false next f g = rw (g refl).1 at (pattern_more n (g refl).0)
+
     -- a byte that does not turn, in a class or not, and whether a backslash takes it or not
     pattern_quiet : 2 < code_of (get_or s i 0) → (class taken : Bool)
         → pattern_rest first class taken i (drop i s) ≡ pattern_rest first class false (i + 1) (drop (i + 1) s)

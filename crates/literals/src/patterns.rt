@@ -12,6 +12,7 @@ pub fn pattern_rest(codes: &Codes, text: &[u8], first: usize, from: usize) -> Re
     let mut class = false;
     let mut taken = false;
     let mut i = from;
+    // The place goes by whole runs, so that no iterator over bytes gives it.
     while i < text.len() {
         let b = text[i];
         let code = codes.of(b);
@@ -26,25 +27,14 @@ pub fn pattern_rest(codes: &Codes, text: &[u8], first: usize, from: usize) -> Re
         if code == text::ILLEGAL {
             return Err(Fault::Stray(i));
         }
-        if taken {
-            taken = false;
-            i += 1;
-            continue;
+        match b {
+            _ if taken => taken = false,
+            b'\\' => taken = true,
+            b'[' => class = true,
+            b']' => class = false,
+            b'/' if !class => return Ok(runs::name_end(codes, text, i + 1)),
+            _ => {}
         }
-        if b == b'\\' {
-            taken = true;
-            i += 1;
-            continue;
-        }
-        if class {
-            class = b != b']';
-            i += 1;
-            continue;
-        }
-        if b == b'/' {
-            return Ok(runs::name_end(codes, text, i + 1));
-        }
-        class = b == b'[';
         i += 1;
     }
     Err(Fault::OpenPattern(first))

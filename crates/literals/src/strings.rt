@@ -25,6 +25,7 @@ pub fn string_rest(
 {
     let mut taken = false;
     let mut i = from;
+    // The place goes by whole runs, so that no iterator over bytes gives it.
     while i < text.len() {
         let b = text[i];
         let code = codes.of(b);
@@ -41,13 +42,11 @@ pub fn string_rest(
         }
         if taken {
             taken = false;
-            i += 1;
-            continue;
-        }
-        if b == q {
+        } else if b == q {
             return Ok(i + 1);
+        } else {
+            taken = b == b'\\';
         }
-        taken = b == b'\\';
         i += 1;
     }
     Err(Fault::OpenString(first))

@@ -123,10 +123,8 @@ pub fn number_at(codes: &Codes, text: &[u8], first: usize) -> Result<usize, Faul
         return Ok(first);
     }
     let end = number_end(codes, text, first);
-    if end < text.len() {
-        if text::BLANK < codes.of(text[end]) {
-            return Err(Fault::BadNumber(first));
-        }
+    if end < text.len() && text::BLANK < codes.of(text[end]) {
+        return Err(Fault::BadNumber(first));
     }
     Ok(end)
 }

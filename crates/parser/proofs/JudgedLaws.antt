@@ -9,6 +9,7 @@ use Rattle.answers.specs.declared.faults.Fault.{Fault}
 use Rattle.tables.specs.Records.{most_syntax, syntax_room}
 use Rattle.machine.specs.Syntax.{Syntax, size, program_syntax, program_tree}
 use Rattle.machine.specs.Machinery.Machine.{end_of_text}
+use Rattle.controls.specs.declared.Setting.TheVariants as sits
 use Rattle.controls.specs.Machinery.Numbers.{setting_by}
 use Rattle.controls.specs.Machinery.Written.{put_record, put_syntax}
 use Rattle.segments.specs.Machinery.Segments.{Segment, count_of}
@@ -20,18 +21,16 @@ use Rattle.controls.proofs.KeptLength.{syntax_kept_length}
 
 -- the statements of the whole table, up to the text's end
 module _ {p : Segment} {table middle : List ℕ} {stack stack' : List Waiting} where
-  bad : {fault : Fault} {after : List ℕ} → RanStatements 0 end_of_text p 0 0 table stack (Err fault) middle stack' → Judged p table (Err fault) after
-  unfolding setting_by
+  bad : {fault : Fault} {after : List ℕ} → RanStatements sits.Body end_of_text p 0 0 table stack (Err fault) middle stack' → Judged p table (Err fault) after
   bad (ran_dead dies) = judged_bad (dies [] 0 [])
 
-  done : {made : Parsed} → RanStatements 0 end_of_text p 0 0 table stack (Ok made) middle stack' → (parts : Syntax) × Built p parts × (made.count ≡ size parts) × (middle ≡ put_syntax table 0 parts)
-  unfolding setting_by
+  done : {made : Parsed} → RanStatements sits.Body end_of_text p 0 0 table stack (Ok made) middle stack' → (parts : Syntax) × Built p parts × (made.count ≡ size parts) × (middle ≡ put_syntax table 0 parts)
   done (ran_through t) =
       (t.value, record { ends = t.runs [] 0 []; few = omega (arith, t.count_is, t.passes) }, omega (arith, t.count_is), t.cells_are)
 
-module _ {p : Segment} {table middle : List ℕ} {stack stack' : List Waiting} {r : Result Parsed Fault} (ran : RanStatements 0 end_of_text p 0 0 table stack r middle stack') where
-  ran_as : {s : Result Parsed Fault} → r ≡ s → RanStatements 0 end_of_text p 0 0 table stack s middle stack'
-  ran_as e = subst (λ (x : Result Parsed Fault). RanStatements 0 end_of_text p 0 0 table stack x middle stack') e ran
+module _ {p : Segment} {table middle : List ℕ} {stack stack' : List Waiting} {r : Result Parsed Fault} (ran : RanStatements sits.Body end_of_text p 0 0 table stack r middle stack') where
+  ran_as : {s : Result Parsed Fault} → r ≡ s → RanStatements sits.Body end_of_text p 0 0 table stack s middle stack'
+  ran_as e = subst (λ (x : Result Parsed Fault). RanStatements sits.Body end_of_text p 0 0 table stack x middle stack') e ran
 
   pub judge_bad : {fault : Fault} {after : List ℕ} → r ≡ Err fault → Judged p table (Err fault) after
   judge_bad e = bad (ran_as e)

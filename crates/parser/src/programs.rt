@@ -5,7 +5,7 @@ ghost use Rattle.segments.specs.Machinery.Segments.{Fine, segment, segment_of, c
 ghost use Rattle.parser.specs.Machinery.Judged.{Judged};
 
 use answers::faults::Fault;
-use controls::records;
+use controls::{Setting, records};
 use machine::tokens;
 use segments::Segment;
 use tables::{SyntaxRecord, TreeRecord};
@@ -21,7 +21,7 @@ fn program(part: Segment, waiting: &mut [Waiting], syntax: &mut [u32]) -> Result
     let body = levels::statements(
         part,
         tokens::END_OF_TEXT,
-        controls::BODY,
+        Setting::Body,
         waiting,
         0,
         syntax,

@@ -10,6 +10,7 @@ use Rattle.rule.specs.Trees.{Trees, none, leaf, group}
 use Rattle.rule.specs.Levels.{Levels, whole_text, inside, on_top}
 use Rattle.prefix.specs.Machinery.Represents.{Represents, Closes, closed}
 use Rattle.prefix.specs.declared.State.{State}
+use Rattle.prefix.specs.declared.OpenGroup.{OpenGroup}
 use Rattle.spacing.specs.Respaced.{add_element, add_closer, add_trees}
 use Rattle.spacing.specs.Machinery.Over.{over, Puts}
 use Rattle.spacing.specs.Machinery.Written.{opener_place, written_of, Writes}
@@ -28,7 +29,7 @@ unfolding add_trees
 written_group bytes kind first end newline trees (whole_text t) = refl
 written_group bytes kind first end newline trees (inside around k f l t) = refl
 
-module _ (bytes old output stack after : List ℕ) (state : State) (at place : ℕ) (e : Element) (next : List ℕ) (to : ℕ) (near : place ≤ e.first) (some : e.first < e.end)
+module _ (bytes old output : List ℕ) (stack after : List OpenGroup) (state : State) (at place : ℕ) (e : Element) (next : List ℕ) (to : ℕ) (near : place ≤ e.first) (some : e.first < e.end)
     (same : length after ≡ length stack) (kept : length next ≡ length output) where
   wrote : {levels : Levels} → Writes bytes old output stack state at place levels → (s : State) (then : Levels) → Represents opener_place after s then
       → to + e.first ≤ at + e.end + 1 → (to ≡ length (written_of bytes then)) × (next ≡ over (written_of bytes then) old)

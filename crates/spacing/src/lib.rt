@@ -59,7 +59,7 @@ pub fn put_closer(text: &[u8], output: &mut [u8], at: usize, first: usize, end: 
     put_bytes(output, next, &text[first..end])
 }
 
-// Every byte of an output becomes 0.
+// Every byte of an output becomes 0. A function of its own, since the calls' contracts and a wrong program speak of it.
 pub fn clear(output: &mut [u8])
     ensures { output.new ≡ replicate (length output.old) 0 }
 {

@@ -10,6 +10,7 @@ use Rattle.rule.specs.Trees.{Trees, none, leaf, group, count}
 use Rattle.rule.specs.Levels.{Levels, inside, count_so_far, on_top}
 use Rattle.prefix.specs.Machinery.Represents.{Represents, Closes, closed}
 use Rattle.prefix.specs.declared.State.{State}
+use Rattle.prefix.specs.declared.OpenGroup.{OpenGroup}
 use Rattle.prefix.proofs.StateLaws.{count_on_top}
 use Rattle.tables.specs.Records.{tree_width, tree_record}
 use Rattle.storing.specs.Records.{records}
@@ -21,7 +22,7 @@ pub closes_index : {m : ℕ} {e : Element} {levels outer : Levels} → Closes re
 closes_index (closed q) = omega (arith, q)
 
 -- the end of a group is written into its record
-module _ (before now stack after : List ℕ) (room : ℕ) (state s : State) (e : Element) where
+module _ (before now : List ℕ) (stack after : List OpenGroup) (room : ℕ) (state s : State) (e : Element) where
   pub store_closer : {m : ℕ} {levels outer : Levels} → Closes record_index e m levels outer → Holds before now stack room state levels → length after ≡ length stack
       → Represents record_index after s outer
       → Holds before (set (set now (tree_width * m + 2) e.end) (tree_width * m + 3) (state.records - m)) after room s outer
@@ -43,7 +44,7 @@ module _ (before now stack after : List ℕ) (room : ℕ) (state s : State) (e :
       }
 
 -- the record of a leaf, or of a group that opens, is written behind the records so far
-module _ (before now stack : List ℕ) (room : ℕ) (state : State) (levels : Levels) (h : Holds before now stack room state levels) where
+module _ (before now : List ℕ) (stack : List OpenGroup) (room : ℕ) (state : State) (levels : Levels) (h : Holds before now stack room state levels) where
   written : (kind first end m : ℕ) (newline : Bool) (next : Levels)
       → cells next ≡ cells levels ++ tree_record kind first end m newline → count_so_far next ≡ count_so_far levels + 1
       → take (tree_width * state.records) now ++ (tree_record kind first end m newline ++ drop (tree_width * state.records + tree_width) now)
@@ -51,7 +52,7 @@ module _ (before now stack : List ℕ) (room : ℕ) (state : State) (levels : Le
   written kind first end m newline next c n =
       rw (h.represented.records_is, h.cells_are, c, n) (put_cells (cells levels) before (count_so_far levels) kind first end m newline (cells_length levels))
 
-  module _ (after : List ℕ) (same : length after ≡ length stack) (e : Element) where
+  module _ (after : List OpenGroup) (same : length after ≡ length stack) (e : Element) where
     store_put : (kind end m : ℕ) (s : State) (next : Levels) → Represents record_index after s next → count_so_far levels < room
         → cells next ≡ cells levels ++ tree_record kind e.first end m e.newline → count_so_far next ≡ count_so_far levels + 1
         → Holds before (take (tree_width * state.records) now ++ (tree_record kind e.first end m e.newline ++ drop (tree_width * state.records + tree_width) now)) after room s next

@@ -14,10 +14,6 @@ use Rattle.text.specs.Runs.{run}
 use Rattle.text.proofs.Range.{every, alike, alike→eq, agree}
 use Rattle.text.proofs.Laws.{run_stop, run_more, run_passed, run_ends}
 
-from_length : (b n : ℕ) → length (codes_from b n) ≡ n
-from_length b zero = refl
-from_length b (suc n) = rw (from_length (suc b) n)
-
 from_at : (b n k : ℕ) → k < n → get_or (codes_from b n) k 0 ≡ code_of (b + k)
 from_at b zero k h = absurd (omega arith)
 from_at b (suc n) zero h =
@@ -27,11 +23,7 @@ from_at b (suc n) (suc k) h =
     let e : b + suc k ≡ suc b + k = omega arith in
     rw e (from_at (suc b) n k (omega arith))
 
--- the table has a code for each byte
-pub codes_length : (table : List ℕ) → table ≡ byte_codes → length table ≡ 256
-unfolding byte_codes
-codes_length table e = rw e (from_length 0 256)
-
+-- the table has the code of each byte
 pub codes_at : (table : List ℕ) → table ≡ byte_codes → (b : ℕ) → b < 256 → get_or table b 0 ≡ code_of b
 unfolding byte_codes
 codes_at table e b h =

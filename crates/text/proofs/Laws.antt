@@ -1,7 +1,7 @@
 -- Laws of runs and of the comparison of two texts, at a place.
 use mathlib.Core.Path.{◌≡◌, refl, ap, ◌∙◌}
 use mathlib.Core.List.{List, [], ◌∷◌, ◌++◌}
-use mathlib.Core.Bool.{Bool, true, false, and-false, cond}
+use mathlib.Core.Bool.{Bool, true, false, cond}
 use Prim.Native.Nat.{ℕ, suc, zero, ◌+◌, ◌<◌, ◌≤◌}
 use native.Mathlib.Nat.{add-zero}
 use native.Mathlib.Omega.{arith}
@@ -99,13 +99,6 @@ same_pointwise [] (y ∷ b) = refl
 same_pointwise (x ∷ a) [] = refl
 same_pointwise (x ∷ a) (y ∷ b) = rw (same_pointwise a b)
 
-pub same_length : (a b : List ℕ) → (length a ≡ length b → ⊥) → same a b ≡ false
-unfolding same
-same_length [] [] h = absurd (h refl)
-same_length [] (y ∷ b) h = refl
-same_length (x ∷ a) [] h = refl
-same_length (x ∷ a) (y ∷ b) h = rw (same_length a b (λ e. h (ap suc e))) (and-false (eqb x y))
-
 pub same→eq : (a b : List ℕ) → T (same a b) → a ≡ b
 unfolding same
 same→eq [] [] t = refl
@@ -118,15 +111,3 @@ pub same_self : (a : List ℕ) → same a a ≡ true
 unfolding same
 same_self [] = refl
 same_self (x ∷ a) = rw (eq-eqb x x refl, same_self a)
-
--- two texts that differ at a place
-pub same_differ : (a b : List ℕ) (i : ℕ) → (get_or a i 0 ≡ get_or b i 0 → ⊥) → same a b ≡ false
-same_differ a b i differ = go (same a b) refl
-  where
-    go : (t : Bool) → same a b ≡ t → t ≡ false
-    go true e = let eq = same→eq a b (rw e tt) in absurd (differ (ap (λ s. get_or s i 0) eq))
-    go false e = refl
-
--- two texts that are the same from one place on, and at the place before it
-pub drop_from : (a b : List ℕ) (i : ℕ) → i < length a → i < length b → get_or a i 0 ≡ get_or b i 0 → drop (i + 1) a ≡ drop (i + 1) b → drop i a ≡ drop i b
-drop_from a b i h k e rest = rw (drop_at a i h, drop_at b i k, e, rest)

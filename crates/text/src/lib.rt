@@ -21,6 +21,7 @@ pub const DIGIT: u8 = 6;
 
 // The table of codes, one for each byte. A call makes it once and lends it to all that scans: a table that stands where it is indexed is
 // copied each time.
+// It is lent beside the text and not in one struct with it: the clauses of the scanners speak of the text, which would be a field there.
 #[derive(Drop)]
 pub struct Codes {
     table: [u8; 256],

@@ -24,24 +24,16 @@ use Rattle.spacing.specs.Respaced.{add_trees}
 use Rattle.spacing.proofs.OverLaws.{over_nothing}
 use Rattle.keeping.specs.Machinery.Keeping.{Lent, tag_of, Keeps, MayTake}
 use Rattle.turns.specs.Machinery.Turns.{limits_for, Turned, goes_on, ends, MayRead, Runs, ran, halted}
-use Rattle.turns.specs.declared.ReadOn.{ReadOn}
-use Rattle.turns.specs.declared.Taken.{Taken}
+use Rattle.turns.specs.declared.Reached.{Reached}
 
 -- what the loop holds: there is fuel for the rest of the text
-pub record At (spaced : Bool) (bytes : List ℕ) (was is : Lent) (room : ℕ) (state : State) (at place : ℕ) : Type 0 where
+pub record At (spaced : Bool) (bytes : List ℕ) (was is : Lent) (room : ℕ) (reached : Reached) (place : ℕ) : Type 0 where
   pub levels : Levels
   pub fuel : ℕ
   pub meets : reading bytes (limits_for room) ≡ read_on bytes (limits_for room) (suc fuel) levels place
   pub enough : length bytes ≤ place + fuel
   pub inside : place ≤ length bytes
-  pub keeps : Keeps spaced bytes was is room state at place levels
-
--- the same, and what is lent is as long as it was
-pub record Loop (spaced : Bool) (bytes : List ℕ) (was is : Lent) (room : ℕ) (state : State) (at place : ℕ) : Type 0 where
-  pub trees_length : length is.trees ≡ length was.trees
-  pub output_length : length is.output ≡ length was.output
-  pub stack_length : length is.stack ≡ length was.stack
-  pub here : At spaced bytes was is room state at place
+  pub keeps : Keeps spaced bytes was is room reached.state reached.written place levels
 
 module _ (bytes : List ℕ) (was : Lent) (room : ℕ) where
   start_keeps : (spaced : Bool) (state : State) → MayRead spaced bytes was.trees was.stack room → Represents (tag_of spaced) was.stack state (whole_text none)
@@ -54,12 +46,12 @@ module _ (bytes : List ℕ) (was : Lent) (room : ℕ) where
       { represented = represented; cells_are = refl; some = omega arith; room_fits = may.room_fits refl; room_small = may.room_small; length_is = refl; stack_is = may.stack_is }
 
   pub start_at : (spaced : Bool) (state : State) → MayRead spaced bytes was.trees was.stack room → Represents (tag_of spaced) was.stack state (whole_text none)
-      → At spaced bytes was was room state 0 0
+      → At spaced bytes was was room (record { state = state; written = 0 }) 0
   unfolding reading
   start_at spaced state may represented =
       record { levels = whole_text none; fuel = length bytes; meets = refl; enough = omega arith; inside = omega arith; keeps = start_keeps spaced state may represented }
 
-  module _ (spaced : Bool) (is : Lent) (state : State) (at place : ℕ) (here : At spaced bytes was is room state at place) (stated : Stated) (p : stated ≡ stated_by here.levels) where
+  module _ (spaced : Bool) (is : Lent) (reached : Reached) (place : ℕ) (here : At spaced bytes was is room reached place) (stated : Stated) (p : stated ≡ stated_by here.levels) where
     limits : Limits
     limits = limits_for room
 
@@ -67,20 +59,20 @@ module _ (bytes : List ℕ) (was : Lent) (room : ℕ) where
     same : (next : Next) → element_at bytes place stated ≡ next → element_at bytes place (stated_by here.levels) ≡ next
     same next e = rw p at e
 
-    pub at_end : element_at bytes place stated ≡ Ok None → Runs spaced bytes was is room (ReadOn.End state at)
+    pub at_end : element_at bytes place stated ≡ Ok None → Runs spaced bytes was is room (Ok reached)
     unfolding limits
     at_end e = ran here.levels here.keeps here.inside (here.meets ∙ read_end bytes limits here.fuel here.levels place (same (Ok None) e))
 
     pub at_fault : (after : Lent) (fault : Fault) → element_at bytes place stated ≡ Err fault
-        → Runs spaced bytes was after room (ReadOn.Stop (fault_number fault) (fault_place fault))
+        → Runs spaced bytes was after room (Err fault)
     unfolding limits
-    at_fault after fault e = halted (here.meets ∙ read_fault bytes limits here.fuel here.levels place fault (same (Err fault) e))
+    at_fault after fault e = halted {fault = fault} (here.meets ∙ read_fault bytes limits here.fuel here.levels place fault (same (Err fault) e))
 
     module _ (e : Element) (found : element_at bytes place stated ≡ Ok (Some e)) where
       placed : Placed bytes place e
       placed = found_placed bytes place stated e found
 
-      pub may_take : MayRead spaced bytes was.trees was.stack room → MayTake spaced bytes is room state at e
+      pub may_take : MayRead spaced bytes was.trees was.stack room → MayTake spaced bytes is room reached.state reached.written e
       may_take may =
           record {
             was = was;
@@ -94,18 +86,19 @@ module _ (bytes : List ℕ) (was : Lent) (room : ℕ) where
             room_small = may.room_small;
           }
 
-      stopped_by : (after : Lent) {n q : ℕ} {y : Step} → step limits here.levels e ≡ y → Turned spaced bytes was after room e.end (Taken.Stop n q) y
-          → Runs spaced bytes was after room (ReadOn.Stop n q)
+      stopped_by : (after : Lent) {fault : Fault} {y : Step} → step limits here.levels e ≡ y → Turned spaced bytes was after room e.end (Err fault) y
+          → Runs spaced bytes was after room (Err fault)
       unfolding limits
-      stopped_by after {n} {q} s ends = halted (here.meets ∙ read_stop bytes limits here.fuel here.levels place e (same (Ok (Some e)) found) n q s)
+      stopped_by after {fault} s ends =
+          halted {fault = fault} (here.meets ∙ read_stop bytes limits here.fuel here.levels place e (same (Ok (Some e)) found) (fault_number fault) (fault_place fault) s)
 
-      pub at_stop : (after : Lent) (n q : ℕ) → Turned spaced bytes was after room e.end (Taken.Stop n q) (step (limits_for room) here.levels e)
-          → Runs spaced bytes was after room (ReadOn.Stop n q)
+      pub at_stop : (after : Lent) (fault : Fault) → Turned spaced bytes was after room e.end (Err fault) (step (limits_for room) here.levels e)
+          → Runs spaced bytes was after room (Err fault)
       unfolding limits
-      at_stop after n q t = stopped_by after refl t
+      at_stop after fault t = stopped_by after refl t
 
-      gone_on : (after : Lent) {s : State} {to : ℕ} {y : Step} (k : ℕ) → here.fuel ≡ suc k → step limits here.levels e ≡ y
-          → Turned spaced bytes was after room e.end (Taken.More s to) y → At spaced bytes was after room s to e.end
+      gone_on : (after : Lent) {to : Reached} {y : Step} (k : ℕ) → here.fuel ≡ suc k → step limits here.levels e ≡ y
+          → Turned spaced bytes was after room e.end (Ok to) y → At spaced bytes was after room to e.end
       unfolding limits
       gone_on after k f s (goes_on {levels = next} h) =
           record {
@@ -117,11 +110,11 @@ module _ (bytes : List ℕ) (was : Lent) (room : ℕ) where
             keeps = h;
           }
 
-      pub at_more : (after : Lent) (s : State) (to : ℕ) → Turned spaced bytes was after room e.end (Taken.More s to) (step (limits_for room) here.levels e)
-          → At spaced bytes was after room s to e.end
+      pub at_more : (after : Lent) (to : Reached) → Turned spaced bytes was after room e.end (Ok to) (step (limits_for room) here.levels e)
+          → At spaced bytes was after room to e.end
       unfolding limits
-      at_more after s to t = go here.fuel refl
+      at_more after to t = go here.fuel refl
         where
-          go : (f : ℕ) → here.fuel ≡ f → At spaced bytes was after room s to e.end
+          go : (f : ℕ) → here.fuel ≡ f → At spaced bytes was after room to e.end
           go zero z = absurd (omega (arith, here.enough, placed.from, placed.some, placed.within))
           go (suc k) z = gone_on after k z refl t

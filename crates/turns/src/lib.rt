@@ -1,33 +1,28 @@
-// The turns of a reading: the loop that reading and respacing share. Read, a text leaves its records in the table; spaced, its elements in the
-// output. The element call and the step are compiled into the one loop, since nothing else in these calls uses them.
+// The turns of a reading: the loop that reading and respacing share, with `spaced` for which of the two is kept, since two loops would not both have all else set in
+// (reading took 6.75 million instructions where it then took 4.9). Read, a text leaves its records in the table; spaced, its elements in the output. The element call and the step are compiled into the one loop, since nothing else in these calls uses them.
 #![tactic(auto)]
 
 ghost use Rattle.std.specs.Prelude.{◌≡◌, true, false, List, ℕ, ◌<◌, ◌^◌};
+ghost use Rattle.prefix.specs.declared.OpenGroup.{OpenGroup};
 ghost use Rattle.keeping.specs.Machinery.Keeping.{lent, MayTake};
 ghost use Rattle.turns.specs.Machinery.Turns.{Takes, MayRead, Runs};
 
+use answers::faults::Fault;
 use delimiters::Advanced;
 use elements::Element;
-use prefix::State;
+use prefix::{OpenGroup, State};
 use text::Codes;
 
-// The number of the first row of document 01's table of refused texts, and the bytes that a text has at most.
-pub const LONG: u32 = 1;
-
+// The bytes that a text has at most, and the groups that may be open in it.
 pub const MOST_BYTES: usize = 262144;
 
-// What reading to the end comes to: the state there, with the count of bytes written; or a refusal.
-#[derive(Clone, Copy)]
-pub enum ReadOn {
-    End(State, usize),
-    Stop(u32, usize),
-}
+pub const MOST_GROUPS: usize = 100;
 
-// What an element makes of the state, with the count of bytes written; or a refusal.
+// How far a reading is: the state there, and the count of bytes written.
 #[derive(Clone, Copy)]
-enum Taken {
-    More(State, usize),
-    Stop(u32, usize),
+pub struct Reached {
+    pub state: State,
+    pub written: usize,
 }
 
 // Takes an element that is no delimiter.
@@ -37,20 +32,23 @@ fn take_leaf(
     output: &mut [u8],
     room: usize,
     spaced: bool,
-    state: State,
-    at: usize,
+    at: Reached,
     e: Element,
-) -> Taken
-    requires { (stack : List ℕ) × MayTake spaced text.now (lent trees.old output.old stack) room state at e }
-    ensures { (stack : List ℕ) → (e.kind ≡ 0 → ⊥) → Takes spaced text.now (lent trees.old output.old stack) (lent trees.new output.new stack) room state at e result }
+) -> Result<Reached, Fault>
+    requires { (stack : List OpenGroup) × MayTake spaced text.now (lent trees.old output.old stack) room at.state at.written e }
+    ensures { (stack : List OpenGroup) → (e.kind ≡ 0 → ⊥) → Takes spaced text.now (lent trees.old output.old stack) (lent trees.new output.new stack) room at e result }
 {
+    let state = at.state;
     if room <= state.records {
-        return Taken::Stop(prefix::TREES_FULL, e.first);
+        return Err(Fault::TreesFull(e.first));
     }
-    let leaf = prefix::settled(state, e);
-    let next = prefix::with_leaf(state, leaf);
-    let to = keeping::keep_leaf(text, trees, output, spaced, state, at, leaf);
-    Taken::More(next, to)
+    let leaf = state.settled(e);
+    let next = state.with_leaf(leaf);
+    let written = keeping::keep_leaf(text, trees, output, spaced, state, at.written, leaf);
+    Ok(Reached {
+        state: next,
+        written,
+    })
 }
 
 // What is kept of a group on the stack until it is closed: its opener's place, or the index of its record.
@@ -69,50 +67,53 @@ fn take_delimiter(
     text: &[u8],
     trees: &mut [u32],
     output: &mut [u8],
-    stack: &mut [u32],
+    stack: &mut [OpenGroup],
     room: usize,
     spaced: bool,
-    state: State,
-    at: usize,
+    at: Reached,
     e: Element,
-) -> Taken
-    requires { MayTake spaced text.now (lent trees.old output.old stack.old) room state at e }
-    ensures { e.kind ≡ 0 → Takes spaced text.now (lent trees.old output.old stack.old) (lent trees.new output.new stack.new) room state at e result }
+) -> Result<Reached, Fault>
+    requires { MayTake spaced text.now (lent trees.old output.old stack.old) room at.state at.written e }
+    ensures { e.kind ≡ 0 → Takes spaced text.now (lent trees.old output.old stack.old) (lent trees.new output.new stack.new) room at e result }
 {
+    let Reached { state, written } = at;
     let tag = tag_for(spaced, state, e);
-    let advanced = delimiters::delimit(stack, state, room, tag, e);
-    match advanced {
+    match delimiters::delimit(stack, state, room, tag, e)? {
         Advanced::Opened(kind, next) => {
-            let to = keeping::keep_opener(text, trees, output, spaced, state, at, kind, e);
-            Taken::More(next, to)
+            let to = keeping::keep_opener(text, trees, output, spaced, state, written, kind, e);
+            Ok(Reached {
+                state: next,
+                written: to,
+            })
         }
         Advanced::Closed(opener, next) => {
-            let to = keeping::keep_closer(text, trees, output, spaced, state, at, opener, e);
-            Taken::More(next, to)
+            let to = keeping::keep_closer(text, trees, output, spaced, state, written, opener, e);
+            Ok(Reached {
+                state: next,
+                written: to,
+            })
         }
-        Advanced::Stopped(number, place) => Taken::Stop(number, place),
     }
 }
 
-// Takes an element.
+// Takes an element. A leaf and a delimiter are taken apart before anything is made of them.
 fn take_element(
     text: &[u8],
     trees: &mut [u32],
     output: &mut [u8],
-    stack: &mut [u32],
+    stack: &mut [OpenGroup],
     room: usize,
     spaced: bool,
-    state: State,
-    at: usize,
+    at: Reached,
     e: Element,
-) -> Taken
-    requires { MayTake spaced text.now (lent trees.old output.old stack.old) room state at e }
-    ensures { Takes spaced text.now (lent trees.old output.old stack.old) (lent trees.new output.new stack.new) room state at e result }
+) -> Result<Reached, Fault>
+    requires { MayTake spaced text.now (lent trees.old output.old stack.old) room at.state at.written e }
+    ensures { Takes spaced text.now (lent trees.old output.old stack.old) (lent trees.new output.new stack.new) room at e result }
 {
     if e.kind != elements::DELIMITER {
-        return take_leaf(text, trees, output, room, spaced, state, at, e);
+        return take_leaf(text, trees, output, room, spaced, at, e);
     }
-    take_delimiter(text, trees, output, stack, room, spaced, state, at, e)
+    take_delimiter(text, trees, output, stack, room, spaced, at, e)
 }
 
 // Reads a text to its end or a refusal: what is kept of it is in the table or, spaced, in the output.
@@ -121,35 +122,21 @@ pub fn read_on(
     text: &[u8],
     trees: &mut [u32],
     output: &mut [u8],
-    stack: &mut [u32],
+    stack: &mut [OpenGroup],
     room: usize,
     spaced: bool,
-) -> ReadOn
+) -> Result<Reached, Fault>
     requires { MayRead spaced text.now trees.old stack.old room }
     ensures { Runs spaced text.now (lent trees.old output.old stack.old) (lent trees.new output.new stack.new) room result }
 {
-    let mut state = prefix::start();
+    let mut at = Reached {
+        state: State::start(),
+        written: 0,
+    };
     let mut place = 0;
-    let mut at = 0;
-    loop {
-        let stated = prefix::stated_by(state);
-        let next = match elements::element_by(codes, text, place, stated) {
-            Ok(next) => next,
-            Err(fault) => return ReadOn::Stop(fault.number(), fault.place()),
-        };
-        let Some(e) = next else {
-            return ReadOn::End(state, at);
-        };
-        let taken = take_element(text, trees, output, stack, room, spaced, state, at, e);
-        match taken {
-            Taken::More(after, to) => {
-                state = after;
-                place = e.end;
-                at = to;
-            }
-            Taken::Stop(number, fault) => {
-                return ReadOn::Stop(number, fault);
-            }
-        }
+    while let Some(e) = elements::element_by(codes, text, place, at.state.stated())? {
+        at = take_element(text, trees, output, stack, room, spaced, at, e)?;
+        place = e.end;
     }
+    Ok(at)
 }

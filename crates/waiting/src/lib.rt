@@ -48,6 +48,7 @@ fn binding(kind: u32) -> u32
     bindings::tightness(kind) + 1
 }
 
+// The stack and the records are lent apart, since most methods write one of them and read the other or not at all.
 impl Level {
     // A level where nothing stands yet.
     pub fn empty(count: usize, top: usize) -> Level
@@ -75,7 +76,8 @@ impl Level {
         }
     }
 
-    // Closes what waits above the floor and binds at least so tight.
+    // Closes what waits above the floor and binds at least so tight. It is set into its callers, where the level stays in registers.
+    #[inline(always)]
     pub fn closed(self, least: u32, waiting: &[Waiting], syntax: &mut [u32]) -> Level
         requires { Backed self waiting.now syntax.old }
         ensures { (result.floor ≡ self.floor) × (result.held ≡ self.held) × Closes least self waiting.now syntax.old result syntax.new }

@@ -1,10 +1,10 @@
 // The 36 reserved words of ES5.1 section 7.6.1, held as one run of their letters with their lengths, and compared byte for byte with a name.
 #![tactic(auto)]
 
-ghost use Rattle.std.specs.Prelude.{◌≡◌, true, List, ℕ, ◌+◌, ◌*◌, ◌≤◌, ◌<◌, T, length, get_or};
+ghost use Rattle.std.specs.Prelude.{◌≡◌, true, List, ℕ, ◌+◌, ◌*◌, ◌≤◌, ◌<◌, T, length, get_or, IfSome, Some};
 ghost use Rattle.text.specs.Runs.{same};
 ghost use Rattle.words.specs.Words.{word_number, taken};
-ghost use Rattle.words.specs.Machinery.Run.{word, word_letters, word_lengths, letters_before, admits, slot_of};
+ghost use Rattle.words.specs.Machinery.Run.{word, word_letters, word_lengths, letters_before, admits, slot_of, option_of};
 
 // The numbers of the words that the prefix rule tells apart.
 pub const INSTANCEOF: u32 = 3;
@@ -57,7 +57,7 @@ const LENGTHS: [u8; 36] = [
     2, 3, 5, 4, 7, 5, 5, 6, 6, 4, 4, 5,
 ];
 
-// The numbers of the words, each at its slot; 0 where no word has the slot.
+// The numbers of the words, each at its slot; 0 where no word has the slot: an `Option` would take two bytes, of a table that is copied where it is used.
 #[rattlefmt::skip]
 const NUMBERS: [u8; 64] = [
     31, 35, 0, 28, 0, 22, 13, 24, 36, 21, 1, 17, 8, 30, 19, 0,
@@ -89,15 +89,11 @@ fn initials(len: usize) -> u64
 fn may_be_word(name: &[u8]) -> bool
     ensures { ((word_number name.now ≡ 0 → ⊥) → result ≡ true) × (result ≡ true → (2 ≤ length name.now) × (length name.now ≤ 10)) }
 {
-    let len = name.len();
-    if len < 2 {
+    let [first, second, ..] = name else {
         return false;
-    }
-    let initials = initials(len);
-    if initials >> (name[0] % 64) & 1 == 0 {
-        return false;
-    }
-    initials >> (name[1] % 32) & 1 == 1
+    };
+    let initials = initials(name.len());
+    initials >> (first % 64) & 1 == 1 && initials >> (second % 32) & 1 == 1
 }
 
 // A name's slot, by its length and first two letters. The factors were found by trial: no two words share a slot.
@@ -105,26 +101,31 @@ fn slot(len: usize, first: u8, second: u8) -> usize
     requires { len ≤ 10 }
     ensures { result ≡ slot_of len first second }
 {
-    (4 * len + 113 * (first as usize) + 87 * (second as usize)) / 2 % 64
+    (4 * len + 113 * usize::from(first) + 87 * usize::from(second)) / 2 % 64
 }
 
-// The number at a slot.
-fn at_slot(numbers: &[u8], slot: usize) -> usize
+// The number of the word that has a slot.
+fn at_slot(numbers: &[u8], slot: usize) -> Option<usize>
     requires { slot < length numbers.now }
-    ensures { result ≡ get_or numbers.now slot 0 }
+    ensures { result ≡ option_of (get_or numbers.now slot 0) }
 {
-    numbers[slot] as usize
+    match numbers[slot] {
+        0 => None,
+        number => Some(usize::from(number)),
+    }
 }
 
-// The only number that a name can have as a word; 0 where it can have none.
-fn candidate(name: &[u8]) -> usize
+// The only number that a name can have as a word.
+fn candidate(name: &[u8]) -> Option<usize>
     requires { (2 ≤ length name.now) × (length name.now ≤ 10) }
-    ensures { (result ≤ 36) × ((word_number name.now ≡ 0 → ⊥) → result ≡ word_number name.now) }
+    ensures some { IfSome result (λ number. (1 ≤ number) × (number ≤ 36)) }
+    ensures own { (word_number name.now ≡ 0 → ⊥) → result ≡ Some (word_number name.now) }
 {
     at_slot(&NUMBERS, slot(name.len(), name[0], name[1]))
 }
 
 // How many letters stand before each fourth word, from the first on: before the word at the index 4 * `fours`.
+#[tactic(auto, unfolding(crate::specs::Machinery::Run::letters_before, crate::specs::Machinery::Run::word_lengths))]
 fn before_fourth(fours: usize) -> u8
     requires { fours < 9 }
     ensures { result ≡ letters_before (4 * fours) }
@@ -147,11 +148,9 @@ fn start(lengths: &[u8], index: usize) -> usize
     requires { (lengths.now ≡ word_lengths) × (index < 36) }
     ensures { result ≡ letters_before index }
 {
-    let mut at = before_fourth(index / 4) as usize;
-    let mut k = index;
-    while k % 4 != 0 {
-        k -= 1;
-        at += lengths[k] as usize;
+    let mut at = usize::from(before_fourth(index / 4));
+    for len in &lengths[4 * (index / 4)..index] {
+        at += usize::from(*len);
     }
     at
 }
@@ -162,7 +161,7 @@ fn stands_at(letters: &[u8], lengths: &[u8], index: usize, name: &[u8]) -> bool
     ensures { result ≡ same name.now (word (index + 1)) }
 {
     let at = start(lengths, index);
-    let len = lengths[index] as usize;
+    let len = usize::from(lengths[index]);
     runs::equal(name, &letters[at..at + len])
 }
 
@@ -174,21 +173,17 @@ fn is_word(name: &[u8], number: usize) -> bool
     stands_at(&LETTERS, &LENGTHS, number - 1, name)
 }
 
-// The number of the reserved word that a name is: its place among the 36, from 1; 0 where it is none of them.
+// The number of the reserved word that a name is: its place among the 36, from 1; 0 where it is none of them, as an element's `which` and the definition have it.
 pub fn word_number(name: &[u8]) -> u32
     ensures { result ≡ word_number name.now }
 {
     if !may_be_word(name) {
         return 0;
     }
-    let number = candidate(name);
-    if number == 0 {
-        return 0;
+    match candidate(name) {
+        Some(number) if is_word(name, number) => number as u32,
+        _ => 0,
     }
-    if is_word(name, number) {
-        return number as u32;
-    }
-    0
 }
 
 // The first of the seven future reserved words, which are not taken here. Next behind them is `null`.
@@ -198,11 +193,5 @@ const CLASS: u32 = 27;
 pub fn is_taken(number: u32) -> bool
     ensures { result ≡ taken number }
 {
-    if number < CLASS {
-        return 0 < number;
-    }
-    if number < NULL {
-        return false;
-    }
-    number <= FALSE
+    matches!(number, 1..CLASS | NULL..=FALSE)
 }

@@ -6,7 +6,8 @@ ghost use Rattle.writing.specs.Machinery.Writing.{Adds};
 use crate::Writer;
 
 impl Writer<'_> {
-    // Writes a number: the digits before its last are those of a tenth of it.
+    // Writes a number: the digits before its last are those of a tenth of it. std's `write!` would say what it wrote where it answers `Ok`, and not
+    // that it does, though this writer refuses nothing: it was tried, and no proof that the digits are there closes.
     fn put_decimal(&mut self, number: usize)
         ensures same_output { self.new.output.ghost_name ≡ self.old.output.ghost_name }
         ensures adds { Adds self.old.output.now self.old.at (decimal number) self.new.output.now self.new.at }

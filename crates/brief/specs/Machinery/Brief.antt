@@ -5,6 +5,7 @@ use Rattle.machine.specs.Syntax.{Syntax, nil, size}
 use Rattle.machine.specs.Scopes.{Scope, call_arguments, array_elements, object_properties}
 use Rattle.machine.specs.Machinery.Machine.{empty, among, some_target, by_paren, by_bracket, Control, statement_due, clause_due, operand_due, item_due, parameter_due, Open, live, run}
 use Rattle.controls.specs.Machinery.Numbers.{inside_by}
+use Rattle.controls.specs.declared.Closing as closings
 use Rattle.controls.specs.Machinery.Written.{put_record, put_syntax}
 use Rattle.frames.specs.Machinery.Effects.{of_parameter}
 use Rattle.segments.specs.Machinery.Segments.{Segment, count_of, tokens_at}
@@ -29,7 +30,7 @@ pub data HoldsOperand : Control → ℕ → Type 0 where
   in_elements : HoldsOperand (item_due array_elements) close_bracket
 
 -- the only record of a group, by its class where it is an operand's
-pub data Lone (leaf : Option ℕ) (closer closing : ℕ) : Found → Type 0 where
+pub data Lone (leaf : Option ℕ) (closer : ℕ) (closing : closings.Closing) : Found → Type 0 where
   lone_parameter : leaf ≡ Some name → closer ≡ close_paren → inside_by closing ≡ parameter_due false → Lone leaf closer closing Nothing
   lone_operand : {class : ℕ} → leaf ≡ Some class → HoldsOperand (inside_by closing) closer → Lone leaf closer closing (Operand class)
   lone_more : Lone leaf closer closing NeedsLevel

@@ -1,5 +1,5 @@
 -- The gap first, then the element behind it.
-use mathlib.Core.Path.{sym, ap, ◌∙◌}
+use mathlib.Core.Path.{ap, ◌∙◌}
 use Rattle.answers.proofs.AnswerLaws.{same_tells}
 use Rattle.gaps.proofs.GapLaws.{handed}
 use Rattle.elements.specs.Elements.{element_at, after_gap}

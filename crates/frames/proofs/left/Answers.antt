@@ -17,8 +17,9 @@ overflow_sub-number c = let a = around_may c.requires in omega (arith, a.stacked
 pub joined-requires : goal.joined-requires
 joined-requires c = let a = around_may c.requires in (a.waits, a.fits, omega arith)
 
-pub returns-then-nest-eq-OF_DO : goal.returns-then-nest-eq-OF_DO
-returns-then-nest-eq-OF_DO c = do_leaves c.requires (omega (arith, c.from-number.ensures)) c.if-nest-eq-OF_DO.true c.stand.ensures c.joined.ensures
+pub returns-in-Do : goal.returns-in-Do
+returns-in-Do c =
+    do_leaves c.requires (omega (arith, c.from-number.ensures)) c.numbered-nest.ensures c.numbered-setting.ensures c.in-Do.is c.stand.ensures c.joined.ensures
 
 pub popped-around-requires : goal.popped-around-requires
 popped-around-requires c = let a = around_may c.requires in (a.waits, a.fits)
@@ -29,15 +30,18 @@ made-one-requires c = rw (c.popped-around.ensures, c.from.ensures) (try_asks c.r
 pub completed-requires : goal.completed-requires
 completed-requires c = try_held c.from.result c.requires (rw c.popped-around.ensures at c.made-one.ensures)
 
-pub returns-then-nest-eq-OF_TRY : goal.returns-then-nest-eq-OF_TRY
-returns-then-nest-eq-OF_TRY c =
-    try_leaves c.requires (omega (arith, c.from-number.ensures)) c.from.result c.if-nest-eq-OF_TRY.true c.behind_nest-control.ensures (sym c.from.ensures)
-    (rw c.popped-around.ensures at c.made-one.ensures) c.completed.ensures
+pub returns-in-Try : goal.returns-in-Try
+returns-in-Try c =
+    try_leaves c.requires (omega (arith, c.from-number.ensures)) c.numbered-nest.ensures c.numbered-setting.ensures c.from.result c.in-Try.is
+    c.behind_statement.ensures (sym c.from.ensures) (rw c.popped-around.ensures at c.made-one.ensures) c.completed.ensures
 
-pub completed-requires-2 : goal.completed-requires-2
-completed-requires-2 c = rw c.popped-around.ensures (backed (around_may c.requires).carries.holds)
+pub popped-around-requires-in_default : goal.popped-around-requires-in_default
+popped-around-requires-in_default c = let a = around_may c.requires in (a.waits, a.fits)
 
-pub returns : goal.returns
-returns c =
-    plain_leaves c.requires (omega (arith, c.from-number.ensures)) c.if-nest-eq-OF_DO.false c.if-nest-eq-OF_TRY.false c.behind_nest-control.ensures
-    (rw c.popped-around.ensures at c.completed-2.ensures)
+pub completed-requires-in_default : goal.completed-requires-in_default
+completed-requires-in_default c = rw c.popped-around-in_default.ensures (backed (around_may c.requires).carries.holds)
+
+pub returns-in_default : goal.returns-in_default
+returns-in_default c =
+    plain_leaves c.requires (omega (arith, c.from-number.ensures)) c.numbered-nest.ensures c.numbered-setting.ensures c.in_default.not-Do c.in_default.not-Try
+    c.behind_nest.ensures (rw c.popped-around-in_default.ensures at c.completed-in_default.ensures)

@@ -1,29 +1,16 @@
 -- While a nest is done that the token does not go on with, it is left: what stands then takes the token as what stood first. Fewer may be left each time.
-use mathlib.Core.Path.{refl, sym, ◌∙◌}
-use native.Mathlib.Omega.{arith}
-use Rattle.frames.proofs.ReadyLaws.{done_here, done_somewhere, settled_here, moves_none, moves_on, leaves_somewhere}
+use mathlib.Core.Path.{sym, ◌∙◌}
+use Rattle.frames.proofs.ReadyLaws.{done_here, done_somewhere, settled_here, moves_on, leaves_somewhere}
 use Rattle.frames.proofs.left_all.Goals as goal
-
-pub loop-s-init : goal.loop-s-init
-loop-s-init c = (c.requires.somewhere, c.requires.no_name, moves_none c.args.at c.args.class, refl, refl)
 
 pub left-s-requires : goal.left-s-requires
 left-s-requires c = done_somewhere (done_here c.loop-s.s.control c.args.class (sym c.is_done.ensures ∙ c.loop-s-test.true)) c.loop-s.invariant.0
-
-pub loop-s-smaller : goal.loop-s-smaller
-loop-s-smaller c = let done = done_here c.loop-s.s.control c.args.class (sym c.is_done.ensures ∙ c.loop-s-test.true) in rw done.may (omega (arith, c.left-s.ensures.fewer))
 
 pub loop-s-preserved : goal.loop-s-preserved
 loop-s-preserved c = let at = c.loop-s in
     let done = done_here at.s.control c.args.class (sym c.is_done.ensures ∙ c.loop-s-test.true) in
     let leaves = c.left-s.ensures in
-    (leaves_somewhere done at.invariant.0 leaves, leaves.no_name, moves_on done at.invariant.2 leaves, c.waiting-1.given ∙ at.invariant.3, c.syntax-1.given ∙ at.invariant.4)
-
-pub shape_of-waiting : goal.shape_of-waiting
-shape_of-waiting c = c.loop-s.invariant.3
-
-pub shape_of-syntax : goal.shape_of-syntax
-shape_of-syntax c = c.loop-s.invariant.4
+    (leaves_somewhere done at.invariant.0 leaves, leaves.no_name, moves_on done at.invariant.2 leaves)
 
 pub returns : goal.returns
 returns c = record { moves = c.loop-s.invariant.2; settled = settled_here c.loop-s.s.control.place c.loop-s.s.control.setting c.args.class (sym c.is_done.ensures ∙ c.loop-s-test.false) c.loop-s.invariant.1 }

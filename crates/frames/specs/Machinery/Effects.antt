@@ -80,9 +80,15 @@ use Rattle.machine.specs.Machinery.Machine.{
 use Rattle.controls.specs.Machinery.Numbers.{setting_by, control_of, closing_by, entered_by, worded_by, outside_by, behind_by, left_by}
 use Rattle.controls.specs.Machinery.Steps.{Ended, Leads, Spans, Enters, Settled, Ends}
 use Rattle.controls.specs.declared.Control as code
+use Rattle.controls.specs.declared.Place as places
+use Rattle.controls.specs.declared.Place.TheVariants as stand
+use Rattle.controls.specs.declared.Setting as codes
+use Rattle.controls.specs.declared.Setting.TheVariants as sits
+use Rattle.controls.specs.declared.Nest as opened
+use Rattle.controls.specs.declared.Closing as closings
 use Rattle.controls.specs.Machinery.Written.{put_syntax}
 use Rattle.waiting.specs.Machinery.Waiting.{Closes, restarted}
-use Rattle.frames.specs.Machinery.Stands.{Kept, Stands}
+use Rattle.frames.specs.Machinery.Stands.{Kept, of_clause, Stands}
 use Rattle.waiting.specs.declared.Level.{Level}
 use Rattle.waiting.specs.declared.Waiting.{Waiting}
 use Rattle.frames.specs.declared.Standing.{Standing}
@@ -114,16 +120,14 @@ Affects effect mark l stack cells l' stack' cells' = (from to : Control) (g : Fr
     → Stands to (machine.affect effect mark g) nests table stack₀ first floor (passed + 1) l' stack' cells'
 
 -- a nest is opened
-pub record MayEnter (nest setting mark : ℕ) (l : Level) (stack : List Waiting) (cells : List ℕ) : Type 0 where
+pub record MayEnter (nest : opened.Nest) (setting : codes.Setting) (mark : ℕ) (l : Level) (stack : List Waiting) (cells : List ℕ) : Type 0 where
   pub from : Control
   pub opens : Enters nest (setting_by setting) from
   pub somewhere : StandsSomewhere from l stack cells
   pub room : l.top < length stack
-  pub nested : nest ≤ 4
-  pub set : setting ≤ 5
   pub marked : mark < most_trees
 
-abbrev pub EntersNest : ℕ → ℕ → ℕ → Level → List Waiting → List ℕ → Level → List Waiting → List ℕ → Type 0
+abbrev pub EntersNest : opened.Nest → codes.Setting → ℕ → Level → List Waiting → List ℕ → Level → List Waiting → List ℕ → Type 0
 EntersNest nest setting mark l stack cells l' stack' cells' = (from : Control) (g : Frame) (nests : List machine.Open) (table : List ℕ) (stack₀ : List Waiting) (first floor passed : ℕ)
     → Stands from g nests table stack₀ first floor passed l stack cells → Enters nest (setting_by setting) from → first + floor + passed < most_trees
     → Stands (entered_by nest) (machine.affect (worded_by nest) mark empty) (nested (behind_by nest (setting_by setting)) (left_by nest) mark (machine.affect (outside_by nest) mark g) ∷ nests) table stack₀ first floor (passed + 1)
@@ -137,9 +141,9 @@ pub record ClosesHead (l : Level) (stack : List Waiting) (cells : List ℕ) (r :
   pub same_held : head.held ≡ l.held
   pub closes : Closes 2 l stack cells head after
 
-pub record Heads (nest : ℕ) (l : Level) (stack : List Waiting) (cells : List ℕ) (r : Level) (after : List ℕ) : Type 0 where
-  pub other : nest < 3 → (r ≡ l) × (after ≡ cells)
-  pub clause : 3 ≤ nest → ClosesHead l stack cells r after
+pub record Heads (nest : opened.Nest) (l : Level) (stack : List Waiting) (cells : List ℕ) (r : Level) (after : List ℕ) : Type 0 where
+  pub other : of_clause nest ≡ false → (r ≡ l) × (after ≡ cells)
+  pub clause : of_clause nest ≡ true → ClosesHead l stack cells r after
 
 -- a `?` is open, behind the operand of an expression
 pub record MayAsk (at : code.Control) (mark : ℕ) (l : Level) (stack : List Waiting) (cells : List ℕ) : Type 0 where
@@ -184,7 +188,7 @@ pub record Valued (l : Level) (n : ℕ) (value : Syntax) (before after : List Wa
   pub cells_are : cellsAfter ≡ put_syntax cells_before l.count value
   pub kept : Kept before after l.top
 
-pub record MayClose (closing mark n : ℕ) (l : Level) (stack : List Waiting) (cells : List ℕ) : Type 0 where
+pub record MayClose (closing : closings.Closing) (mark n : ℕ) (l : Level) (stack : List Waiting) (cells : List ℕ) : Type 0 where
   pub from : Control
   pub to : Control
   pub spans : Spans (closing_by closing) from to
@@ -197,7 +201,7 @@ pub record MayClose (closing mark n : ℕ) (l : Level) (stack : List Waiting) (c
   pub more : n + l.top < most_trees
   pub marked : mark < most_trees
 
-abbrev pub ClosesGroup : ℕ → ℕ → ℕ → Level → List Waiting → List ℕ → Level → List Waiting → List ℕ → Type 0
+abbrev pub ClosesGroup : closings.Closing → ℕ → ℕ → Level → List Waiting → List ℕ → Level → List Waiting → List ℕ → Type 0
 ClosesGroup closing mark n l stack cells l' stack' cells' = (from to : Control) (g : Frame) (nests : List machine.Open) (table : List ℕ) (stack₀ : List Waiting) (first floor passed next : ℕ) (value : Syntax) (stack_before : List Waiting) (cells_before : List ℕ)
     → Stands from g nests table stack₀ first floor passed l stack_before cells_before → Spans (closing_by closing) from to
     → Valued l n value stack_before stack cells_before cells → (closing_by closing ≡ to_parameter → value ≡ nil) → n + l.top < first + floor + next → first + floor + next ≤ most_trees
@@ -268,19 +272,26 @@ pub record Readies (at : code.Control) (class : ℕ) (l : Level) (stack : List W
   pub settled : Settled r.control class
 
 -- the places where a nest may be done, and whether one is that a token of a class does not go on with
-unfoldable pub may_be_done : ℕ → Bool
-may_be_done place = eqb place 41 || (eqb place 43 || (eqb place 44 || leb 45 place))
+abbrev pub may_be_done : places.Place → Bool
+may_be_done stand.StatementDone = true
+may_be_done stand.CatchDone = true
+may_be_done stand.TryEnded = true
+may_be_done stand.ClauseStatement = true
+may_be_done _ = false
 
 unfoldable pub ends_clause : ℕ → Bool
 ends_clause class = eqb class case_word || (eqb class default_word || eqb class close_brace)
 
-unfoldable pub is_done_at : ℕ → ℕ → ℕ → Bool
-is_done_at place setting class =
-    cond (eqb place 41) (not (eqb class else_word) || not (eqb setting 3))
-    (cond (eqb place 43) (not (eqb class finally_word))
-    (cond (eqb place 44) true
-    (cond (leb 45 place) (ends_clause class)
-    false)))
+abbrev pub is_if : codes.Setting → Bool
+is_if sits.IfNest = true
+is_if _ = false
+
+abbrev pub is_done_at : places.Place → codes.Setting → ℕ → Bool
+is_done_at stand.StatementDone setting class = not (eqb class else_word) || not (is_if setting)
+is_done_at stand.CatchDone setting class = not (eqb class finally_word)
+is_done_at stand.TryEnded setting class = true
+is_done_at stand.ClauseStatement setting class = ends_clause class
+is_done_at _ setting class = false
 
 abbrev pub is_done : code.Control → ℕ → Bool
 is_done at class = is_done_at at.place at.setting class
@@ -309,16 +320,16 @@ to_leave s = s.level.top + cond (may_be_done s.control.place) 1 0
 -- it is left, before a token that does not go on with it: fewer may be, and no name is held
 pub record Leaves (l : Level) (stack : List Waiting) (cells : List ℕ) (r : Standing) (stack' : List Waiting) (cells' : List ℕ) : Type 0 where
   pub fewer : to_leave r ≤ l.top
-  pub no_name : r.control.place ≡ 42 → ⊥
+  pub no_name : r.control.place ≡ stand.NameFirst → ⊥
   pub moves : (class : ℕ) (from : Control) (value : Value) → Leaving class from value → Moves from class l stack cells r stack' cells'
 
 -- nests that are done are left before a token, and a held name is an operand before one that is no `:`
 pub record MayLeave (at : code.Control) (l : Level) (stack : List Waiting) (cells : List ℕ) : Type 0 where
-  pub no_name : at.place ≡ 42 → ⊥
+  pub no_name : at.place ≡ stand.NameFirst → ⊥
   pub somewhere : StandsSomewhere (control_of at) l stack cells
 
 pub record MayName (at : code.Control) (l : Level) (cells : List ℕ) : Type 0 where
-  pub place_is : at.place ≡ 42
+  pub place_is : at.place ≡ stand.NameFirst
   pub stack : List Waiting
   pub somewhere : StandsSomewhere (control_of at) l stack cells
 

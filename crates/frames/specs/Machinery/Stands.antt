@@ -1,5 +1,5 @@
 -- How a level holds the machine's frame and the nests that are open on it. Machinery.
-use Rattle.std.specs.Prelude.{ℕ, ◌+◌, ◌-◌, ◌*◌, ◌/◌, ◌%◌, ◌≤◌, ◌<◌, ◌≡◌, true, false, List, [], ◌∷◌, ◌++◌, length, get_or}
+use Rattle.std.specs.Prelude.{ℕ, ◌+◌, ◌*◌, ◌≤◌, ◌<◌, ◌≡◌, Bool, true, false, List, [], ◌∷◌, ◌++◌, length, get_or}
 use Rattle.tables.specs.Records.{most_trees}
 use Rattle.machine.specs.Tokens.{name, new_word, var_word}
 use Rattle.machine.specs.Syntax.{Syntax, nil, node, snoc, variable_syntax}
@@ -78,7 +78,11 @@ use Rattle.machine.specs.Machinery.Machine.{
   nested,
   asking,
 }
-use Rattle.controls.specs.Machinery.Numbers.{setting_by, ending_by, behind_by, left_by}
+use Rattle.controls.specs.Machinery.Numbers.{setting_by, ending_by, is_lone, behind_by, left_by, nest_number, setting_number, ending_number}
+use Rattle.controls.specs.declared.Setting as codes
+use Rattle.controls.specs.declared.Ending as endings
+use Rattle.controls.specs.declared.Nest as opened
+use Rattle.controls.specs.declared.Nest.TheVariants as kinds
 use Rattle.waiting.specs.Machinery.Waiting.{nothing_waits, binding, nest_kind, ask_kind, settings, Holds}
 use Rattle.waiting.specs.declared.Level.{Level}
 use Rattle.waiting.specs.declared.Waiting.{Waiting}
@@ -149,36 +153,37 @@ Within by_bracket done starts nests = (done ≡ nil) × (starts ≡ []) × (nest
 Within by_colon done starts nests = (done ≡ nil) × (starts ≡ []) × Asked nests
 Within (by_item items) done starts nests = (starts ≡ []) × (nests ≡ [])
 
--- the ending of the expression that an open `?` is in, by the number that stands for it
-unfoldable pub asked_in : ℕ → Ending
-asked_in kind = ending_by ((kind - ask_kind) / settings) ((kind - ask_kind) % settings)
-
--- the numbers that stand for open `?`s: behind one the start of a `for`'s head is no more alone
-abbrev pub AskNumber : ℕ → Type 0
-AskNumber kind = (ask_kind ≤ kind) × ((kind - ask_kind) / settings ≡ 5 → ⊥)
+-- the number that stands for an open `?`, by what ends the expression that it is in
+abbrev pub ask_in : endings.Ending → codes.Setting → ℕ
+ask_in ending setting = ask_kind + ending_number ending * settings + setting_number setting
 
 -- the number that stands for a nest, in a setting
-abbrev pub nest_in : ℕ → ℕ → ℕ
-nest_in nest setting = nest_kind + nest * settings + setting
+abbrev pub nest_in : opened.Nest → codes.Setting → ℕ
+nest_in nest setting = nest_kind + nest_number nest * settings + setting_number setting
+
+-- whether a nest is that of a clause
+abbrev pub of_clause : opened.Nest → Bool
+of_clause kinds.Clause = true
+of_clause kinds.LastClause = true
+of_clause _ = false
 
 -- what is around a nest: the statement that it is in stands in its setting; a clause stands on no nest
-pub record InNumbered (nest setting : ℕ) (around : Syntax) (nests : List machine.Open) : Type 0 where
-  pub in-statement : nest < 3 → InSetting (setting_by setting) around nests
-  pub in_clauses : 3 ≤ nest → nests ≡ []
+pub record InNumbered (nest : opened.Nest) (setting : codes.Setting) (around : Syntax) (nests : List machine.Open) : Type 0 where
+  pub in-statement : of_clause nest ≡ false → InSetting (setting_by setting) around nests
+  pub in_clauses : of_clause nest ≡ true → nests ≡ []
 
 -- What waits below a frame with those statements done: nothing more on the level; or the nest that the frame stands in, with the frame's statements in
 -- place of a left side, and then what waits around the nest; or the `?` that the frame stands behind, with its condition and the frame's statements, of
 -- which there are none, as its left side, and then what waits around it.
 pub data Below : Syntax → List machine.Open → Syntax → List Pending → Type 0 where
   below_none : {done : Syntax} → Below done [] done []
-  below_nest : {done around base : Syntax} {nest setting mark : ℕ} {starts tail : List Pending} {nests : List machine.Open} → nest ≤ 4 → setting ≤ 5
-      → Beginnings starts → InNumbered nest setting around nests → Below around nests base tail
+  below_nest : {done around base : Syntax} (nest : opened.Nest) (setting : codes.Setting) {mark : ℕ} {starts tail : List Pending} {nests : List machine.Open} → Beginnings starts → InNumbered nest setting around nests → Below around nests base tail
       → Below done (nested (behind_by nest (setting_by setting)) (left_by nest) mark (frame around starts [] nil) ∷ nests) base
       (pending (nest_in nest setting) mark done ∷ (starts ++ tail))
-  below_asked : {done around base condition : Syntax} {kind mark : ℕ} {waiting starts tail : List Pending} {nests : List machine.Open} → AskNumber kind
-      → Operators waiting → Beginnings starts → Within (asked_in kind) around starts nests → Below around nests base tail
-      → Below done (asking (asked_in kind) mark (frame around starts waiting condition) ∷ nests) base
-      (pending kind mark (snoc condition done) ∷ (waiting ++ (starts ++ tail)))
+  below_asked : {done around base condition : Syntax} (ending : endings.Ending) (setting : codes.Setting) {mark : ℕ} {waiting starts tail : List Pending} {nests : List machine.Open}
+      → is_lone ending ≡ false → Operators waiting → Beginnings starts → Within (ending_by ending setting) around starts nests → Below around nests base tail
+      → Below done (asking (ending_by ending setting) mark (frame around starts waiting condition) ∷ nests) base
+      (pending (ask_in ending setting) mark (snoc condition done) ∷ (waiting ++ (starts ++ tail)))
 
 abbrev pub WithinRole : machine.Role → Syntax → List Pending → List Pending → List machine.Open → Type 0
 WithinRole machine.declared done starts waiting nests = (starts ≡ []) × (waiting ≡ []) × (nests ≡ [])

@@ -3,7 +3,6 @@ use native.Mathlib.Omega.{arith}
 use Rattle.machine.specs.Syntax.{block_syntax, declaration_syntax}
 use Rattle.groups.proofs.GroupLaws.{
   by_either,
-  closing_index,
   parens_close,
   object_closes,
   condition_closes,
@@ -26,65 +25,57 @@ use Rattle.groups.proofs.GroupLaws.{
 use Rattle.groups.proofs.close.Goals as goal
 
 pub called-requires : goal.called-requires
-called-requires c = rw c.in-1.is at c.requires
+called-requires c = rw c.in-Call.is at c.requires
 
 pub completed-requires : goal.completed-requires
 completed-requires c = group_held block_syntax c.args.mark c.requires c.made-one.ensures
 
-pub completed-requires-in-6 : goal.completed-requires-in-6
-completed-requires-in-6 c = group_held declaration_syntax c.args.l.held c.requires c.made-one-in-6.ensures
+pub completed-requires-in-Declaration : goal.completed-requires-in-Declaration
+completed-requires-in-Declaration c = group_held declaration_syntax c.args.l.held c.requires c.made-one-in-Declaration.ensures
 
 pub joined-requires : goal.joined-requires
-joined-requires c = let w = for_asks (rw c.in-15.is at c.requires) in (w.waits, w.fits, omega arith)
+joined-requires c = let w = for_asks (rw c.in-ForIn.is at c.requires) in (w.waits, w.fits, omega arith)
 
-pub completed-requires-in-13 : goal.completed-requires-in-13
-completed-requires-in-13 c = valued_backed c.requires
+pub completed-requires-in-Clauses : goal.completed-requires-in-Clauses
+completed-requires-in-Clauses c = valued_backed c.requires
 
-pub returns-in-0 : goal.returns-in-0
-returns-in-0 c = rw c.in-0.is (parens_close c.args.mark c.args.count c.made.ensures)
+pub returns-in-Parens : goal.returns-in-Parens
+returns-in-Parens c = rw c.in-Parens.is (parens_close c.args.mark c.args.count c.made.ensures)
 
-pub returns-in-1 : goal.returns-in-1
-returns-in-1 c = rw c.in-1.is c.called.ensures
+pub returns-in-Call : goal.returns-in-Call
+returns-in-Call c = rw c.in-Call.is c.called.ensures
 
-pub returns-in-2 : goal.returns-in-2
-returns-in-2 c = rw c.in-2.is (object_closes c.args.mark c.args.count c.made-in-2.ensures)
+pub returns-in-Object : goal.returns-in-Object
+returns-in-Object c = rw c.in-Object.is (object_closes c.args.mark c.args.count c.made-in-Object.ensures)
 
-pub returns-in-3 : goal.returns-in-3
-returns-in-3 c = rw c.in-3.is (condition_closes c.args.mark c.args.count c.requires.room c.wait.ensures)
+pub returns-in-Condition : goal.returns-in-Condition
+returns-in-Condition c = rw c.in-Condition.is (condition_closes c.args.mark c.args.count c.requires.room c.wait.ensures)
 
-pub returns-in-4 : goal.returns-in-4
-returns-in-4 c = rw c.in-4.is (parameter_closes c.args.mark c.args.count)
+pub returns-in-Parameter : goal.returns-in-Parameter
+returns-in-Parameter c =
+    by_either (λ e. rw e (parameter_closes c.args.mark c.args.count))
+    (by_either (λ e. rw e (catch_closes c.args.mark c.args.count)) (λ e. rw e (test_closes c.args.mark c.args.count))) c.in-Parameter.is
 
-pub returns-in-5 : goal.returns-in-5
-returns-in-5 c = rw c.in-5.is (block_closes c.args.mark c.args.count c.made-one.ensures c.completed.ensures)
+pub returns-in-Block : goal.returns-in-Block
+returns-in-Block c = rw c.in-Block.is (block_closes c.args.mark c.args.count c.made-one.ensures c.completed.ensures)
 
-pub returns-in-6 : goal.returns-in-6
-returns-in-6 c = rw c.in-6.is (declaration_closes c.args.mark c.args.count c.made-one-in-6.ensures c.completed-in-6.ensures)
+pub returns-in-Declaration : goal.returns-in-Declaration
+returns-in-Declaration c = rw c.in-Declaration.is (declaration_closes c.args.mark c.args.count c.made-one-in-Declaration.ensures c.completed-in-Declaration.ensures)
 
-pub returns-in-7 : goal.returns-in-7
-returns-in-7 c = rw c.in-7.is (function_closes c.args.mark c.args.count c.made-in-7.ensures)
+pub returns-in-Function : goal.returns-in-Function
+returns-in-Function c = rw c.in-Function.is (function_closes c.args.mark c.args.count c.made-in-Function.ensures)
 
-pub returns-in-8 : goal.returns-in-8
-returns-in-8 c = rw c.in-8.is (array_closes c.args.mark c.args.count c.made-in-8.ensures)
+pub returns-in-Array : goal.returns-in-Array
+returns-in-Array c = rw c.in-Array.is (array_closes c.args.mark c.args.count c.made-in-Array.ensures)
 
-pub returns-in-15 : goal.returns-in-15
-returns-in-15 c = rw c.in-15.is (for_in_closes c.args.mark c.args.count c.joined.ensures)
+pub returns-in-ForIn : goal.returns-in-ForIn
+returns-in-ForIn c = rw c.in-ForIn.is (for_in_closes c.args.mark c.args.count c.joined.ensures)
 
-pub returns-in-13 : goal.returns-in-13
-returns-in-13 c = rw c.in-13.is (clauses_close c.args.mark c.args.count c.completed-in-13.ensures)
+pub returns-in-Clauses : goal.returns-in-Clauses
+returns-in-Clauses c = rw c.in-Clauses.is (clauses_close c.args.mark c.args.count c.completed-in-Clauses.ensures)
 
-pub returns-in-14 : goal.returns-in-14
-returns-in-14 c = rw c.in-14.is (catch_closes c.args.mark c.args.count)
+pub returns-in-Head : goal.returns-in-Head
+returns-in-Head c = by_either (λ e. rw e (head_closes c.args.mark c.args.count)) (λ e. rw e (for_closes c.args.mark c.args.count)) c.in-Head.is
 
-pub returns-in-10 : goal.returns-in-10
-returns-in-10 c = by_either (λ e. rw e (head_closes c.args.mark c.args.count)) (λ e. rw e (for_closes c.args.mark c.args.count)) c.in-10.is
-
-pub returns-in-11 : goal.returns-in-11
-returns-in-11 c = rw c.in-11.is (test_closes c.args.mark c.args.count)
-
-pub returns-in_default : goal.returns-in_default
-returns-in_default c =
-    let a = c.args in
-    index_closes a.mark a.count a.closing
-    (closing_index a.closing (omega arith) (omega arith) (omega arith) (omega arith) (omega arith) (omega arith) (omega arith) (omega arith) (omega arith) (grind arith) (omega arith) (grind arith) (omega arith) (omega arith) (omega arith))
-    c.made-in_default.ensures
+pub returns-in-Index : goal.returns-in-Index
+returns-in-Index c = rw c.in-Index.is (index_closes c.args.mark c.args.count c.made-in-Index.ensures)

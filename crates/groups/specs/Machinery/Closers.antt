@@ -72,15 +72,24 @@ use Rattle.machine.specs.Machinery.Machine.{
   finish_in,
   run,
 }
-use Rattle.controls.specs.Machinery.Numbers.{control_of}
+use Rattle.controls.specs.Machinery.Numbers.{ending_by, is_lone, control_of}
+use Rattle.controls.specs.declared.Setting as codes
+use Rattle.controls.specs.declared.Ending as endings
 use Rattle.controls.specs.declared.Control as code
 use Rattle.controls.specs.Machinery.Written.{put_syntax}
 use Rattle.waiting.specs.declared.Level.{Level}
 use Rattle.waiting.specs.declared.Waiting.{Waiting}
-use Rattle.frames.specs.Machinery.Stands.{Kept, Stands}
+use Rattle.frames.specs.Machinery.Stands.{ask_in, Kept, Stands}
 use Rattle.frames.specs.Machinery.Effects.{of_parameter}
 use Rattle.answers.specs.declared.faults.Fault.{Fault}
 use Rattle.groups.specs.declared.Parsed.{Parsed}
+
+-- the number that stands for an open `?` behind such an expression, as if the start of a `for`'s head were no more alone
+pub record AsksIn (ending : endings.Ending) (setting : codes.Setting) (number : ℕ) : Type 0 where
+  pub past : endings.Ending
+  pub plain : is_lone past ≡ false
+  pub same : ending_by past setting ≡ ending_by ending setting
+  pub is : number ≡ ask_in past setting
 
 -- behind a level stands its closer, or the end of the text
 abbrev pub closer_token : ℕ → ℕ → ℕ → Token

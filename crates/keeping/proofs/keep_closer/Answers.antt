@@ -4,9 +4,6 @@ use native.Mathlib.Omega.{arith}
 use Rattle.keeping.proofs.KeepLaws.{closer_spaced, closer_stored, spaced_few, opener_before, few_records}
 use Rattle.keeping.proofs.keep_closer.Goals as goal
 
-pub overflow_sub-e : goal.overflow_sub-e
-overflow_sub-e c = let may = c.requires.may in omega (arith, may.some)
-
 pub put_closer-requires : goal.put_closer-requires
 put_closer-requires c = let may = c.requires.may in
     let few = spaced_few _ _ _ _ _ _ _ c.if-spaced.true _ _ may in
@@ -15,9 +12,6 @@ put_closer-requires c = let may = c.requires.may in
 pub returns-then-spaced : goal.returns-then-spaced
 returns-then-spaced c = let p = c.put_closer.ensures in
     closer_spaced _ _ _ _ _ _ _ _ _ c.requires.may.some (search rules) _ c.if-spaced.true _ p.0 p.1
-
-pub overflow_cast-e : goal.overflow_cast-e
-overflow_cast-e c = let may = c.requires.may in omega (arith, may.within, may.short)
 
 pub overflow_sub-state : goal.overflow_sub-state
 overflow_sub-state c = let p = opener_before _ _ _ _ _ _ _ c.if-spaced.false _ c.requires in omega (arith, p.0)

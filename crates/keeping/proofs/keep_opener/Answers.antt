@@ -13,9 +13,6 @@ pub returns-then-spaced : goal.returns-then-spaced
 returns-then-spaced c = let p = c.put_element.ensures in
     opener_spaced _ _ _ _ _ _ _ c.args.e _ c.requires.may.some (search rules) _ c.if-spaced.true c.args.kind p.0 p.1
 
-pub overflow_cast-e : goal.overflow_cast-e
-overflow_cast-e c = let may = c.requires.may in omega (arith, may.some, may.within, may.short)
-
 pub put-requires : goal.put-requires
 put-requires c = stored_fits _ _ _ _ _ _ _ c.if-spaced.false c.requires
 

@@ -5,6 +5,7 @@ use Rattle.rule.specs.Trees.{none, leaf}
 use Rattle.rule.specs.Levels.{Levels, inside, count_so_far, on_top}
 use Rattle.prefix.specs.Machinery.Represents.{Represents, Closes}
 use Rattle.prefix.specs.declared.State.{State}
+use Rattle.prefix.specs.declared.OpenGroup.{OpenGroup}
 use Rattle.tables.specs.Records.{most_trees}
 use Rattle.storing.specs.Machinery.Table.{record_index, Holds}
 use Rattle.spacing.specs.Machinery.Written.{opener_place, Writes}
@@ -13,9 +14,9 @@ use Rattle.spacing.specs.Machinery.Written.{opener_place, Writes}
 pub record Lent : Type 0 where
   pub trees : List ℕ
   pub output : List ℕ
-  pub stack : List ℕ
+  pub stack : List OpenGroup
 
-abbrev pub lent : List ℕ → List ℕ → List ℕ → Lent
+abbrev pub lent : List ℕ → List ℕ → List OpenGroup → Lent
 lent trees output stack = record { trees = trees; output = output; stack = stack }
 
 -- a group's tag on the stack: its opener's place where a text is spaced, the index of its record where it is read
@@ -42,14 +43,14 @@ pub record MayTake (spaced : Bool) (bytes : List ℕ) (is : Lent) (room : ℕ) (
 
 -- the same, with room for a record more
 pub record MayKeep (spaced : Bool) (bytes trees output : List ℕ) (state : State) (at : ℕ) (e : Element) : Type 0 where
-  pub stack : List ℕ
+  pub stack : List OpenGroup
   pub room : ℕ
   pub may : MayTake spaced bytes (lent trees output stack) room state at e
   pub more_room : state.records < room
 
 -- the same, where the innermost group is closed
 pub record MayKeepEnd (spaced : Bool) (bytes trees output : List ℕ) (state : State) (at opener : ℕ) (e : Element) : Type 0 where
-  pub stack : List ℕ
+  pub stack : List OpenGroup
   pub room : ℕ
   pub may : MayTake spaced bytes (lent trees output stack) room state at e
   pub outer : Levels
@@ -58,7 +59,7 @@ pub record MayKeepEnd (spaced : Bool) (bytes trees output : List ℕ) (state : S
 -- what keeping a tree more promises, of whatever is kept before it and of every state that then holds the levels: it is kept
 abbrev pub KeepsTree : Bool → List ℕ → List ℕ → List ℕ → List ℕ → List ℕ → State → ℕ → Element → (Levels → Levels) → ℕ → Type 0
 KeepsTree spaced bytes trees output trees' output' state at e then to =
-    (was : Lent) (stack after : List ℕ) (room place : ℕ) (levels : Levels) (next : State) → place ≤ e.first → length after ≡ length stack
+    (was : Lent) (stack after : List OpenGroup) (room place : ℕ) (levels : Levels) (next : State) → place ≤ e.first → length after ≡ length stack
     → Keeps spaced bytes was (lent trees output stack) room state at place levels → count_so_far levels < room → Represents (tag_of spaced) after next (then levels)
     → Keeps spaced bytes was (lent trees' output' after) room next to e.end (then levels)
 
@@ -72,6 +73,6 @@ with_opener kind e levels = inside levels kind e.first e.newline none
 -- the same of a group that closes
 abbrev pub KeepsEnd : Bool → List ℕ → List ℕ → List ℕ → List ℕ → List ℕ → State → ℕ → ℕ → Element → ℕ → Type 0
 KeepsEnd spaced bytes trees output trees' output' state at opener e to =
-    (was : Lent) (stack after : List ℕ) (room place : ℕ) (levels outer : Levels) (next : State) → place ≤ e.first → length after ≡ length stack
+    (was : Lent) (stack after : List OpenGroup) (room place : ℕ) (levels outer : Levels) (next : State) → place ≤ e.first → length after ≡ length stack
     → Keeps spaced bytes was (lent trees output stack) room state at place levels → Closes (tag_of spaced) e opener levels outer → Represents (tag_of spaced) after next outer
     → Keeps spaced bytes was (lent trees' output' after) room next to e.end outer

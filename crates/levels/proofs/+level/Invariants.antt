@@ -27,7 +27,7 @@ decreases-statements l = 8 * count_of l.part.trees.now + 3
 abbrev pub invariant-level-loop-at : goal.invariant-level-loop-at
 invariant-level-loop-at l =
     (length l.syntax ≡ length l.fn.syntax) × (length l.waiting ≡ length l.fn.waiting)
-    × Underway (segment_of l.part) (inside_by l.inside) l.count l.top l.fn.syntax l.fn.waiting (control_of l.control) l.l l.at l.syntax l.waiting
+    × Underway (segment_of l.part) (inside_by l.fn.inside) l.count l.top l.fn.syntax l.fn.waiting (control_of l.control) l.l l.at l.syntax l.waiting
 
 abbrev pub decreases-level-loop-at : goal.decreases-level-loop-at
 decreases-level-loop-at l = l.number - l.at

@@ -5,6 +5,8 @@ use Rattle.machine.specs.Syntax.{Syntax, nil, size}
 use Rattle.machine.specs.Scopes.{body}
 use Rattle.machine.specs.Machinery.Machine.{empty, among, Control, statement_due, Open, dead, live, run}
 use Rattle.controls.specs.Machinery.Numbers.{setting_by, inside_by}
+use Rattle.controls.specs.declared.Setting as codes
+use Rattle.controls.specs.declared.Closing as closings
 use Rattle.machine.specs.Machinery.Classes.{is_end}
 use Rattle.controls.specs.Machinery.Written.{put_syntax}
 use Rattle.waiting.specs.declared.Waiting.{Waiting}
@@ -54,11 +56,11 @@ pub record MayOpen (p : Segment) (at closer count top : ℕ) (stack : List Waiti
   pub closes : T (is_end closer)
 
 -- these are statements, with declarations in a body
-abbrev pub RanStatements : ℕ → ℕ → Segment → ℕ → ℕ → List ℕ → List Waiting → Result Parsed Fault → List ℕ → List Waiting → Type 0
+abbrev pub RanStatements : codes.Setting → ℕ → Segment → ℕ → ℕ → List ℕ → List Waiting → Result Parsed Fault → List ℕ → List Waiting → Type 0
 RanStatements scope closer p count top table before r cells stack = Ran closer p (statement_due false (setting_by scope)) count top table before r cells stack
 
 -- this is an expression, or what else is inside such a group
-abbrev pub RanExpression : ℕ → ℕ → Segment → ℕ → ℕ → List ℕ → List Waiting → Result Parsed Fault → List ℕ → List Waiting → Type 0
+abbrev pub RanExpression : closings.Closing → ℕ → Segment → ℕ → ℕ → List ℕ → List Waiting → Result Parsed Fault → List ℕ → List Waiting → Type 0
 RanExpression closing closer p count top table before r cells stack = Ran closer p (inside_by closing) count top table before r cells stack
 
 -- this is a function's body

@@ -8,8 +8,7 @@ pub put_answer-requires : goal.put_answer-requires
 put_answer-requires c = let r = c.read_short-answer.ensures in
     trees_within (short_reading _) _ c.args.trees.now _ r.0 r.1
 
-pub returns : goal.returns
-returns c = let a = c.args in
+pub returns-clause-lists_trees : goal.returns-clause-lists_trees
+returns-clause-lists_trees c = let a = c.args in
     let r = c.read_short-answer.ensures in
-    let both = short_printed a.input.now a.count _ c.front.ensures a.output.now _ _ _ a.trees.now _ r.0 r.1 (c.put_answer.ensures.written, c.put_answer.ensures.answer_len_bound) (omega arith) (omega arith) in
-    record { counts = both.0; lists_trees = both.1 }
+    (short_printed a.input.now a.count _ c.front.ensures a.output.now _ _ _ a.trees.now _ r.0 r.1 (c.put_answer.ensures.written, c.put_answer.ensures.answer_len_bound) (omega arith) (omega arith)).1

@@ -10,8 +10,7 @@ put_answer-requires c = let r = c.read-answer.ensures in
     let t = c.args.trees.now in
     trees_within (reading_for _ (length t)) _ t _ r.0 r.1
 
-pub returns : goal.returns
-returns c = let a = c.args in
+pub returns-clause-lists_trees : goal.returns-clause-lists_trees
+returns-clause-lists_trees c = let a = c.args in
     let r = c.read-answer.ensures in
-    let both = whole_printed a.input.now a.count _ c.front.ensures a.output.now _ _ _ a.trees.now _ (omega arith) r.0 r.1 (c.put_answer.ensures.written, c.put_answer.ensures.answer_len_bound) (omega arith) (omega arith) in
-    record { counts = both.0; lists_trees = both.1 }
+    (whole_printed a.input.now a.count _ c.front.ensures a.output.now _ _ _ a.trees.now _ (omega arith) r.0 r.1 (c.put_answer.ensures.written, c.put_answer.ensures.answer_len_bound) (omega arith) (omega arith)).1

@@ -5,7 +5,7 @@ use Rattle.listing.proofs.read_short.Goals as goal
 
 pub returns-then-text-gt-MOST_LISTED : goal.returns-then-text-gt-MOST_LISTED
 returns-then-text-gt-MOST_LISTED c = let a = c.args in
-    long_read a.text.now a.trees.now _ c.if-text-gt-MOST_LISTED.true c.clear.ensures
+    rw c.from.ensures (long_read a.text.now a.trees.now _ c.if-text-gt-MOST_LISTED.true c.clear.ensures)
 
 pub returns : goal.returns
 returns c = let a = c.args in

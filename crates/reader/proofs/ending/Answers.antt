@@ -1,12 +1,10 @@
 -- At the text's end: nothing is open, or the innermost group's record has its first byte.
 use native.Mathlib.Omega.{arith}
-use Prim.Native.Nat.{◌+◌, ◌-◌, ◌*◌}
-use lib.ListN.{get_or}
 use Rattle.reader.proofs.ReadLaws.{index_small, ends_accepted, ends_unclosed}
 use Rattle.reader.proofs.ending.Goals as goal
 
-pub returns-then-depth-eq0 : goal.returns-then-depth-eq0
-returns-then-depth-eq0 c = λ before room levels h. ends_accepted before _ _ room _ levels h c.if-depth-eq0.true
+pub returns-then-state-eq0 : goal.returns-then-state-eq0
+returns-then-state-eq0 c = λ before room levels h. ends_accepted before _ _ room _ levels h c.if-state-eq0.true
 
 pub overflow_cast-index : goal.overflow_cast-index
 overflow_cast-index c = let h = c.requires.1.holds in
@@ -28,8 +26,5 @@ pub bounds-trees-index : goal.bounds-trees-index
 bounds-trees-index c = let h = c.requires.1.holds in
     omega (arith, index_small _ _ _ _ _ _ h (omega arith), h.some, h.room_fits, h.room_small, h.length_is, h.represented.records_is)
 
-pub overflow_cast-first : goal.overflow_cast-first
-overflow_cast-first c = omega (arith, c.shared_slice_known-2-1.given (5 * get_or c.args.stack.now (2 * (c.args.state.depth - 1) + 1) 0 + 1))
-
 pub returns : goal.returns
-returns c = λ before room levels h. ends_unclosed before _ _ room _ levels h c.if-depth-eq0.false
+returns c = λ before room levels h. ends_unclosed before _ _ room _ levels h c.if-state-eq0.false

@@ -1,16 +1,10 @@
 -- The last line end, or the innermost opener.
-use native.Mathlib.Omega.{arith}
-use Prim.Native.Nat.{◌+◌, ◌-◌, ◌*◌}
 use Rattle.respacer.proofs.EndLaws.{end_accepted, end_unclosed}
 use Rattle.respacer.proofs.write_end.Goals as goal
 
 pub returns-then-depth-eq0 : goal.returns-then-depth-eq0
 returns-then-depth-eq0 c = let p = c.put_byte.ensures in
     λ bytes old place levels h. end_accepted bytes old _ _ _ _ place levels h c.if-depth-eq0.true _ _ p.0 p.1
-
-pub overflow_cast-first : goal.overflow_cast-first
-overflow_cast-first c = let s = c.args in
-    omega (arith, c.shared_slice_known-2-1.given (2 * (s.state.depth - 1) + 1))
 
 pub returns : goal.returns
 returns c = λ bytes old place levels h. end_unclosed bytes old _ _ _ _ place levels h c.if-depth-eq0.false _

@@ -3,6 +3,7 @@ use Rattle.std.specs.Prelude.{ℕ, ◌+◌, ◌*◌, ◌≤◌, ◌≡◌, List,
 use Rattle.rule.specs.Levels.{Levels, whole_text, inside}
 use Rattle.prefix.specs.Machinery.Represents.{Represents}
 use Rattle.prefix.specs.declared.State.{State}
+use Rattle.prefix.specs.declared.OpenGroup.{OpenGroup}
 use Rattle.spacing.specs.Respaced.{add_element, add_trees}
 use Rattle.spacing.specs.Machinery.Over.{over}
 
@@ -16,10 +17,10 @@ written_of bytes (whole_text trees) = add_trees bytes [] trees
 written_of bytes (inside around kind first newline trees) = add_trees bytes (add_element bytes (written_of bytes around) first (first + 1) newline) trees
 
 -- the state, the stack and the output hold the levels; `place` is behind the last element
-pub record Writes (bytes old output stack : List ℕ) (state : State) (at place : ℕ) (levels : Levels) : Type 0 where
+pub record Writes (bytes old output : List ℕ) (stack : List OpenGroup) (state : State) (at place : ℕ) (levels : Levels) : Type 0 where
   pub represented : Represents opener_place stack state levels
   pub output_is : output ≡ over (written_of bytes levels) old
   pub at_is : at ≡ length (written_of bytes levels)
   pub few : at ≤ 2 * place
   pub length_is : length output ≡ length old
-  pub stack_is : length stack ≡ 200
+  pub stack_is : length stack ≡ 100

@@ -1,6 +1,7 @@
 -- By what the delimiter makes of the state.
 use borrow.Author.Rules.{rules}
 use native.Mathlib.Omega.{arith}
+use Rattle.std.proofs.lemmas.Result.{err_from_is_err_and}
 use Rattle.keeping.proofs.KeepLaws.{tag_is, few_records}
 use Rattle.turns.proofs.TakeLaws.{delimited, may_open, may_close, follows, opened_taken, closed_taken, stopped_taken}
 use Rattle.turns.proofs.take_delimiter.Goals as goal
@@ -12,27 +13,28 @@ tag_for-tag-requires c = let may = c.requires in
 pub keep_opener-to-requires : goal.keep_opener-to-requires
 keep_opener-to-requires c = let may = c.requires in
     let t = c.tag_for-tag.ensures in
-    may_open _ _ _ _ _ _ _ may _ (rw c.in-Opened.is at (delimited _ _ _ _ _ _ _ may _ _ _ c.delimit-advanced.ensures t.0 t.1))
+    may_open _ _ _ _ _ _ _ may _ (rw (c.in_ok-kind.was, c.in-Opened.is) at (delimited _ _ _ _ _ _ _ may _ _ _ c.delimit.ensures t.0 t.1))
 
 pub keep_closer-to-requires : goal.keep_closer-to-requires
 keep_closer-to-requires c = let may = c.requires in
     let t = c.tag_for-tag.ensures in
-    may_close _ _ _ _ _ _ _ may _ (rw c.in-Closed.is at (delimited _ _ _ _ _ _ _ may _ _ _ c.delimit-advanced.ensures t.0 t.1))
+    may_close _ _ _ _ _ _ _ may _ (rw (c.in_ok-kind.was, c.in-Closed.is) at (delimited _ _ _ _ _ _ _ may _ _ _ c.delimit.ensures t.0 t.1))
 
 pub returns-in-Opened : goal.returns-in-Opened
 returns-in-Opened c = λ k was place levels near keeps.
     let t = c.tag_for-tag.ensures in
-    let f = follows _ _ was _ _ _ _ place levels _ near keeps k _ _ _ c.delimit-advanced.ensures (tag_is _ was _ _ _ _ place levels _ _ _ t.0 t.1 keeps) in
-    opened_taken _ _ was _ _ _ _ place levels _ near keeps _ (search rules) _ _ _ (rw c.in-Opened.is at f) c.keep_opener-to.ensures
+    let f = follows _ _ was _ _ _ _ place levels _ near keeps k _ _ _ c.delimit.ensures (tag_is _ was _ _ _ _ place levels _ _ _ t.0 t.1 keeps) in
+    opened_taken _ _ was _ _ _ _ place levels _ near keeps _ (search rules) _ _ _ (rw (c.in_ok-kind.was, c.in-Opened.is) at f) c.keep_opener-to.ensures
 
 pub returns-in-Closed : goal.returns-in-Closed
 returns-in-Closed c = λ k was place levels near keeps.
     let t = c.tag_for-tag.ensures in
-    let f = follows _ _ was _ _ _ _ place levels _ near keeps k _ _ _ c.delimit-advanced.ensures (tag_is _ was _ _ _ _ place levels _ _ _ t.0 t.1 keeps) in
-    closed_taken _ _ was _ _ _ _ place levels _ near keeps _ (search rules) _ _ _ (rw c.in-Closed.is at f) c.keep_closer-to.ensures
+    let f = follows _ _ was _ _ _ _ place levels _ near keeps k _ _ _ c.delimit.ensures (tag_is _ was _ _ _ _ place levels _ _ _ t.0 t.1 keeps) in
+    closed_taken _ _ was _ _ _ _ place levels _ near keeps _ (search rules) _ _ _ (rw (c.in_ok-kind.was, c.in-Closed.is) at f) c.keep_closer-to.ensures
 
-pub returns-in-Stopped : goal.returns-in-Stopped
-returns-in-Stopped c = λ k was place levels near keeps.
+pub returns-in_err-kind : goal.returns-in_err-kind
+returns-in_err-kind c = λ k was place levels near keeps.
     let t = c.tag_for-tag.ensures in
-    let f = follows _ _ was _ _ _ _ place levels _ near keeps k _ _ _ c.delimit-advanced.ensures (tag_is _ was _ _ _ _ place levels _ _ _ t.0 t.1 keeps) in
-    stopped_taken _ _ was _ _ _ _ place levels _ near keeps _ (rw c.in-Stopped.is at f)
+    let f = follows _ _ was _ _ _ _ place levels _ near keeps k _ _ _ c.delimit.ensures (tag_is _ was _ _ _ _ place levels _ _ _ t.0 t.1 keeps) in
+    let p = err_from_is_err_and c.from_residual.result c.from_residual.ensures.1 in
+    rw (p.1, p.2) (stopped_taken _ _ was _ _ _ _ place levels _ near keeps _ (rw c.in_err-kind.was at f))

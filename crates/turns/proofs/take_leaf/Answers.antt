@@ -8,9 +8,9 @@ returns-then-room-state c = λ stack k was place levels near keeps. leaf_full _ 
 pub with_leaf-next-requires : goal.with_leaf-next-requires
 with_leaf-next-requires c = may_add _ _ _ _ _ _ _ c.requires.1 c.if-room-state.false
 
-pub keep_leaf-to-requires : goal.keep_leaf-to-requires
-keep_leaf-to-requires c = may_leaf _ _ _ _ _ _ _ c.requires.1 c.if-room-state.false _ c.settled-leaf.ensures
+pub keep_leaf-written-requires : goal.keep_leaf-written-requires
+keep_leaf-written-requires c = may_leaf _ _ _ _ _ _ _ c.requires.1 c.if-room-state.false _ c.settled-leaf.ensures
 
 pub returns : goal.returns
 returns c = λ stack k was place levels near keeps.
-    leaf_taken _ _ was _ _ _ _ place levels _ near keeps k c.if-room-state.false _ _ _ _ _ c.settled-leaf.ensures c.with_leaf-next.ensures c.keep_leaf-to.ensures
+    leaf_taken _ _ was _ _ _ _ place levels _ near keeps k c.if-room-state.false _ _ _ _ _ c.settled-leaf.ensures c.with_leaf-next.ensures c.keep_leaf-written.ensures

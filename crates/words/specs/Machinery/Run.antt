@@ -1,6 +1,6 @@
 -- The reserved words as one run of their letters with their lengths, and how a name's number is found in it. Machinery: no public contract
 -- cites it.
-use Rattle.std.specs.Prelude.{ℕ, zero, suc, ◌+◌, ◌*◌, ◌/◌, ◌%◌, ◌^◌, List, [], ◌∷◌, ◌++◌, Bool, cond, ◌&&◌, eqb, length, get_or}
+use Rattle.std.specs.Prelude.{ℕ, zero, suc, ◌+◌, ◌*◌, ◌/◌, ◌%◌, ◌^◌, List, [], ◌∷◌, ◌++◌, Bool, cond, ◌&&◌, eqb, length, get_or, Option, None, Some}
 use Rattle.std.specs.Int.Bits.{bit_and}
 use Rattle.vocabulary.specs.Vocabulary.{Row, spelling, words, row_at}
 
@@ -58,6 +58,11 @@ number_in at n (row ∷ rows) = cond (eqb (slot_of_name (spelling row)) at) n (n
 abbrev pub numbers_from : ℕ → ℕ → List ℕ
 numbers_from at zero = []
 numbers_from at (suc many) = number_in at 1 words ∷ numbers_from (at + 1) many
+
+-- the number at a slot, which is 0 where no word has it
+abbrev pub option_of : ℕ → Option ℕ
+option_of zero = None
+option_of (suc n) = Some (suc n)
 
 -- the numbers at the 64 slots
 unfoldable pub numbers : List ℕ

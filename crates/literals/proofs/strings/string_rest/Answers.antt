@@ -3,6 +3,7 @@ use native.Mathlib.Omega.{arith}
 use mathlib.Core.Path.{refl, sym, ◌∙◌}
 use Rattle.literals.proofs.StringLaws.{string_past, string_passed, string_newline, string_stray, string_taken, string_close, string_more}
 use Rattle.literals.proofs.strings.string_rest.Goals as goal
+use Rattle.literals.proofs.strings.string_rest.Goals.{then-taken, else-taken+else-b-q}
 
 pub loop-i-init : goal.loop-i-init
 loop-i-init c = refl
@@ -17,14 +18,14 @@ returns-then-code-eq-LINE_END c = sym (c.loop-i.invariant ∙ string_newline _ _
 pub returns-then-code-eq-ILLEGAL : goal.returns-then-code-eq-ILLEGAL
 returns-then-code-eq-ILLEGAL c = sym (c.loop-i.invariant ∙ string_stray _ _ _ _ (omega arith) _ (omega arith))
 
-pub loop-i-preserved-then-taken : goal.loop-i-preserved-then-taken
-loop-i-preserved-then-taken c = rw c.if-taken.true at c.loop-i.invariant ∙ string_taken _ _ _ _ (omega arith) (omega arith)
-
 pub returns-then-b-q : goal.returns-then-b-q
 returns-then-b-q c = sym (rw c.if-taken.false at c.loop-i.invariant ∙ string_close _ _ _ _ (omega arith) (omega arith) (omega arith))
 
 pub loop-i-preserved : goal.loop-i-preserved
-loop-i-preserved c = rw c.if-taken.false at c.loop-i.invariant ∙ string_more _ _ _ _ (omega arith) (omega arith) (omega arith)
+loop-i-preserved c = elim c.if-taken.branch [
+  | then-taken w ↦ rw w.taken-is (rw w.if-taken.true at c.loop-i.invariant ∙ string_taken _ _ _ _ (omega arith) (omega arith))
+  | else-taken+else-b-q w ↦ rw w.taken-is (rw w.if-taken.false at c.loop-i.invariant ∙ string_more _ _ _ _ (omega arith) (omega arith) (omega arith))
+]
 
 pub returns : goal.returns
 returns c = sym (c.loop-i.invariant ∙ string_past _ _ _ _ _ c.loop-i-test.false)

@@ -2,7 +2,7 @@
 use mathlib.Core.Path.{sym}
 use Rattle.rule.proofs.LevelCodeLaws.{settled_other}
 use Rattle.prefix.proofs.StateLaws.{represented_sign}
-use Rattle.prefix.proofs.settled.Goals as goal
+use Rattle.prefix.proofs.State.settled.Goals as goal
 
 pub returns-then-e-ne-SIGN : goal.returns-then-e-ne-SIGN
 returns-then-e-ne-SIGN c = λ tag stack levels h. sym (settled_other levels _ c.if-e-ne-SIGN.true)

@@ -1,6 +1,0 @@
--- The code of the innermost level says what the rule says.
-use Rattle.prefix.proofs.StateLaws.{represented_stated}
-use Rattle.prefix.proofs.stated_by.Goals as goal
-
-pub returns : goal.returns
-returns c = (c.stated_by.ensures, λ tag stack levels h. represented_stated tag stack _ levels h _ c.stated_by.ensures)
