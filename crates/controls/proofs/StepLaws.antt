@@ -5,19 +5,14 @@ use Prim.Native.Nat.{ℕ}
 use lib.Dec.{T}
 use Rattle.std.specs.Prelude.{Some}
 use Rattle.machine.specs.Machinery.Machine.{Control, goto, push}
-use Rattle.controls.specs.Machinery.Numbers.{ending_by, control_by, control_of, effect_by, closing_by, inside_by}
+use Rattle.controls.specs.Machinery.Numbers.{ending_by, control_of, effect_by, closing_by, inside_by}
 use Rattle.controls.specs.declared.Control as code
-use Rattle.controls.specs.declared.Place as places
 use Rattle.controls.specs.declared.Place.TheVariants.{OperandDone, PostfixDone}
 use Rattle.controls.specs.declared.Effect as effects
 use Rattle.controls.specs.declared.Closing as closings
 use Rattle.controls.specs.declared.Step.TheVariants.{Goto, Push}
 use Rattle.machine.specs.Machinery.Classes.{is_single, is_opener}
 use Rattle.controls.specs.Machinery.Steps.{Ended, ended_operand, ended_postfix, Leads, Spans, Means, means_goto, means_push}
-
--- where the code stands, by its place
-pub at_place : (at : code.Control) (place : places.Place) → at.place ≡ place → control_of at ≡ control_by place at.ending at.setting at.flag
-at_place at place e = rw e
 
 -- what a step means that leads to a control known so, or to it past a group
 module _ {from : Control} {class : ℕ} {to : code.Control} {behind : Control} (e : control_of to ≡ behind) where

@@ -5,7 +5,7 @@ ghost use Rattle.controls.specs.Machinery.Numbers.{setting_by, items_by, ending_
 ghost use Rattle.machine.specs.Machinery.Classes.{is_end};
 ghost use Rattle.controls.specs.Machinery.Steps.{Ended, Settled, Ends};
 
-use crate::{Control, Place, Setting, Ending};
+use crate::{Control, Ending, Place, Setting};
 use machine::tokens;
 
 // Whether a level may end at a closer, or at the text's end, where the machine stands.

@@ -24,6 +24,7 @@ pub struct Control {
     pub flag: bool,
 }
 
+// The places.
 #[derive(Clone, Copy)]
 pub enum Place {
     StatementDue,
@@ -79,12 +80,12 @@ pub enum Place {
 // The setting of a statement: among those of a body, a block or a clause, or in a nest.
 #[derive(Clone, Copy)]
 pub enum Setting {
-    Body,
-    Block,
-    Clause,
-    IfNest,
-    ElseNest,
-    DoNest,
+    Body = 0,
+    Block = 1,
+    Clause = 2,
+    IfNest = 3,
+    ElseNest = 4,
+    DoNest = 5,
 }
 
 impl Setting {
@@ -113,24 +114,24 @@ impl Setting {
 // alone as long as it is no more than a chain.
 #[derive(Clone, Copy)]
 pub enum Ending {
-    Statement,
-    Return,
-    Variable,
-    FirstVariable,
-    LaterVariable,
-    LoneStart,
-    Start,
-    Test,
-    Case,
-    LastCase,
-    Step,
-    Object,
-    Paren,
-    Bracket,
-    Colon,
-    Argument,
-    Element,
-    Property,
+    Statement = 0,
+    Return = 1,
+    Variable = 2,
+    FirstVariable = 3,
+    LaterVariable = 4,
+    LoneStart = 5,
+    Start = 6,
+    Test = 7,
+    Case = 8,
+    LastCase = 9,
+    Step = 10,
+    Object = 11,
+    Paren = 12,
+    Bracket = 13,
+    Colon = 14,
+    Argument = 15,
+    Element = 16,
+    Property = 17,
 }
 
 impl Ending {
@@ -216,11 +217,11 @@ pub enum Closing {
 // which a `default` may come or not.
 #[derive(Clone, Copy)]
 pub enum Nest {
-    If,
-    Do,
-    Try,
-    Clause,
-    LastClause,
+    If = 0,
+    Do = 1,
+    Try = 2,
+    Clause = 3,
+    LastClause = 4,
 }
 
 impl Nest {
@@ -283,8 +284,18 @@ pub fn behind_statement(setting: Setting) -> Control
     ensures { control_of result ≡ behind_statement (setting_by setting) }
 {
     match setting {
-        Setting::Body | Setting::Block => stand(Place::StatementDue, Ending::Statement, setting, false),
-        Setting::Clause => stand(Place::ClauseStatement, Ending::Statement, Setting::Clause, false),
+        Setting::Body | Setting::Block => stand(
+            Place::StatementDue,
+            Ending::Statement,
+            setting,
+            false,
+        ),
+        Setting::Clause => stand(
+            Place::ClauseStatement,
+            Ending::Statement,
+            Setting::Clause,
+            false,
+        ),
         _ => stand(Place::StatementDone, Ending::Statement, setting, false),
     }
 }
@@ -297,7 +308,12 @@ pub fn inside_of(closing: Closing) -> Control
         Closing::Call => stand(Place::ItemDue, Ending::Argument, Setting::Body, true),
         Closing::Object => stand(Place::ItemDue, Ending::Property, Setting::Body, true),
         Closing::Parameter => stand(Place::ParameterDue, Ending::Paren, Setting::Body, false),
-        Closing::Block => stand(Place::StatementDue, Ending::Statement, Setting::Block, false),
+        Closing::Block => stand(
+            Place::StatementDue,
+            Ending::Statement,
+            Setting::Block,
+            false,
+        ),
         Closing::Declaration => stand(Place::StatementDue, Ending::Statement, Setting::Body, false),
         Closing::Function => stand(Place::StatementDue, Ending::Statement, Setting::Body, false),
         Closing::Array => stand(Place::ItemDue, Ending::Element, Setting::Body, true),
@@ -326,9 +342,19 @@ pub fn entered(nest: Nest) -> Control
 {
     match nest {
         Nest::If => stand(Place::IfFirst, Ending::Statement, Setting::IfNest, true),
-        Nest::Do => stand(Place::StatementDue, Ending::Statement, Setting::DoNest, true),
+        Nest::Do => stand(
+            Place::StatementDue,
+            Ending::Statement,
+            Setting::DoNest,
+            true,
+        ),
         Nest::Try => stand(Place::TryFirst, Ending::Statement, Setting::Body, true),
-        Nest::Clause | Nest::LastClause => stand(Place::ClauseStatement, Ending::Statement, Setting::Clause, false),
+        Nest::Clause | Nest::LastClause => stand(
+            Place::ClauseStatement,
+            Ending::Statement,
+            Setting::Clause,
+            false,
+        ),
     }
 }
 

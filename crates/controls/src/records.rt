@@ -59,12 +59,11 @@ pub fn put(syntax: &mut [u32], count: usize, kind: u32, mark: usize, start: usiz
     ensures { (result ≡ count + 1) × (syntax.new ≡ put_record syntax.old count kind mark (count - start + 1)) }
 {
     let at = count * SyntaxRecord::WIDTH;
-    // A quotient would be reckoned anew for each level, before its first record.
-    if syntax.len() < at + SyntaxRecord::WIDTH {
-        return count + 1;
+    // A quotient would be reckoned anew for each level, before its first record. Three stores, as in `storing::put`.
+    if at + SyntaxRecord::WIDTH <= syntax.len() {
+        syntax[at] = kind;
+        syntax[at + 1] = mark as u32;
+        syntax[at + 2] = (count - start + 1) as u32;
     }
-    syntax[at] = kind;
-    syntax[at + 1] = mark as u32;
-    syntax[at + 2] = (count - start + 1) as u32;
     count + 1
 }

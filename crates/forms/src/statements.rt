@@ -4,7 +4,7 @@ ghost use Rattle.machine.specs.Tokens.{open_brace};
 ghost use Rattle.machine.specs.Scopes.{block};
 ghost use Rattle.machine.specs.Machinery.Machine.{among, some_target, by_case, to_block, statement_due, operand_due, switch_past, clause_due, default_first, try_done, on, push, look, row};
 ghost use Rattle.controls.specs.declared.Effect.TheVariants.{StartStatement};
-ghost use Rattle.controls.specs.Machinery.Numbers.{setting_by, control_of};
+ghost use Rattle.controls.specs.Machinery.Numbers.{setting_by, control_by, control_of};
 ghost use Rattle.controls.specs.Machinery.Steps.{Spans, Means, Goes};
 ghost use Rattle.forms.specs.Machinery.Places.{rows_at};
 
@@ -18,48 +18,20 @@ use machine::tokens;
 pub fn word_form_row(at: Control, class: u32) -> Option<Step>
     ensures { 2 ≤ rows_at at.place → (newline : Bool) → Means (control_of at) class result (look class (row (control_of at) newline)) }
 {
-    let statement = Control {
-        place: Place::StatementDue,
-        flag: true,
-        ..at
-    };
+    let must = Control { flag: true, ..at };
     match at.place {
-        Place::HeadFirst => head_row(class, statement, Closing::Head),
+        Place::HeadFirst => head_row(must, class, Place::StatementDue, Closing::Head),
         Place::VariableDue => only(
+            at,
             class,
             tokens::NAME,
-            Control {
-                place: Place::VariableNamed,
-                ..at
-            },
+            Place::VariableNamed,
             Effect::StartStatement,
         ),
-        Place::BodyDone => only(
-            class,
-            tokens::WHILE,
-            Control {
-                place: Place::TestFirst,
-                ..at
-            },
-            Effect::Keep,
-        ),
-        Place::TestFirst => head_row(
-            class,
-            Control {
-                place: Place::SemicolonDue,
-                ..at
-            },
-            Closing::Test,
-        ),
-        Place::ForFirst => head_row(class, statement, Closing::For),
-        Place::SwitchFirst => head_row(
-            class,
-            Control {
-                place: Place::SwitchPast,
-                ..at
-            },
-            Closing::Head,
-        ),
+        Place::BodyDone => only(at, class, tokens::WHILE, Place::TestFirst, Effect::Keep),
+        Place::TestFirst => head_row(at, class, Place::SemicolonDue, Closing::Test),
+        Place::ForFirst => head_row(must, class, Place::StatementDue, Closing::For),
+        Place::SwitchFirst => head_row(at, class, Place::SwitchPast, Closing::Head),
         Place::SwitchPast => switch_row(class, at.setting),
         _ => try_row(at, class),
     }
@@ -81,13 +53,7 @@ fn clause_row(at: Control, class: u32) -> Option<Step>
 {
     match class {
         tokens::CASE => case_row(at),
-        tokens::DEFAULT if !at.flag => goto(
-            Control {
-                place: Place::DefaultFirst,
-                ..at
-            },
-            Effect::StartStatement,
-        ),
+        tokens::DEFAULT if !at.flag => goto(at, Place::DefaultFirst, Effect::StartStatement),
         _ => None,
     }
 }
@@ -103,11 +69,11 @@ fn case_row(at: Control) -> Option<Step>
     };
     goto(
         Control {
-            place: Place::OperandDue,
             ending,
             flag: true,
             ..at
         },
+        Place::OperandDue,
         Effect::StartStatement,
     )
 }
@@ -129,55 +95,22 @@ fn try_row(at: Control, class: u32) -> Option<Step>
     match at.place {
         Place::ClauseDue => clause_row(at, class),
         Place::DefaultFirst => default_row(class),
-        Place::TryFirst => block_row(
-            class,
-            Control {
-                place: Place::TryDone,
-                ..at
-            },
-        ),
+        Place::TryFirst => block_row(at, class, Place::TryDone),
         Place::TryDone => handler_row(at, class),
-        Place::CatchFirst => head_row(
-            class,
-            Control {
-                place: Place::CatchPast,
-                ..at
-            },
-            Closing::Catch,
-        ),
-        Place::CatchDue => only(
-            class,
-            tokens::NAME,
-            Control {
-                place: Place::CatchNamed,
-                ..at
-            },
-            Effect::Keep,
-        ),
+        Place::CatchFirst => head_row(at, class, Place::CatchPast, Closing::Catch),
+        Place::CatchDue => only(at, class, tokens::NAME, Place::CatchNamed, Effect::Keep),
         Place::CatchNamed => None,
-        Place::CatchPast => block_row(
-            class,
-            Control {
-                place: Place::CatchDone,
-                ..at
-            },
-        ),
-        Place::FinallyFirst => block_row(
-            class,
-            Control {
-                place: Place::TryEnded,
-                ..at
-            },
-        ),
+        Place::CatchPast => block_row(at, class, Place::CatchDone),
+        Place::FinallyFirst => block_row(at, class, Place::TryEnded),
         _ => function_row(at, class),
     }
 }
 
-// A block of a `try`.
-fn block_row(class: u32, behind: Control) -> Option<Step>
-    ensures { (from : Rattle.machine.specs.Machinery.Machine.Control) → Spans to_block from (control_of behind) → Means from class result (look class (on open_brace (push (statement_due false (among block)) (control_of behind) to_block) ∷ [])) }
+// A block of a `try`, behind which the machine stands at a place.
+fn block_row(at: Control, class: u32, place: Place) -> Option<Step>
+    ensures { (from : Rattle.machine.specs.Machinery.Machine.Control) → Spans to_block from (control_by place at.ending at.setting at.flag) → Means from class result (look class (on open_brace (push (statement_due false (among block)) (control_by place at.ending at.setting at.flag) to_block) ∷ [])) }
 {
-    opens(class, tokens::OPEN_BRACE, behind, Closing::Block)
+    opens(at, class, tokens::OPEN_BRACE, place, Closing::Block)
 }
 
 // Behind the block of a `try`.
@@ -185,20 +118,8 @@ fn handler_row(at: Control, class: u32) -> Option<Step>
     ensures { Means try_done class result (look class (row try_done false)) }
 {
     match class {
-        tokens::CATCH => goto(
-            Control {
-                place: Place::CatchFirst,
-                ..at
-            },
-            Effect::StartStatement,
-        ),
-        tokens::FINALLY => goto(
-            Control {
-                place: Place::FinallyFirst,
-                ..at
-            },
-            Effect::StartStatement,
-        ),
+        tokens::CATCH => goto(at, Place::CatchFirst, Effect::StartStatement),
+        tokens::FINALLY => goto(at, Place::FinallyFirst, Effect::StartStatement),
         _ => None,
     }
 }

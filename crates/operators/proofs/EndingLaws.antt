@@ -2,13 +2,13 @@
 use mathlib.Core.Path.{◌≡◌, refl, ◌∙◌}
 use mathlib.Core.Bool.{Bool, true, false, cond}
 use mathlib.Core.List.{List, [], ◌∷◌}
-use Prim.Native.Nat.{ℕ, ◌+◌, ◌≤◌, ◌<◌}
+use Prim.Native.Nat.{ℕ, ◌≤◌}
 use native.Mathlib.Omega.{arith}
-use borrow.Author.Tests.{ne_eqb, eqb-true, eqb-false, ltb-true, ltb-false}
-use lib.Dec.{T, eqb, ltb}
+use borrow.Author.Tests.{ne_eqb, eqb-true}
+use lib.Dec.{T, eqb}
 use Rattle.machine.specs.Tokens.{question, in_word, semicolon, comma, colon}
 use Rattle.machine.specs.Operators.{assignment_operators, binary_operators, binary_operators_by, without, postfix_operators, postfix_kind, is_among}
-use Rattle.machine.specs.Scopes.{Items, call_arguments, array_elements, object_properties}
+use Rattle.machine.specs.Scopes.{call_arguments, array_elements, object_properties}
 use Rattle.machine.specs.Machinery.Machine as machine
 use Rattle.machine.specs.Machinery.Machine.{in_statement, in_head, Target, no_target, some_target, lone_target, is_target, takes_in, allows_in, later_variables, by_statement, by_return, by_variable, by_start, by_test, by_step, by_object, by_case, by_paren, by_bracket, by_colon, by_item, test_due, operand_due, postfix_done, item_due, take_operator, take_postfix, Entry, on, otherwise, Action, fail, goto, ask, look, for_each, behind_comma, comma_action, in_entry, is_first, ending_row, after_unary, assignment_row, postfix_row}
 use Rattle.machine.specs.Machinery.Classes.{is_single}
@@ -18,7 +18,7 @@ use Rattle.controls.specs.declared.Ending.TheVariants.{Statement, Return, Variab
 use Rattle.controls.specs.Machinery.Numbers.{variables_by, ending_by, target_by}
 use Rattle.controls.specs.Machinery.Steps.{takes_comma}
 use Rattle.controls.proofs.EndLaws.{NoCloser}
-use Rattle.controls.proofs.ClassLaws.{each_from, at_number, among_all, not_among}
+use Rattle.controls.proofs.ClassLaws.{among_all, not_among}
 use Rattle.forms.proofs.EntryLaws.{among_entry, other_entry}
 
 module _ (setting : Setting) where

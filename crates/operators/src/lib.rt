@@ -21,36 +21,27 @@ use machine::tokens;
 pub fn end_statement(setting: Setting, effect: Effect) -> Option<Step>
     ensures { Goes result (behind_statement (setting_by setting)) effect }
 {
-    goto(behind_statement(setting), effect)
+    Some(Step::Goto(behind_statement(setting), effect))
 }
 
 // Behind an operator between two operands one is due that may not be assigned to.
 fn behind_operator(at: Control) -> Option<Step>
     ensures { Goes result (operand_due (ending_by at.ending at.setting) no_target) TakeOperator }
 {
-    goto(
-        Control {
-            place: Place::OperandDue,
-            flag: false,
-            ..at
-        },
-        Effect::TakeOperator,
-    )
+    let operand = Control { flag: false, ..at };
+    goto(operand, Place::OperandDue, Effect::TakeOperator)
 }
 
 // Behind an assignment or a `,` one is due that may, but it is not all of the start of a `for`'s head.
 fn behind_assignment(at: Control) -> Option<Step>
     ensures { Goes result (operand_due (ending_by at.ending at.setting) some_target) TakeOperator }
 {
-    goto(
-        Control {
-            place: Place::OperandDue,
-            ending: past_start(at.ending),
-            flag: true,
-            ..at
-        },
-        Effect::TakeOperator,
-    )
+    let operand = Control {
+        ending: past_start(at.ending),
+        flag: true,
+        ..at
+    };
+    goto(operand, Place::OperandDue, Effect::TakeOperator)
 }
 
 // `;` behind the last of variables.
@@ -58,13 +49,7 @@ pub fn variables_end(at: Control) -> Option<Step>
     ensures { Goes result (behind_variables (variables_by at.ending at.setting)) EndValue }
 {
     match at.ending {
-        Ending::FirstVariable | Ending::LaterVariable => goto(
-            Control {
-                place: Place::TestDue,
-                ..at
-            },
-            Effect::EndValue,
-        ),
+        Ending::FirstVariable | Ending::LaterVariable => goto(at, Place::TestDue, Effect::EndValue),
         _ => end_statement(at.setting, Effect::EndValue),
     }
 }
@@ -77,29 +62,20 @@ pub fn next_variable(at: Control) -> Option<Step>
         Ending::FirstVariable => Ending::LaterVariable,
         _ => at.ending,
     };
-    goto(
-        Control {
-            place: Place::VariableDue,
-            ending,
-            ..at
-        },
-        Effect::EndVariable,
-    )
+    let later = Control { ending, ..at };
+    goto(later, Place::VariableDue, Effect::EndVariable)
 }
 
 // The `in` of a `for`.
 pub fn in_row(at: Control) -> Option<Step>
     ensures { Goes result (operand_due by_object some_target) EndValue }
 {
-    goto(
-        Control {
-            place: Place::OperandDue,
-            ending: Ending::Object,
-            flag: true,
-            ..at
-        },
-        Effect::EndValue,
-    )
+    let object = Control {
+        ending: Ending::Object,
+        flag: true,
+        ..at
+    };
+    goto(object, Place::OperandDue, Effect::EndValue)
 }
 
 // `;` behind an expression.
@@ -110,20 +86,8 @@ fn semicolon_row(at: Control) -> Option<Step>
         Ending::Statement => end_statement(at.setting, Effect::EndExpression),
         Ending::Return => end_statement(at.setting, Effect::EndValue),
         Ending::Variable | Ending::FirstVariable | Ending::LaterVariable => variables_end(at),
-        Ending::LoneStart | Ending::Start => goto(
-            Control {
-                place: Place::TestDue,
-                ..at
-            },
-            Effect::EndValue,
-        ),
-        Ending::Test => goto(
-            Control {
-                place: Place::StepDue,
-                ..at
-            },
-            Effect::EndValue,
-        ),
+        Ending::LoneStart | Ending::Start => goto(at, Place::TestDue, Effect::EndValue),
+        Ending::Test => goto(at, Place::StepDue, Effect::EndValue),
         _ => None,
     }
 }
@@ -134,21 +98,11 @@ fn comma_row(at: Control) -> Option<Step>
     ensures { (from : Rattle.machine.specs.Machinery.Machine.Control) → Ended from (ending_by at.ending at.setting) → Means from comma result (look comma (ending_row (ending_by at.ending at.setting))) }
 {
     match at.ending {
-        Ending::Argument => goto(
-            Control {
-                place: Place::OperandDue,
-                flag: true,
-                ..at
-            },
-            Effect::EndValue,
-        ),
-        Ending::Element | Ending::Property => goto(
-            Control {
-                place: Place::ItemDue,
-                ..at
-            },
-            Effect::EndValue,
-        ),
+        Ending::Argument => {
+            let argument = Control { flag: true, ..at };
+            goto(argument, Place::OperandDue, Effect::EndValue)
+        }
+        Ending::Element | Ending::Property => goto(at, Place::ItemDue, Effect::EndValue),
         Ending::Variable | Ending::FirstVariable | Ending::LaterVariable => next_variable(at),
         Ending::Colon => None,
         _ => behind_assignment(at),
@@ -222,13 +176,7 @@ fn operation_row(at: Control, class: u32, newline: bool, chain: bool) -> Option<
         return in_row(at);
     }
     if takes_postfix(class, newline, chain) {
-        return goto(
-            Control {
-                place: Place::PostfixDone,
-                ..at
-            },
-            Effect::TakePostfix,
-        );
+        return goto(at, Place::PostfixDone, Effect::TakePostfix);
     }
     binary_row(at, class)
 }
@@ -237,20 +185,10 @@ fn operation_row(at: Control, class: u32, newline: bool, chain: bool) -> Option<
 fn link_row(at: Control, class: u32) -> Option<Step>
     ensures { comma < class → (class ≡ semicolon → ⊥) → (class ≡ colon → ⊥) → (newline : Bool) → Means (operand_done (ending_by at.ending at.setting) (target_by at.ending at.flag)) class result (look class (after_operand (ending_by at.ending at.setting) (target_by at.ending at.flag) newline)) }
 {
-    let longer = Control {
-        place: Place::OperandDone,
-        ..at
-    };
     match class {
-        tokens::DOT => goto(
-            Control {
-                place: Place::DotLast,
-                ..at
-            },
-            Effect::Keep,
-        ),
-        tokens::OPEN_PAREN => push(longer, Closing::Call),
-        tokens::OPEN_BRACKET => push(longer, Closing::Index),
+        tokens::DOT => goto(at, Place::DotLast, Effect::Keep),
+        tokens::OPEN_PAREN => push(at, Place::OperandDone, Closing::Call),
+        tokens::OPEN_BRACKET => push(at, Place::OperandDone, Closing::Index),
         _ => None,
     }
 }

@@ -8,7 +8,6 @@ use borrow.Author.Tests.{ne_eqb}
 use lib.Dec.{T}
 use Rattle.machine.specs.Tokens.{semicolon, var_word}
 use Rattle.machine.specs.Machinery.Machine.{by_step, Control, return_first, throw_first, start_due, test_due, step_due, Entry, fail, look, operand, unless_line, row}
-use Rattle.controls.specs.declared.Control as code
 use Rattle.controls.specs.declared.Place.{Place}
 use Rattle.controls.specs.declared.Place.TheVariants.{ReturnFirst, ThrowFirst, StartDue, TestDue, StepDue}
 use Rattle.controls.specs.declared.Ending.{Ending}

@@ -1,15 +1,15 @@
 -- Rows of statements, by the classes that they list.
-use mathlib.Core.Path.{◌≡◌, refl, sym, ◌∙◌}
-use mathlib.Core.Bool.{Bool, true, false, cond, ◌&&◌, false≢true}
+use mathlib.Core.Path.{◌≡◌, refl, ◌∙◌}
+use mathlib.Core.Bool.{Bool, true, false}
 use mathlib.Core.List.{List, [], ◌∷◌}
 use Prim.Native.Nat.{ℕ, ◌≤◌, ◌<◌}
 use native.Mathlib.Omega.{arith}
-use borrow.Author.Tests.{ne_eqb, eqb-true, eqb-false, ltb-true, leb-true, lt-ltb, le-leb}
+use borrow.Author.Tests.{ne_eqb}
 use lib.Dec.{T, eqb, ltb, leb, ltb→lt, leb→le}
 use Rattle.machine.specs.Tokens.{name, semicolon, comma, open_paren, open_brace, open_bracket, close_paren, close_brace, close_bracket, new_word, var_word, do_word, while_word, for_word, continue_word, break_word, with_word, switch_word, case_word, default_word, throw_word, try_word, debugger_word, return_word, function_word, if_word}
 use Rattle.machine.specs.Operators.{prefix_operators, prefix_kind}
 use Rattle.machine.specs.Scopes.{array_elements, body, block}
-use Rattle.machine.specs.Machinery.Machine.{end_of_text, Nest, Setting, among, in_clause, in_nest, no_target, some_target, Ending, by_statement, by_paren, declared, Control, statement_due, function_first, operand_due, member_due, operand_done, item_due, hold_word, take_leaf, take_prefix, to_parens, to_array, Entry, on, fail, goto, push, look, primaries, values, word_row, beginnings, operand, no_statement, row}
+use Rattle.machine.specs.Machinery.Machine.{end_of_text, Setting, among, in_clause, no_target, some_target, Ending, by_statement, by_paren, declared, Control, statement_due, function_first, operand_due, member_due, operand_done, item_due, hold_word, take_leaf, take_prefix, to_parens, to_array, Entry, on, fail, goto, push, look, primaries, values, word_row, beginnings, operand, no_statement, row}
 use Rattle.std.specs.Prelude.{Option}
 use Rattle.controls.specs.declared.Setting as settings
 use Rattle.controls.specs.declared.Setting.TheVariants.{Body, Block}

@@ -8,13 +8,12 @@ ghost use Rattle.machine.specs.Machinery.Machine.{behind_statement, statement_du
 ghost use Rattle.controls.specs.declared.Setting.{Setting};
 ghost use Rattle.controls.specs.declared.Setting.TheVariants.{Clause};
 ghost use Rattle.controls.specs.declared.Place.TheVariants.{StatementDue, ClauseStatement};
-ghost use Rattle.controls.specs.declared.Effect.TheVariants.{StartStatement};
-ghost use Rattle.controls.specs.Machinery.Numbers.{setting_by, variables_by, ending_by, target_by, must_by, control_by, control_of};
-ghost use Rattle.controls.specs.Machinery.Steps.{Leads, Means, Goes, Settled};
+ghost use Rattle.controls.specs.Machinery.Numbers.{setting_by, variables_by, ending_by, target_by, must_by, control_of};
+ghost use Rattle.controls.specs.Machinery.Steps.{Leads, Means, Settled};
 ghost use Rattle.forms.specs.Machinery.Places.{IsDue, bars_line, due_ending};
 
 use controls::{Closing, Control, Effect, Ending, Nest, Place, Setting, Step, behind_statement};
-use forms::{form_row, goto, operand_row, push};
+use forms::{form_row, goto, operand_row};
 use machine::tokens;
 use operators::{end_statement, in_row, next_variable, operator_row, variables_end};
 
@@ -26,13 +25,7 @@ fn declaration_row(at: Control) -> Option<Step>
         return None;
     }
     match at.setting {
-        Setting::Body => goto(
-            Control {
-                place: Place::DeclaredFirst,
-                ..at
-            },
-            Effect::HoldWord,
-        ),
+        Setting::Body => goto(at, Place::DeclaredFirst, Effect::HoldWord),
         _ => None,
     }
 }
@@ -42,29 +35,23 @@ fn statement_row(at: Control, class: u32) -> Option<Step>
     ensures { (must' newline : Bool) → look class (no_statement must' (setting_by at.setting)) ≡ look class (no_statement (must_by at.flag at.setting) (setting_by at.setting)) → Means (statement_due must' (setting_by at.setting)) class result (look class (row (statement_due must' (setting_by at.setting)) newline)) }
 {
     match class {
-        tokens::NAME => goto(
-            Control {
-                place: Place::NameFirst,
-                ..at
-            },
-            Effect::HoldName,
-        ),
+        tokens::NAME => goto(at, Place::NameFirst, Effect::HoldName),
         // The words of statements follow the operators, but for `if`, `return` and `function`, which stand among the signs.
         tokens::VAR..=tokens::DEBUGGER => word_row(at, class),
         tokens::IF => Some(Step::Enter(Nest::If, at.setting)),
-        tokens::RETURN => starts(at, Place::ReturnFirst),
-        tokens::OPEN_BRACE => push(behind_statement(at.setting), Closing::Block),
+        tokens::RETURN => goto(at, Place::ReturnFirst, Effect::StartStatement),
+        tokens::OPEN_BRACE => Some(Step::Push(behind_statement(at.setting), Closing::Block)),
         tokens::FUNCTION => declaration_row(at),
         tokens::SEMICOLON => end_statement(at.setting, Effect::EndEmpty),
-        _ => operand_row(class, Ending::Statement, at.setting, true),
+        _ => operand_row(
+            Control {
+                ending: Ending::Statement,
+                flag: true,
+                ..at
+            },
+            class,
+        ),
     }
-}
-
-// The word of a statement, and where its parts are due.
-fn starts(at: Control, place: Place) -> Option<Step>
-    ensures { Goes result (control_by place at.ending at.setting at.flag) StartStatement }
-{
-    goto(Control { place, ..at }, Effect::StartStatement)
 }
 
 // The statements that start with a word, but for `if` and `return`.
@@ -72,21 +59,22 @@ fn word_row(at: Control, class: u32) -> Option<Step>
     ensures { (must : Bool) → (class ≡ semicolon → ⊥) → Means (statement_due must (setting_by at.setting)) class result (look class (word_row (setting_by at.setting) [])) }
 {
     match class {
-        tokens::VAR => starts(
+        tokens::VAR => goto(
             Control {
                 ending: Ending::Variable,
                 ..at
             },
             Place::VariableDue,
+            Effect::StartStatement,
         ),
         tokens::DO => Some(Step::Enter(Nest::Do, at.setting)),
         tokens::TRY => Some(Step::Enter(Nest::Try, at.setting)),
-        tokens::FOR => starts(at, Place::ForFirst),
-        tokens::SWITCH => starts(at, Place::SwitchFirst),
-        tokens::WHILE | tokens::WITH => starts(at, Place::HeadFirst),
-        tokens::CONTINUE | tokens::BREAK => starts(at, Place::JumpFirst),
-        tokens::THROW => starts(at, Place::ThrowFirst),
-        tokens::DEBUGGER => starts(at, Place::SemicolonDue),
+        tokens::FOR => goto(at, Place::ForFirst, Effect::StartStatement),
+        tokens::SWITCH => goto(at, Place::SwitchFirst, Effect::StartStatement),
+        tokens::WHILE | tokens::WITH => goto(at, Place::HeadFirst, Effect::StartStatement),
+        tokens::CONTINUE | tokens::BREAK => goto(at, Place::JumpFirst, Effect::StartStatement),
+        tokens::THROW => goto(at, Place::ThrowFirst, Effect::StartStatement),
+        tokens::DEBUGGER => goto(at, Place::SemicolonDue, Effect::StartStatement),
         _ => None,
     }
 }
@@ -97,20 +85,8 @@ fn left_out_row(at: Control) -> Option<Step>
 {
     match at.place {
         Place::ReturnFirst => end_statement(at.setting, Effect::EndBare),
-        Place::StartDue => goto(
-            Control {
-                place: Place::TestDue,
-                ..at
-            },
-            Effect::EndValue,
-        ),
-        Place::TestDue => goto(
-            Control {
-                place: Place::StepDue,
-                ..at
-            },
-            Effect::EndValue,
-        ),
+        Place::StartDue => goto(at, Place::TestDue, Effect::EndValue),
+        Place::TestDue => goto(at, Place::StepDue, Effect::EndValue),
         _ => None,
     }
 }
@@ -120,12 +96,13 @@ fn head_variable_row(at: Control) -> Option<Step>
     ensures { IsDue at.place → (newline : Bool) → Means (control_of at) var_word result (look var_word (row (control_of at) newline)) }
 {
     match at.place {
-        Place::StartDue => starts(
+        Place::StartDue => goto(
             Control {
                 ending: Ending::FirstVariable,
                 ..at
             },
             Place::VariableDue,
+            Effect::StartStatement,
         ),
         _ => None,
     }
@@ -158,7 +135,14 @@ fn due_row(at: Control, class: u32, newline: bool) -> Option<Step>
         tokens::SEMICOLON => left_out_row(at),
         tokens::VAR => head_variable_row(at),
         _ if bars_line(at.place, newline) => None,
-        _ => operand_row(class, due_ending(at.place), at.setting, true),
+        _ => operand_row(
+            Control {
+                ending: due_ending(at.place),
+                flag: true,
+                ..at
+            },
+            class,
+        ),
     }
 }
 
@@ -168,13 +152,7 @@ fn jump_row(at: Control, class: u32, newline: bool) -> Option<Step>
 {
     match class {
         tokens::SEMICOLON => end_statement(at.setting, Effect::EndBare),
-        tokens::NAME if !newline => goto(
-            Control {
-                place: Place::SemicolonDue,
-                ..at
-            },
-            Effect::Keep,
-        ),
+        tokens::NAME if !newline => goto(at, Place::SemicolonDue, Effect::Keep),
         _ => None,
     }
 }
@@ -186,11 +164,11 @@ fn variable_row(at: Control, class: u32) -> Option<Step>
     match class {
         tokens::ASSIGN => goto(
             Control {
-                place: Place::OperandDue,
                 ending: variable_ending(at.ending),
                 flag: true,
                 ..at
             },
+            Place::OperandDue,
             Effect::Keep,
         ),
         tokens::COMMA => next_variable(at),
@@ -253,7 +231,7 @@ pub fn row(at: Control, class: u32, newline: bool) -> Option<Step>
             newline,
             matches!(at.place, Place::OperandDone),
         ),
-        Place::OperandDue => operand_row(class, at.ending, at.setting, at.flag),
+        Place::OperandDue => operand_row(at, class),
         Place::JumpFirst => jump_row(at, class, newline),
         Place::VariableNamed => variable_row(at, class),
         Place::SemicolonDue => semicolon_due(class, at.setting),

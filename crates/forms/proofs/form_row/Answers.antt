@@ -1,8 +1,6 @@
 -- `form_row` is the machine's rows inside forms, place by place.
-use mathlib.Core.Path.{refl}
-use Rattle.controls.specs.Machinery.Numbers.{setting_by, start_kind}
-use Rattle.controls.specs.Machinery.Steps.{due_member, to_member, to_label, to_else, to_finally_behind, to_value, past_condition}
-use Rattle.forms.proofs.FormLaws.{label_row}
+use Rattle.controls.specs.Machinery.Numbers.{start_kind}
+use Rattle.controls.specs.Machinery.Steps.{due_member, to_member, to_else, to_finally_behind}
 use Rattle.forms.proofs.form_row.Goals as goal
 
 pub returns-in-DotLast : goal.returns-in-DotLast
@@ -10,18 +8,11 @@ returns-in-DotLast c = λ inside settled newline. rw c.in-DotLast.is (c.only_nam
 
 pub returns-in-NameFirst : goal.returns-in-NameFirst
 returns-in-NameFirst c = λ inside settled newline.
-    let a = c.args in
-    rw (c.in-NameFirst.is, label_row a.class (setting_by a.at.setting) newline (settled.no_name c.in-NameFirst.is))
-    (c.only.ensures _ tt to_label)
-
-pub returns-in-IfFirst : goal.returns-in-IfFirst
-returns-in-IfFirst c = λ inside settled newline. rw c.in-IfFirst.is (c.head_row.ensures _ past_condition)
+    let e = c.in-NameFirst.is in
+    rw e (c.label_row.ensures (settled.no_name e) newline)
 
 pub returns-in-MemberDue : goal.returns-in-MemberDue
-returns-in-MemberDue c = λ inside settled newline. rw c.in-MemberDue.is (c.member_row.ensures refl _ due_member)
-
-pub returns-in-PropertyNamed : goal.returns-in-PropertyNamed
-returns-in-PropertyNamed c = λ inside settled newline. rw c.in-PropertyNamed.is (c.only-in-PropertyNamed.ensures _ tt to_value)
+returns-in-MemberDue c = λ inside settled newline. rw c.in-MemberDue.is (c.member_row.ensures _ due_member)
 
 pub returns-in-StatementDone : goal.returns-in-StatementDone
 returns-in-StatementDone c = λ inside settled newline.

@@ -18,15 +18,15 @@ properties Element no_argument no_element = absurd (no_element refl)
 properties _ no_argument no_element = refl
 
 pub returns-in-Argument : goal.returns-in-Argument
-returns-in-Argument c = λ due. rw c.in-Argument.is
-    (besides_closers (c.operand_row.ensures (item_due call_arguments) due_item tt) (operand_closers (by_item call_arguments) some_target c.args.class)
+returns-in-Argument c = rw c.in-Argument.is
+    (besides_closers ((rw c.in-Argument.is at c.operand_row.ensures) (item_due call_arguments) due_item tt) (operand_closers (by_item call_arguments) some_target c.args.class)
     (λ none. rw none.no_paren))
 
 pub returns-in-Element : goal.returns-in-Element
-returns-in-Element c = λ due. rw c.in-Element.is (c.element_row.ensures (rw (due, c.in-Element.is) refl))
+returns-in-Element c = rw c.in-Element.is c.element_row.ensures
 
 pub returns-in_default : goal.returns-in_default
-returns-in_default c = λ due. let a = c.args in
+returns-in_default c = let a = c.args in
     rw (properties a.at.ending c.in_default.not-Argument c.in_default.not-Element)
     (besides_closers (c.only_names.ensures _ to_property)
     (at_closers (λ (k : ℕ). look k (names (goto property_named keep) []) ≡ fail) refl refl refl refl a.class)

@@ -5,7 +5,7 @@ use Rattle.controls.specs.declared.Ending.TheVariants.{LoneStart, Test, Step, Re
 use Rattle.controls.specs.declared.Place.{Place}
 use Rattle.controls.specs.declared.Place.TheVariants.{ReturnFirst, ThrowFirst, StartDue, TestDue, StepDue, DotLast, NameFirst, IfFirst, ItemDue, MemberDue, PropertyNamed, StatementDone, CatchDone, TryEnded, HeadFirst, VariableDue, BodyDone, TestFirst, ForFirst, SwitchFirst, SwitchPast, ClauseDue, DefaultFirst, TryFirst, TryDone, CatchFirst, CatchDue, CatchNamed, CatchPast, FinallyFirst, ParameterDue, ParameterNamed, FunctionFirst, FunctionNamed, ParameterPast, DeclaredFirst, DeclaredNamed, DeclaredPast}
 
--- 1 is `form_row`, 2 `word_form_row`, 3 `try_row` and 4 `function_row`; 0 is not inside a form
+-- 1 is `form_row`, 2 `word_form_row`, 3 `try_row`, 4 `function_row` and 5 `declared_row`; 0 is not inside a form
 abbrev pub rows_at : Place → ℕ
 rows_at DotLast = 1
 rows_at NameFirst = 1
@@ -37,9 +37,9 @@ rows_at ParameterNamed = 4
 rows_at FunctionFirst = 4
 rows_at FunctionNamed = 4
 rows_at ParameterPast = 4
-rows_at DeclaredFirst = 4
-rows_at DeclaredNamed = 4
-rows_at DeclaredPast = 4
+rows_at DeclaredFirst = 5
+rows_at DeclaredNamed = 5
+rows_at DeclaredPast = 5
 rows_at _ = 0
 
 -- an expression is due behind `return` or `throw`, where it stands on the line of its word, and in the head of a `for`; what ends it

@@ -2,7 +2,7 @@
 use native.Mathlib.Omega.{arith}
 use Rattle.machine.specs.Operators.{binary_operators}
 use Rattle.machine.specs.Tokens.{comma}
-use Rattle.controls.specs.Machinery.Numbers.{ending_by, target_by, control_by}
+use Rattle.controls.specs.Machinery.Numbers.{ending_by, target_by}
 use Rattle.controls.specs.Machinery.Steps.{to_dot, past_call, past_index}
 use Rattle.controls.proofs.EndLaws.{only_closers}
 use Rattle.controls.proofs.ClassLaws.{not_among}

@@ -1,6 +1,6 @@
 -- `operation_row` is the machine's row behind an operand, at operators.
 use mathlib.Core.Path.{sym, ◌∙◌}
-use Rattle.controls.specs.Machinery.Numbers.{ending_by, target_by, control_by}
+use Rattle.controls.specs.Machinery.Numbers.{ending_by, target_by}
 use Rattle.operators.proofs.ChainLaws.{behind-unary, assigns, heads, increments, operator_next}
 use Rattle.operators.proofs.operation_row.Goals as goal
 

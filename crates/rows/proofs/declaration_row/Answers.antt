@@ -1,12 +1,8 @@
 -- `declaration_row` is the entry of a place that needs no statement, at `function`.
 use mathlib.Core.Path.{◌≡◌, refl}
-use mathlib.Core.Bool.{Bool, true, false}
-use borrow.Author.Tests.{not-true, not-false}
 use Rattle.machine.specs.Tokens.{function_word}
 use Rattle.machine.specs.Machinery.Machine.{fail, look, no_statement}
-use Rattle.controls.specs.declared.Setting.{Setting}
-use Rattle.controls.specs.declared.Setting.TheVariants.{Body}
-use Rattle.controls.specs.Machinery.Numbers.{setting_by, must_by}
+use Rattle.controls.specs.Machinery.Numbers.{setting_by}
 use Rattle.controls.specs.Machinery.Steps.{to-declaration, means_fail}
 use Rattle.rows.proofs.RowLaws.{below_body, declares}
 use Rattle.rows.proofs.declaration_row.Goals as goal

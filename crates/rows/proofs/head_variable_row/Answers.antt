@@ -26,7 +26,7 @@ module _ (ending : Ending) (setting : Setting) (flag newline : Bool) where
 
 pub returns-in-StartDue : goal.returns-in-StartDue
 unfolding start_kind
-returns-in-StartDue c = λ due newline. rw c.in-StartDue.is (c.starts.ensures _ _ tt to_head_variable)
+returns-in-StartDue c = λ due newline. rw c.in-StartDue.is (c.goto.ensures _ _ tt to_head_variable)
 
 pub returns-in_default : goal.returns-in_default
 returns-in_default c = λ due newline.

@@ -21,6 +21,6 @@ returns-in-StatementDue c = λ settled.
     ⊎_elim
     (λ e. rw e ((rw (setting.due e) at c.statement_row.ensures) (must_by at.flag at.setting) a.newline refl))
     (λ e.
-        let goes_on = settled.no_clause e in
-        rw e ((rw (setting.another e) at c.statement_row.ensures) false a.newline (rw (or-true at.flag) (clause_goes_on a.class goes_on.0 goes_on.1 goes_on.2))))
+    let goes_on = settled.no_clause e in
+    rw e ((rw (setting.another e) at c.statement_row.ensures) false a.newline (rw (or-true at.flag) (clause_goes_on a.class goes_on.0 goes_on.1 goes_on.2))))
     c.in-StatementDue.is

@@ -4,6 +4,7 @@ use native.Mathlib.Omega.{arith}
 use Rattle.machine.specs.Machinery.Machine.{statement_due}
 use Rattle.controls.specs.Machinery.Numbers.{setting_by, start_kind}
 use Rattle.controls.specs.Machinery.Steps.{due_statement, started_return, to_name, to_start, to_empty, past_block, enters_if, means_enter}
+use Rattle.controls.proofs.StepLaws.{opens-group}
 use Rattle.rows.proofs.RowLaws.{nothing_else, statement_operand, statement_word}
 use Rattle.rows.proofs.statement_row.Goals as goal
 
@@ -21,10 +22,10 @@ returns-in-138 c = λ must' newline same. rw c.in-138.is (means_enter tt enters_
 
 pub returns-in-136 : goal.returns-in-136
 unfolding start_kind
-returns-in-136 c = λ must' newline same. rw c.in-136.is ((c.starts.ensures) _ _ tt (to_start started_return))
+returns-in-136 c = λ must' newline same. rw c.in-136.is (c.goto-in-136.ensures _ _ tt (to_start started_return))
 
 pub returns-in-134 : goal.returns-in-134
-returns-in-134 c = λ must' newline same. rw c.in-134.is ((rw c.behind_statement.ensures at c.push.ensures) _ _ tt past_block)
+returns-in-134 c = λ must' newline same. rw c.in-134.is (opens-group c.behind_statement.ensures tt past_block)
 
 pub returns-in-130 : goal.returns-in-130
 returns-in-130 c = λ must' newline same. rw c.in-130.is (c.end_statement.ensures _ _ tt to_empty)
