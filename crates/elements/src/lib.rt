@@ -148,7 +148,8 @@ fn sign_element(text: &[u8], first: usize, newline: bool) -> Result<Option<Eleme
     found(kind, sign.number, first, first + sign.len, newline)
 }
 
-// The byte behind a place; 0 past the text's end.
+// The byte behind a place; 0 past the text's end, as `get_or` of the definition has it. A test that asks the text there, and no byte past its end, took reading
+// 58,000 instructions more for the stored script, 1.8 %: over its 1.4 times the yardstick's.
 fn byte_after(text: &[u8], at: usize) -> u8
     requires { at < length text.now }
     ensures { result ≡ get_or text.now (at + 1) 0 }
