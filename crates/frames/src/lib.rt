@@ -110,12 +110,7 @@ fn named(at: Control, l: Level, syntax: &mut [u32]) -> Standing
     ensures { Names at l syntax.old result syntax.new }
 {
     Standing {
-        control: controls::stand(
-            Place::OperandDone,
-            Ending::Statement,
-            at.setting,
-            true,
-        ),
+        control: controls::stand(Place::OperandDone, Ending::Statement, at.setting, true),
         level: l.made(tokens::NAME, l.held, syntax),
     }
 }

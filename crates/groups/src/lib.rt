@@ -50,7 +50,8 @@ pub fn at_closer(
 fn is_object(at: Control) -> bool
     ensures { result ≡ is_object (control_of at) }
 {
-    matches!(at.ending, Ending::Object) && matches!(at.place, Place::OperandDone | Place::PostfixDone)
+    matches!(at.ending, Ending::Object)
+        && matches!(at.place, Place::OperandDone | Place::PostfixDone)
 }
 
 // What a group does when it closes, if its inside is the head of a `for` with `in` or not.
@@ -138,12 +139,7 @@ pub fn asked(
     let condition = l.closed(4, waiting, syntax);
     let number = asking(at.ending, at.setting);
     Standing {
-        control: controls::stand(
-            Place::OperandDue,
-            Ending::Colon,
-            Setting::Body,
-            true,
-        ),
+        control: controls::stand(Place::OperandDue, Ending::Colon, Setting::Body, true),
         level: condition.wait(number, mark, waiting),
     }
 }

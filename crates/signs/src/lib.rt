@@ -1,7 +1,7 @@
 // The 48 signs of ES5.1 section 7.7: the longest that stands at a place of a text.
 #![tactic(auto)]
 
-ghost use Rattle.std.specs.Prelude.{◌≡◌, List, ◌∷◌, ℕ, ◌<◌, drop, get_or, length, IfSome};
+ghost use Rattle.std.specs.Prelude.{◌≡◌, List, ◌∷◌, ℕ, ◌<◌, ◌≤◌, drop, get_or, length, IfSome};
 ghost use Rattle.signs.specs.Signs.{longest_sign, found};
 ghost use Rattle.signs.specs.Machinery.Rows.{order, table, first_of, goes_on};
 
@@ -54,62 +54,67 @@ pub const ASSIGN: u32 = 36;
 
 pub const SLASH: u32 = 47;
 
-// The table of the 48 signs, a row for each: four bytes, those of the sign and 0 for the others; its length; its number. Signs with the same first byte stand together, the longest
-// first, so that the first of them that a text has at a place is the longest.
-#[rattlefmt::skip]
-const SIGNS: [u8; 288] = [
-    b'{', 0, 0, 0, 1, 1,
-    b'}', 0, 0, 0, 1, 2,
-    b'(', 0, 0, 0, 1, 3,
-    b')', 0, 0, 0, 1, 4,
-    b'[', 0, 0, 0, 1, 5,
-    b']', 0, 0, 0, 1, 6,
-    b'.', 0, 0, 0, 1, 7,
-    b';', 0, 0, 0, 1, 8,
-    b',', 0, 0, 0, 1, 9,
-    b'~', 0, 0, 0, 1, 31,
-    b'?', 0, 0, 0, 1, 34,
-    b':', 0, 0, 0, 1, 35,
-    b'<', b'<', b'=', 0, 3, 41,
-    b'<', b'=', 0, 0, 2, 12,
-    b'<', b'<', 0, 0, 2, 24,
-    b'<', 0, 0, 0, 1, 10,
-    b'>', b'>', b'>', b'=', 4, 43,
-    b'>', b'>', b'>', 0, 3, 26,
-    b'>', b'>', b'=', 0, 3, 42,
-    b'>', b'=', 0, 0, 2, 13,
-    b'>', b'>', 0, 0, 2, 25,
-    b'>', 0, 0, 0, 1, 11,
-    b'+', b'+', 0, 0, 2, 22,
-    b'+', b'=', 0, 0, 2, 37,
-    b'+', 0, 0, 0, 1, 18,
-    b'-', b'-', 0, 0, 2, 23,
-    b'-', b'=', 0, 0, 2, 38,
-    b'-', 0, 0, 0, 1, 19,
-    b'*', b'=', 0, 0, 2, 39,
-    b'*', 0, 0, 0, 1, 20,
-    b'%', b'=', 0, 0, 2, 40,
-    b'%', 0, 0, 0, 1, 21,
-    b'&', b'&', 0, 0, 2, 32,
-    b'&', b'=', 0, 0, 2, 44,
-    b'&', 0, 0, 0, 1, 27,
-    b'|', b'|', 0, 0, 2, 33,
-    b'|', b'=', 0, 0, 2, 45,
-    b'|', 0, 0, 0, 1, 28,
-    b'^', b'=', 0, 0, 2, 46,
-    b'^', 0, 0, 0, 1, 29,
-    b'!', b'=', b'=', 0, 3, 17,
-    b'!', b'=', 0, 0, 2, 15,
-    b'!', 0, 0, 0, 1, 30,
-    b'=', b'=', b'=', 0, 3, 16,
-    b'=', b'=', 0, 0, 2, 14,
-    b'=', 0, 0, 0, 1, 36,
-    b'/', b'=', 0, 0, 2, 48,
-    b'/', 0, 0, 0, 1, 47,
-];
+// A row of the table: the bytes of a sign, and 0 for the others of the four; its length; its number.
+#[derive(Clone, Copy)]
+struct Entry {
+    bytes: [u8; 4],
+    len: u8,
+    number: u8,
+}
 
-// The numbers of a row.
-const WIDTH: usize = 6;
+// The table of the 48 signs, a row for each. Signs with the same first byte stand together, the longest first, so that the first of them that a text starts with is the
+// longest.
+#[rattlefmt::skip]
+const SIGNS: [Entry; 48] = [
+    Entry { bytes: [b'{', 0, 0, 0], len: 1, number: 1 },
+    Entry { bytes: [b'}', 0, 0, 0], len: 1, number: 2 },
+    Entry { bytes: [b'(', 0, 0, 0], len: 1, number: 3 },
+    Entry { bytes: [b')', 0, 0, 0], len: 1, number: 4 },
+    Entry { bytes: [b'[', 0, 0, 0], len: 1, number: 5 },
+    Entry { bytes: [b']', 0, 0, 0], len: 1, number: 6 },
+    Entry { bytes: [b'.', 0, 0, 0], len: 1, number: 7 },
+    Entry { bytes: [b';', 0, 0, 0], len: 1, number: 8 },
+    Entry { bytes: [b',', 0, 0, 0], len: 1, number: 9 },
+    Entry { bytes: [b'~', 0, 0, 0], len: 1, number: 31 },
+    Entry { bytes: [b'?', 0, 0, 0], len: 1, number: 34 },
+    Entry { bytes: [b':', 0, 0, 0], len: 1, number: 35 },
+    Entry { bytes: [b'<', b'<', b'=', 0], len: 3, number: 41 },
+    Entry { bytes: [b'<', b'=', 0, 0], len: 2, number: 12 },
+    Entry { bytes: [b'<', b'<', 0, 0], len: 2, number: 24 },
+    Entry { bytes: [b'<', 0, 0, 0], len: 1, number: 10 },
+    Entry { bytes: [b'>', b'>', b'>', b'='], len: 4, number: 43 },
+    Entry { bytes: [b'>', b'>', b'>', 0], len: 3, number: 26 },
+    Entry { bytes: [b'>', b'>', b'=', 0], len: 3, number: 42 },
+    Entry { bytes: [b'>', b'=', 0, 0], len: 2, number: 13 },
+    Entry { bytes: [b'>', b'>', 0, 0], len: 2, number: 25 },
+    Entry { bytes: [b'>', 0, 0, 0], len: 1, number: 11 },
+    Entry { bytes: [b'+', b'+', 0, 0], len: 2, number: 22 },
+    Entry { bytes: [b'+', b'=', 0, 0], len: 2, number: 37 },
+    Entry { bytes: [b'+', 0, 0, 0], len: 1, number: 18 },
+    Entry { bytes: [b'-', b'-', 0, 0], len: 2, number: 23 },
+    Entry { bytes: [b'-', b'=', 0, 0], len: 2, number: 38 },
+    Entry { bytes: [b'-', 0, 0, 0], len: 1, number: 19 },
+    Entry { bytes: [b'*', b'=', 0, 0], len: 2, number: 39 },
+    Entry { bytes: [b'*', 0, 0, 0], len: 1, number: 20 },
+    Entry { bytes: [b'%', b'=', 0, 0], len: 2, number: 40 },
+    Entry { bytes: [b'%', 0, 0, 0], len: 1, number: 21 },
+    Entry { bytes: [b'&', b'&', 0, 0], len: 2, number: 32 },
+    Entry { bytes: [b'&', b'=', 0, 0], len: 2, number: 44 },
+    Entry { bytes: [b'&', 0, 0, 0], len: 1, number: 27 },
+    Entry { bytes: [b'|', b'|', 0, 0], len: 2, number: 33 },
+    Entry { bytes: [b'|', b'=', 0, 0], len: 2, number: 45 },
+    Entry { bytes: [b'|', 0, 0, 0], len: 1, number: 28 },
+    Entry { bytes: [b'^', b'=', 0, 0], len: 2, number: 46 },
+    Entry { bytes: [b'^', 0, 0, 0], len: 1, number: 29 },
+    Entry { bytes: [b'!', b'=', b'=', 0], len: 3, number: 17 },
+    Entry { bytes: [b'!', b'=', 0, 0], len: 2, number: 15 },
+    Entry { bytes: [b'!', 0, 0, 0], len: 1, number: 30 },
+    Entry { bytes: [b'=', b'=', b'=', 0], len: 3, number: 16 },
+    Entry { bytes: [b'=', b'=', 0, 0], len: 2, number: 14 },
+    Entry { bytes: [b'=', 0, 0, 0], len: 1, number: 36 },
+    Entry { bytes: [b'/', b'=', 0, 0], len: 2, number: 48 },
+    Entry { bytes: [b'/', 0, 0, 0], len: 1, number: 47 },
+];
 
 // A sign that stands at a place: its number, and how many bytes it has.
 #[derive(Clone, Copy)]
@@ -119,16 +124,15 @@ pub struct Sign {
 }
 
 // The first of the table's signs, from its row `from` on, that a text starts with.
-fn scan(signs: &[u8], text: &[u8], from: usize) -> Option<Sign>
-    requires { signs.now ≡ table }
+fn scan(signs: &[Entry], text: &[u8], from: usize) -> Option<Sign>
+    requires { (signs.now ≡ table) × (from ≤ 48) }
     ensures { result ≡ first_of text.now (drop from order) }
 {
-    for k in from..48 {
-        let row = WIDTH * k;
-        let len = usize::from(signs[row + 4]);
-        if text.starts_with(&signs[row..row + len]) {
+    for row in &signs[from..] {
+        let len = usize::from(row.len);
+        if text.starts_with(&row.bytes[..len]) {
             return Some(Sign {
-                number: u32::from(signs[row + 5]),
+                number: u32::from(row.number),
                 len,
             });
         }
@@ -139,7 +143,7 @@ fn scan(signs: &[u8], text: &[u8], from: usize) -> Option<Sign>
 // The row at which the signs that start with `b` begin.
 #[tactic(auto, unfolding(crate::specs::Machinery::Rows::first_of, text::specs::Runs::same, vocabulary::specs::Vocabulary::row_at))]
 fn first_row(b: u8) -> usize
-    ensures { (t : List ℕ) → first_of (b ∷ t) (drop result order) ≡ first_of (b ∷ t) order }
+    ensures { (result ≤ 48) × ((t : List ℕ) → first_of (b ∷ t) (drop result order) ≡ first_of (b ∷ t) order) }
 {
     match b {
         b'<' => 12,

@@ -9,8 +9,8 @@ use Rattle.signs.proofs.by_table.Goals as goal
 
 pub scan-requires : goal.scan-requires
 unfolding table
-scan-requires c = refl
+scan-requires c = (refl, c.first_row.ensures.0)
 
 pub returns : goal.returns
 returns c = let s = c.args.text.now in
-    c.scan.ensures ∙ rw (drop_at s 0 (omega arith)) (c.first_row.ensures (drop 1 s)) ∙ first_longest _
+    c.scan.ensures ∙ rw (drop_at s 0 (omega arith)) (c.first_row.ensures.1 (drop 1 s)) ∙ first_longest _

@@ -1,9 +1,10 @@
 -- The code's table of the signs, and how it is scanned. Machinery: no public contract cites it.
-use Rattle.std.specs.Prelude.{ℕ, List, [], ◌∷◌, Bool, cond, ◌||◌, eqb, length, get_or, Option, None}
+use Rattle.std.specs.Prelude.{ℕ, List, [], ◌∷◌, Bool, cond, ◌||◌, eqb, length, get_or, map, Option, None}
 use Rattle.text.specs.Quoted.{byte}
 use Rattle.vocabulary.specs.Vocabulary.{spelling, signs, row_at}
 use Rattle.signs.specs.Signs.{starts_with, found}
 use Rattle.signs.specs.declared.Sign.{Sign}
+use Rattle.signs.specs.declared.Entry.{Entry}
 
 -- the sign of a number
 abbrev pub sign : ℕ → List ℕ
@@ -27,18 +28,18 @@ order =
     48 ∷ 47 ∷
     []
 
--- a sign's row: its bytes with 0 after the last, its length, its number; and what stands behind it
-abbrev pub row : ℕ → List ℕ → List ℕ
-row number rest =
-    get_or (sign number) 0 0 ∷ get_or (sign number) 1 0 ∷ get_or (sign number) 2 0 ∷ get_or (sign number) 3 0 ∷ length (sign number) ∷ number ∷ rest
+-- a sign's row: its bytes with 0 after the last, its length, its number
+abbrev pub row : ℕ → Entry
+row number =
+    record {
+      bytes = get_or (sign number) 0 0 ∷ get_or (sign number) 1 0 ∷ get_or (sign number) 2 0 ∷ get_or (sign number) 3 0 ∷ [];
+      len = length (sign number);
+      number = number;
+    }
 
-abbrev pub rows : List ℕ → List ℕ
-rows [] = []
-rows (number ∷ numbers) = row number (rows numbers)
-
-unfoldable pub table : List ℕ
+unfoldable pub table : List Entry
 unfolding row_at
-table = rows order
+table = map row order
 
 -- the first of the signs that a text starts with
 unfoldable pub first_of : List ℕ → List ℕ → Option Sign
