@@ -148,12 +148,21 @@ fn sign_element(text: &[u8], first: usize, newline: bool) -> Result<Option<Eleme
     found(kind, sign.number, first, first + sign.len, newline)
 }
 
+// The byte behind a place; 0 past the text's end, as `get_or` of the definition has it. A test that asks the text there, and no byte past its end, took reading
+// 58,000 instructions more for the stored script, 1.8 %: over its 1.4 times the yardstick's.
+fn byte_after(text: &[u8], at: usize) -> u8
+    requires { at < length text.now }
+    ensures { result ≡ get_or text.now (at + 1) 0 }
+{
+    if at + 1 < text.len() { text[at + 1] } else { 0 }
+}
+
 // Whether the byte `b` at a place is a dot directly before a digit.
 fn is_dot_before_digit(codes: &Codes, text: &[u8], b: u8, at: usize) -> bool
     requires { at < length text.now }
     ensures { result ≡ (eqb b 46 && digit (get_or text.now (at + 1) 0)) }
 {
-    b == b'.' && at + 1 < text.len() && codes.of(text[at + 1]) == text::DIGIT
+    b == b'.' && codes.of(byte_after(text, at)) == text::DIGIT
 }
 
 // Whether a number starts with the byte `b` of a code at a place. One test for both forms: a scanner with two callers is not set into the reading loop.

@@ -3,7 +3,7 @@
 
 ghost use Rattle.std.specs.Prelude.{◌≡◌, ◌+◌, ◌-◌, ◌≤◌, ◌<◌, get_or};
 ghost use Rattle.tables.specs.Records.{tree_width};
-ghost use Rattle.segments.specs.Machinery.Segments.{count_of, cell_or, place_at, end_at, size_at, line_at, sign_by, word_by, class_at, leaf_at, leaf_of, Fine, segment_of, inside};
+ghost use Rattle.segments.specs.Machinery.Segments.{count_of, cell_or, place_at, end_at, size_at, line_at, sign_by, word_by, class_at, leaf_at, leaf_of, content_of, Fine, segment_of, inside};
 
 use machine::tokens;
 use tables::TreeRecord;
@@ -133,17 +133,26 @@ impl<'a> Segment<'a> {
         None
     }
 
+    // The records inside a group: the part of the slice that starts behind the opener's record.
+    #[tactic(auto, unfolding(crate::specs::Machinery::Segments::content_of))]
+    pub fn records_inside(self, at: usize) -> &'a [u32]
+        requires { (1 ≤ size_at self.trees.now at) × (at + size_at self.trees.now at ≤ count_of self.trees.now) }
+        ensures { result.now ≡ content_of self.entry.trees.now at }
+    {
+        let size = self.size_at(at);
+        let first = (at + 1) * TreeRecord::WIDTH;
+        let end = first + (size - 1) * TreeRecord::WIDTH;
+        &self.trees[first..end]
+    }
+
     // The part inside a group.
     #[tactic(auto, unfolding(crate::specs::Machinery::Segments::content_of, crate::specs::Machinery::Segments::closer_at, crate::specs::Machinery::Segments::end_at))]
     pub fn inside(self, at: usize) -> Segment<'a>
         requires { Fine (segment_of self) × (at < count_of self.trees.now) }
         ensures { segment_of result ≡ inside (segment_of self.entry) at }
     {
-        let size = self.size_at(at);
-        let first = (at + 1) * TreeRecord::WIDTH;
-        let end = first + (size - 1) * TreeRecord::WIDTH;
         Segment {
-            trees: &self.trees[first..end],
+            trees: self.records_inside(at),
             base: self.base + at + 1,
             close: (self.cell(at, 2) as usize).saturating_sub(1),
             ..self

@@ -5,7 +5,8 @@ ghost use Rattle.std.specs.Prelude.{◌≡◌, List, ◌∷◌, ℕ, ◌<◌, �
 ghost use Rattle.signs.specs.Signs.{longest_sign, found};
 ghost use Rattle.signs.specs.Machinery.Rows.{order, table, first_of, goes_on};
 
-// The numbers of the signs of one byte: their places among the 48, from 1.
+// The numbers of the signs of one byte: their places among the 48, from 1. Numbers, and no enum: an element's `which` holds them, and the definitions
+// (`longest_sign`) give them.
 pub const OPEN_BRACE: u32 = 1;
 
 pub const CLOSE_BRACE: u32 = 2;

@@ -6,7 +6,7 @@ ghost use Rattle.text.specs.Runs.{same};
 ghost use Rattle.words.specs.Words.{word_number, taken};
 ghost use Rattle.words.specs.Machinery.Run.{word, word_letters, word_lengths, letters_before, admits, slot_of, option_of};
 
-// The numbers of the words that the prefix rule tells apart.
+// The numbers of the words that the prefix rule tells apart. Numbers, and no enum: an element's `which` holds them, and the definition (`word_number`) gives them.
 pub const INSTANCEOF: u32 = 3;
 
 pub const TYPEOF: u32 = 4;
