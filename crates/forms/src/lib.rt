@@ -30,7 +30,9 @@ pub fn push(at: Control, place: Place, closing: Closing) -> Option<Step>
     Some(Step::Push(Control { place, ..at }, closing))
 }
 
-// Where an operand is due, and may be assigned to or not: an operator before one, or what `member_row` takes.
+// Where an operand is due, and may be assigned to or not: an operator before one, or what `member_row` takes. It is set into each of its
+// callers, since a step that is handed over through memory is slow.
+#[inline(always)]
 pub fn operand_row(at: Control, class: u32) -> Option<Step>
     ensures { (from : Rattle.machine.specs.Machinery.Machine.Control) (due : Due from (ending_by at.ending at.setting) (target_by at.ending at.flag)) → T (takes_prefix due) → Means from class result (look class (operand (ending_by at.ending at.setting) (target_by at.ending at.flag))) }
 {
