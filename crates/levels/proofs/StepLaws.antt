@@ -5,14 +5,13 @@ use mathlib.Core.List.{List}
 use mathlib.Core.Logic.{◌⊎◌, inl, inr}
 use Prim.Native.Nat.{ℕ, ◌+◌, ◌-◌, ◌≤◌, ◌<◌}
 use native.Mathlib.Omega.{arith}
-use borrow.Author.Tests.{eqb-true, eqb-false}
-use lib.Dec.{T, eqb}
+use lib.Dec.{T}
 use lib.ListN.{length}
 use Rattle.tables.specs.Records.{most_trees}
 use Rattle.machine.specs.Tokens.{open_bracket}
 use Rattle.machine.specs.Syntax.{nil}
 use Rattle.machine.specs.Scopes.{body}
-use Rattle.machine.specs.Machinery.Machine.{do_nest, Setting, among, in_clause, in_nest, Closing, to_parens, to_call, to_object, to_array, to_index, to_block, to_condition, to_head, to_for, to_for_in, to_test, to_parameter, to_declaration, to_function, to_statement, to_body, to_try, in_for, Ending, by_colon, Control, statement_due, try_first, if_first, Action, fail, goto, push, enter, ask, turn, look, row}
+use Rattle.machine.specs.Machinery.Machine.{Setting, among, Closing, to_parens, to_call, to_object, to_array, to_index, to_block, to_condition, to_head, to_for, to_for_in, to_test, to_parameter, to_declaration, to_function, to_statement, to_body, to_try, in_for, Ending, by_colon, Control, statement_due, Action, fail, goto, push, enter, ask, turn, look, row}
 use Rattle.controls.specs.Machinery.Numbers.{setting_by, control_of, effect_by, closing_by, inside_by, entered_by, worded_by, outside_by, behind_by, left_by}
 use Rattle.machine.specs.Machinery.Classes.{is_opener, is_end, is_single}
 use Rattle.controls.specs.Machinery.Steps.{Ended, Leads, Spans, past_parens, past_object, past_array, past_index, past_call, past_condition, past_head, past_for, past_for_in, past_subject, past_clauses, past_tried, past_caught, past_handled, past_finally, past_test, past_parameter, past_unnamed, past_block, past_declaration, past_function, Enters, enters_if, enters_do, enters_try, enters_case, enters_last_case, enters_default, Settled, Means, means_end, means_fail, means_goto, means_push, means_enter, means_ask, means_turn}

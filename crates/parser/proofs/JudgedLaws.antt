@@ -10,7 +10,6 @@ use Rattle.tables.specs.Records.{most_syntax, syntax_room}
 use Rattle.machine.specs.Syntax.{Syntax, size, program_syntax, program_tree}
 use Rattle.machine.specs.Machinery.Machine.{end_of_text}
 use Rattle.controls.specs.declared.Setting.TheVariants as sits
-use Rattle.controls.specs.Machinery.Numbers.{setting_by}
 use Rattle.controls.specs.Machinery.Written.{put_record, put_syntax}
 use Rattle.segments.specs.Machinery.Segments.{Segment, count_of}
 use Rattle.levels.specs.Machinery.Runs.{ran_through, ran_dead, RanStatements}
