@@ -7,6 +7,7 @@ ghost use Rattle.answers.specs.Answers.{number_of, value_of};
 pub mod faults;
 
 // What a call answers: accepted with its count, or refused with the number of document 01's table and a place.
+// An enum of its own and no `Result`: the rules ask by name for one enum for every call.
 #[derive(Clone, Copy)]
 pub enum Answer {
     Accepted(usize),
@@ -14,7 +15,7 @@ pub enum Answer {
 }
 
 impl Answer {
-    // The number of the table's row; 0 where the answer is accepted.
+    // The number of the table's row; 0 where the answer is accepted, as `number_of` has it.
     pub fn number(self) -> u32
         ensures { result ≡ number_of self }
     {

@@ -29,6 +29,7 @@ pub fn text_of(alloc: Global, line: &[u8]) -> Result<Vec<u8>, CaseError> {
         open: None,
     };
     let mut rest = line;
+    // The rest gets shorter by what each step takes.
     while !rest.is_empty() {
         rest = spelling.step(alloc, rest)?;
     }

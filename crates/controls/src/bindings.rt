@@ -6,7 +6,7 @@ ghost use Rattle.machine.specs.Machinery.Machine.{threshold, tightness};
 use crate::records;
 use machine::tokens;
 
-// How tight an operator between two operands binds; 0 for a class that is none.
+// How tight an operator between two operands binds; 0 for a class that is none, as the table of words and signs (`precedence`) has it.
 pub fn precedence(class: u32) -> u32
     ensures { result ≡ precedence class }
 {

@@ -89,7 +89,7 @@ pub enum Setting {
 }
 
 impl Setting {
-    // The number that stands for it on the lent stack, and back: no other number than one of these is written there.
+    // The number that stands for it on the lent stack, and back: no other number than one of these is written there, so that a `TryFrom` would have nothing to refuse.
     pub fn number(self) -> u32
         ensures { result ≡ setting_number self }
     {
@@ -135,7 +135,7 @@ pub enum Ending {
 }
 
 impl Ending {
-    // The number that stands for it on the lent stack, and back: no other number than one of these is written there.
+    // The number that stands for it on the lent stack, and back: no other number than one of these is written there, so that a `TryFrom` would have nothing to refuse.
     pub fn number(self) -> u32
         ensures { result ≡ ending_number self }
     {
@@ -225,7 +225,7 @@ pub enum Nest {
 }
 
 impl Nest {
-    // The number that stands for it on the lent stack, and back: no other number than one of these is written there.
+    // The number that stands for it on the lent stack, and back: no other number than one of these is written there, so that a `TryFrom` would have nothing to refuse.
     pub fn number(self) -> u32
         ensures { result ≡ nest_number self }
     {

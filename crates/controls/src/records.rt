@@ -6,6 +6,7 @@ ghost use Rattle.controls.specs.Machinery.Written.{put_record};
 use tables::SyntaxRecord;
 
 // Kinds of syntax records, as documents 01 and 02 number them, that no class of tokens has the number of.
+// Numbers, and no enum: the syntax table that C is lent holds them.
 pub const OBJECT: u32 = 5;
 
 pub const PARENTHESISED: u32 = 6;

@@ -1,4 +1,4 @@
-// The step of a reading at a delimiter: a group opened or closed.
+// The step of a reading at a delimiter: a group opened or closed. The state goes on by value while the stack is lent, so the two are not one struct.
 #![tactic(auto)]
 
 ghost use Rattle.std.specs.Prelude.{◌≡◌, ℕ, ◌≤◌, length};

@@ -1,4 +1,5 @@
 // What a token does to a level.
+// Stack and records are lent apart, as in `waiting`: functions differ in which of the two they write.
 #![tactic(auto)]
 
 ghost use Rattle.machine.specs.Operators.{prefix_kind, postfix_kind};

@@ -1,4 +1,5 @@
 // Rows of the machine's table inside a form: operands, members, labels, heads of statements, items of lists, functions and their parameters.
+// Rows of one shape say different things: one function for two would be told all that they say.
 #![tactic(auto)]
 
 ghost use Rattle.std.specs.Prelude.{◌≡◌, Bool, false, [], ◌∷◌, ◌≤◌, T};

@@ -1,5 +1,5 @@
 // What a level has so far: the token machine's frames, as syntax records in order and a lent stack of what waits; what is done before a
-// token, and at the level's end.
+// token, and at the level's end. Stack and records are lent apart, as in `waiting`: functions differ in which of the two they write.
 #![tactic(auto)]
 
 ghost use Rattle.std.specs.Prelude.{◌≡◌, List};
@@ -98,6 +98,7 @@ fn left_all(
         control: at,
         level: l,
     };
+    // What is left tells whether another nest is done.
     while is_done(s.control, class) {
         s = left(s.level, waiting, syntax);
     }

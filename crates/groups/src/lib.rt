@@ -1,4 +1,5 @@
 // A level's end, what a group does to the level around it, the beginning of a nest, and a `?` and its `:`.
+// Stack and records are lent apart, as in `waiting`: functions differ in which of the two they write.
 #![tactic(auto)]
 
 ghost use Rattle.std.specs.Prelude.{◌≡◌, T, cond};

@@ -10,7 +10,7 @@ use listing::INPUT;
 // A respaced text has at most twice the bytes of its text, and one.
 pub const RESPACED_OUTPUT: usize = 2 * reader::MOST_BYTES + 1;
 
-// What `respace` prints.
+// What `respace` prints. Arrays, whose sizes the contract has from their types (see `listing::list_short`).
 pub fn list_respaced(input: &[u8; INPUT], count: usize, output: &mut [u8; RESPACED_OUTPUT]) -> usize
     ensures counts { Counts result output.new }
     ensures lists_respaced { ListsRespaced input.now count output.old output.new result }

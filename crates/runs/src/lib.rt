@@ -8,7 +8,7 @@ ghost use Rattle.text.specs.Runs.{run, same};
 
 use text::Codes;
 
-// Whether two slices hold the same bytes.
+// Whether two slices hold the same bytes: a function of its own, since its clause ties `==` to the definition's `same`.
 pub fn equal(a: &[u8], b: &[u8]) -> bool
     ensures { result ≡ same a.now b.now }
 {

@@ -28,7 +28,7 @@ impl<'a> Segment<'a> {
         self.trees.len() / TreeRecord::WIDTH
     }
 
-    // A number of a record; 0 past the last. One is read at a time, since most classes need no more than one or two.
+    // A number of a record; 0 past the last, as `cell_or` of the definitions has it, and so for what is read by it. One is read at a time, since most classes need no more than one or two.
     fn cell(self, at: usize, place: usize) -> u32
         requires { place < tree_width }
         ensures { result ≡ cell_or 0 self.entry.trees.now at place }
@@ -66,7 +66,7 @@ impl<'a> Segment<'a> {
         self.cell(at, 4) == 1
     }
 
-    // A byte of the text; 0 past its end.
+    // A byte of the text; 0 past its end, as `get_or` of the definitions has it.
     fn byte_at(self, place: usize) -> u8
         ensures { result ≡ get_or self.entry.text.now place 0 }
     {

@@ -55,7 +55,8 @@ pub const ASSIGN: u32 = 36;
 
 pub const SLASH: u32 = 47;
 
-// A row of the table: the bytes of a sign, and 0 for the others of the four; its length; its number.
+// A row of the table: the bytes of a sign, and 0 for the others of the four; its length; its number. Bytes with a length beside, and no slice: the table is one constant, which
+// is copied where it is used.
 #[derive(Clone, Copy)]
 struct Entry {
     bytes: [u8; 4],
@@ -230,6 +231,7 @@ pub fn sign_at(text: &[u8], at: usize) -> Option<Sign>
     if let Some(number) = lone(b) {
         return Some(Sign { number, len: 1 });
     }
+    // 0 past the text's end: no sign goes on with it.
     let next = text.get(at + 1).copied().unwrap_or(0);
     if let Some(number) = single(b, next) {
         return Some(Sign { number, len: 1 });

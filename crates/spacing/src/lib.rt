@@ -1,4 +1,5 @@
-// Elements and closers written behind what is written so far, with what comes before them; and an output made zero.
+// Elements and closers written behind what is written so far, with what comes before them; and an output made zero. No `Writer` as in `writing`: what does not fit is
+// counted here, since 15 comes after a full reading, and the count goes on by value with the state.
 #![tactic(auto)]
 
 ghost use Rattle.std.specs.Prelude.{◌≡◌, List, [], ◌∷◌, ◌++◌, ℕ, ◌+◌, ◌<◌, ◌≤◌, ◌^◌, length, replicate};

@@ -26,6 +26,7 @@ fn fill<R: Read>(reader: &mut R, buffer: &mut [u8]) -> io::Result<usize>
     ensures { IfOk result (λ n. n ≤ length buffer.new) }
 {
     let mut done = 0;
+    // The place goes by what was read, so that no range counts it.
     while done < buffer.len() {
         let more = reader.read(&mut buffer[done..])?;
         if more == 0 {

@@ -10,6 +10,7 @@ ghost use Rattle.rule.specs.Machinery.LevelCodes.{kind_in, with, level_in, slash
 use elements::Stated;
 
 // The kinds of groups, as document 01 and request U2 number those of tree records.
+// Numbers, and no enum: the tree table that C is lent holds them, and a level's code.
 pub const PARENS: u32 = 7;
 
 pub const OBJECT: u32 = 8;
@@ -76,6 +77,7 @@ pub const PROPERTY_DUE: u32 = 16;
 
 // A level, by its code: that of its summary, which is below 64; 64 times the kind of its group, which is below 32 (0 for the whole text); and 2,048 times the count
 // of its unanswered `?`s. No bound on that count is an invariant here: each `?` adds to the code, and a code comes back from a lent stack, which may hold any number.
+// One number, and no struct of three: the stack of open groups keeps one for each, and the definitions of `rule` (`LevelCodes`) speak of it.
 #[derive(Clone, Copy)]
 pub struct Level {
     pub code: u32,

@@ -12,7 +12,7 @@ pub const SYNTAX: usize = SyntaxRecord::MOST * SyntaxRecord::WIDTH;
 // A cell has at most 10 digits and a byte behind them.
 pub const SYNTAX_OUTPUT: usize = 11 * SYNTAX + 40;
 
-// What `syntax` prints.
+// What `syntax` prints. Arrays, whose sizes the contract has from their types (see `listing::list_short`).
 pub fn list_syntax(
     input: &[u8; INPUT],
     count: usize,

@@ -5,7 +5,7 @@ ghost use Rattle.std.specs.Prelude.{ℕ, ◌≡◌, ◌<◌, length, replicate};
 ghost use Rattle.std.proofs.Common.{lit<};
 ghost use Rattle.tables.specs.Records.{tree_width, most_trees, tree_record, syntax_width, most_syntax, room};
 
-// A record of a table: how many numbers it has, and how many records a table holds at most.
+// A record of a table: how many numbers it has, and how many records a table holds at most. The types have both constants too, as the rules ask, so that a caller names no trait.
 pub trait Record {
     ghost WIDTH: { ℕ };
 

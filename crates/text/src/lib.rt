@@ -56,6 +56,6 @@ impl Codes {
     pub fn of(&self, b: u8) -> u8
         ensures { result ≡ code_of b }
     {
-        self.table[b as usize]
+        self.table[usize::from(b)]
     }
 }

@@ -83,6 +83,7 @@ impl Level {
         ensures { (result.floor ≡ self.floor) × (result.held ≡ self.held) × Closes least self waiting.now syntax.old result syntax.new }
     {
         let mut l = self;
+        // A stack is emptied from its top, and no range counts how far.
         while l.floor < l.top {
             let part = waiting[l.top - 1];
             let kind = u32::from(part.kind);
