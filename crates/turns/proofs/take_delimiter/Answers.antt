@@ -20,20 +20,20 @@ keep_closer-to-requires c = let may = c.requires in
     let t = c.tag_for-tag.ensures in
     may_close _ _ _ _ _ _ _ may _ (rw (c.in_ok-kind.was, c.in-Closed.is) at (delimited _ _ _ _ _ _ _ may _ _ _ c.delimit.ensures t.0 t.1))
 
-pub returns-in-Opened : goal.returns-in-Opened
-returns-in-Opened c = λ k was place levels near keeps.
+pub returns-in-Opened-clause-takes : goal.returns-in-Opened-clause-takes
+returns-in-Opened-clause-takes c = λ k was place levels near keeps.
     let t = c.tag_for-tag.ensures in
     let f = follows _ _ was _ _ _ _ place levels _ near keeps k _ _ _ c.delimit.ensures (tag_is _ was _ _ _ _ place levels _ _ _ t.0 t.1 keeps) in
-    opened_taken _ _ was _ _ _ _ place levels _ near keeps _ (search rules) _ _ _ (rw (c.in_ok-kind.was, c.in-Opened.is) at f) c.keep_opener-to.ensures
+    opened_taken _ _ was _ _ _ _ place levels _ near keeps _ (search rules) _ _ _ (rw (c.in_ok-kind.was, c.in-Opened.is) at f) c.keep_opener-to.ensures.keeps
 
-pub returns-in-Closed : goal.returns-in-Closed
-returns-in-Closed c = λ k was place levels near keeps.
+pub returns-in-Closed-clause-takes : goal.returns-in-Closed-clause-takes
+returns-in-Closed-clause-takes c = λ k was place levels near keeps.
     let t = c.tag_for-tag.ensures in
     let f = follows _ _ was _ _ _ _ place levels _ near keeps k _ _ _ c.delimit.ensures (tag_is _ was _ _ _ _ place levels _ _ _ t.0 t.1 keeps) in
-    closed_taken _ _ was _ _ _ _ place levels _ near keeps _ (search rules) _ _ _ (rw (c.in_ok-kind.was, c.in-Closed.is) at f) c.keep_closer-to.ensures
+    closed_taken _ _ was _ _ _ _ place levels _ near keeps _ (search rules) _ _ _ (rw (c.in_ok-kind.was, c.in-Closed.is) at f) c.keep_closer-to.ensures.keeps
 
-pub returns-in_err-kind : goal.returns-in_err-kind
-returns-in_err-kind c = λ k was place levels near keeps.
+pub returns-in_err-kind-clause-takes : goal.returns-in_err-kind-clause-takes
+returns-in_err-kind-clause-takes c = λ k was place levels near keeps.
     let t = c.tag_for-tag.ensures in
     let f = follows _ _ was _ _ _ _ place levels _ near keeps k _ _ _ c.delimit.ensures (tag_is _ was _ _ _ _ place levels _ _ _ t.0 t.1 keeps) in
     let p = err_from_is_err_and c.from_residual.result c.from_residual.ensures.1 in
