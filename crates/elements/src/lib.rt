@@ -1,4 +1,5 @@
-// The cutting of a text into elements: the element at a place under stated answers.
+// The cutting of a text into elements: the element at a place under stated answers. That a place lies in the text is asked where that matters: a struct of text and place would
+// be made anew for each element.
 #![tactic(auto)]
 
 ghost use Rattle.std.specs.Prelude.{◌≡◌, ◌&&◌, ◌||◌, ◌+◌, ◌<◌, eqb, length, drop, get_or};

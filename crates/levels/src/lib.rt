@@ -1,6 +1,7 @@
 // Statement, expression and function parsers, which call each other over nested groups. Each runs the token machine over a level: the
 // part of the tree table inside a group, behind which a token of the class `closer` stands. Inside a level nothing is called for a part:
-// what waits stands on the lent stack. Stack and records are lent apart, as in `waiting`, and `top` and `count` are no level yet: each part begins its own, with another floor.
+// what waits stands on the lent stack. Stack and records are lent apart, as in `waiting`, and `top` and `count` are no level yet: each part begins its own, with another floor. What each step asks is
+// one definition, `MayRun`, of what it hands on.
 #![tactic(auto)]
 
 ghost use Rattle.controls.specs.Machinery.Numbers.{IsScope, inside_by};

@@ -1,5 +1,6 @@
 // Numbers, as in ES5.1 section 7.8.3. Each part is asked for its end; where there is none, that is the place where it would start, since
-// its length is 0 then by the definitions, and the next part is looked for there.
+// its length is 0 then by the definitions, and the next part is looked for there. That a place lies
+// in the text is asked where that matters, as in `elements`.
 #![tactic(auto)]
 
 ghost use Rattle.std.specs.Prelude.{◌≡◌, cond, ◌||◌, ◌+◌, ◌<◌, eqb, length, drop};

@@ -30,7 +30,7 @@ fn ending(trees: &[u32], stack: &[OpenGroup], state: State) -> Result<usize, Fau
     Err(Fault::Unclosed(first))
 }
 
-// The reading, with what was written left in the table where it is refused.
+// The reading, with what was written left in the table where it is refused. Room for 100 groups is asked of the stack's length, since the loop is lent a slice.
 fn fill(
     codes: &Codes,
     text: &[u8],

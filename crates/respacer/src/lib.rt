@@ -28,7 +28,8 @@ fn write_end(output: &mut [u8], stack: &[OpenGroup], reached: Reached) -> Result
     Err(Fault::Unclosed(stack[depth - 1].tag as usize))
 }
 
-// The elements of the whole text, as many as fit; and the count of all bytes, those that do not fit too.
+// The elements of the whole text, as many as fit; and the count of all bytes, those that do not fit too. Room for 100 groups is asked of the stack's length, since the loop is
+// lent a slice.
 fn write_text(
     codes: &Codes,
     text: &[u8],

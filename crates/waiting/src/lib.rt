@@ -19,7 +19,8 @@ pub struct Waiting {
     pub start: u16,
 }
 
-// In place of a kind, which is below: the least number that stands for a nest, and that stands for an open `?`.
+// In place of a kind, which is below: the least number that stands for a nest, and that stands for an open `?`. One number of 16 bits and no enum: an entry is six bytes, and the
+// stack of 16,384 takes half of the room that a call may take.
 pub const NEST: u32 = 128;
 
 pub const ASK: u32 = 256;
@@ -28,7 +29,7 @@ pub const ASK: u32 = 256;
 pub const SETTINGS: u32 = 8;
 
 // A level: syntax records so far; how many parts wait, and how many on the levels around; the first syntax record of the operand; the
-// mark of a word or name that is held.
+// mark of a word or name that is held. That a mark is one of the records is asked of the number alone, since it goes into 16 bits.
 #[derive(Clone, Copy)]
 pub struct Level {
     pub count: usize,
