@@ -1,5 +1,5 @@
--- Document 01, Refused texts, rows 2 to 7 (document 02, U4: "8 no longer occurs"): the numbers of the faults that elements and comments have of their own. Each
--- definition that cites one gives the row's place.
+-- Document 01, Refused texts (document 02, U4: "8 no longer occurs"): rows 2 to 7, the numbers of the faults that elements and comments have of their own, and then the number and
+-- the place of each row's fault.
 use Rattle.std.specs.Prelude.{ℕ, Result, Ok, Err}
 use Rattle.answers.specs.declared.Answer.{Answer}
 use Rattle.answers.specs.declared.faults.Fault.{Fault}

@@ -110,11 +110,7 @@ fn name_element(
 {
     let end = runs::name_end(codes, text, first);
     let which = words::word_number(&text[first..end]);
-    // Two tests, one after the other: as one, reading takes 4 % more instructions.
-    if which == 0 {
-        return found(NAME, which, first, end, newline);
-    }
-    if as_name {
+    if which == 0 || as_name {
         return found(NAME, which, first, end, newline);
     }
     if words::is_taken(which) {
@@ -154,8 +150,8 @@ fn sign_element(text: &[u8], first: usize, newline: bool) -> Result<Option<Eleme
     found(kind, sign.number, first, first + sign.len, newline)
 }
 
-// The byte behind a place; 0 past the text's end, as `get_or` of the definition has it. A test that asks the text there, and no byte past its end, took reading
-// 58,000 instructions more for the stored script, 1.8 %: over its 1.4 times the yardstick's.
+// The byte behind a place; 0 past the text's end, as `get_or` of the definition has it. With a test that asks the text there, and no byte past its end, reading the stored
+// script took 58,000 instructions more, 1.43 times the yardstick's in place of 1.40.
 fn byte_after(text: &[u8], at: usize) -> u8
     requires { at < length text.now }
     ensures { result ≡ get_or text.now (at + 1) 0 }
