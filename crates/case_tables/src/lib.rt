@@ -1,5 +1,6 @@
 // What is lent in a case, a table or an output. Each cell holds a mark before the call, so that a cell that is written shows,
 // and a cell that is left too.
+// `as` from `u32` to `usize` and back, or to a narrower type: std has no `From` there, and the check proves that nothing is lost.
 #![tactic(auto)]
 
 ghost use Rattle.std.specs.Prelude.{◌<◌};
@@ -63,6 +64,7 @@ pub fn both_kept(trees: &[u32], syntax: &[u32], end: usize) -> bool {
         && kept(trees, count * TreeRecord::WIDTH)
 }
 
+// 0 where there is no record: all trees are then asked for their marks.
 fn program_mark(syntax: &[u32], end: usize) -> usize {
     match syntax.get(..end) {
         Some([.., _, mark, _]) => *mark as usize,
@@ -70,7 +72,8 @@ fn program_mark(syntax: &[u32], end: usize) -> usize {
     }
 }
 
-// A number that the cells determine: each one adds its number to 31 times what stood before, modulo 1,000,003.
+// A number that the cells determine: each one adds its number to 31 times what stood before, modulo 1,000,003. No `fold`: that its closure
+// does not overflow stays open there.
 pub fn sum<T: Cell>(cells: &[T]) -> u64
     ensures { result < 1000003 }
 {

@@ -1,4 +1,5 @@
 // A number in decimal, with a blank after it.
+// `as` from `u32` to `usize` and back, or to a narrower type: std has no `From` there, and the check proves that nothing is lost.
 
 ghost use Rattle.std.specs.Prelude.{◌<◌, length, IfSome};
 

@@ -83,7 +83,7 @@ pub fn is_postfix(class: u32) -> bool
     matches!(class, tokens::INCREMENT | tokens::DECREMENT)
 }
 
-// The kind of the part that an operator before its operand makes, or `new`.
+// The kind of the part that an operator before its operand makes, or `new`: a table, as `start_kind` is of what starts with a token.
 pub fn prefix_kind(class: u32) -> u32
     ensures { result ≡ prefix_kind class }
 {

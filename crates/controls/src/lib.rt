@@ -89,7 +89,8 @@ pub enum Setting {
 }
 
 impl Setting {
-    // The number that stands for it on the lent stack, and back: no other number than one of these is written there, so that a `TryFrom` would have nothing to refuse.
+    // The number that stands for it on the lent stack, and back: no other number than one of these is written there, so that a `TryFrom` would have nothing to refuse. `as`,
+    // since an enum has no `From` to its number, and a table of its own for each enum.
     pub fn number(self) -> u32
         ensures { result ≡ setting_number self }
     {
@@ -135,7 +136,8 @@ pub enum Ending {
 }
 
 impl Ending {
-    // The number that stands for it on the lent stack, and back: no other number than one of these is written there, so that a `TryFrom` would have nothing to refuse.
+    // The number that stands for it on the lent stack, and back: no other number than one of these is written there, so that a `TryFrom` would have nothing to refuse. `as`,
+    // since an enum has no `From` to its number, and a table of its own for each enum.
     pub fn number(self) -> u32
         ensures { result ≡ ending_number self }
     {
@@ -225,7 +227,8 @@ pub enum Nest {
 }
 
 impl Nest {
-    // The number that stands for it on the lent stack, and back: no other number than one of these is written there, so that a `TryFrom` would have nothing to refuse.
+    // The number that stands for it on the lent stack, and back: no other number than one of these is written there, so that a `TryFrom` would have nothing to refuse. `as`,
+    // since an enum has no `From` to its number, and a table of its own for each enum.
     pub fn number(self) -> u32
         ensures { result ≡ nest_number self }
     {

@@ -1,4 +1,5 @@
 // Syntax records.
+// `as` from `u32` to `usize` and back: std has no `From` there, and the check proves that nothing is lost.
 ghost use Rattle.std.specs.Prelude.{◌≡◌, ◌+◌, ◌-◌, ◌≤◌, ◌<◌};
 ghost use Rattle.tables.specs.Records.{most_trees, most_syntax};
 ghost use Rattle.controls.specs.Machinery.Written.{put_record};

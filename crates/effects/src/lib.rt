@@ -99,7 +99,7 @@ fn empty_ended(l: Level, mark: usize, waiting: &[Waiting], syntax: &mut [u32]) -
     one.completed(waiting, syntax)
 }
 
-// What a token of a class does.
+// What a token of a class does. A `match` and no closures: the rows of the machine's table are its arms.
 pub fn affect(
     effect: Effect,
     class: u32,

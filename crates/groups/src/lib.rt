@@ -65,7 +65,7 @@ pub fn closing_by(closing: Closing, within: bool) -> Closing
     }
 }
 
-// What a group that closes does to the level around it, when there are so many records with its own.
+// What a group that closes does to the level around it, when there are so many records with its own. A `match` and no closures: the rows of the machine's table are its arms.
 pub fn close(
     closing: Closing,
     mark: usize,

@@ -1,5 +1,6 @@
 // What is kept of an element: its record in the table or, where the text is spaced, its bytes in the output. Each answers the count of
 // bytes written.
+// `as` from `u32` to `usize` and back: std has no `From` there, and the check proves that nothing is lost.
 #![tactic(auto)]
 
 ghost use Rattle.std.specs.Prelude.{◌≡◌};

@@ -12,7 +12,7 @@ use summaries::{
     STATEMENT_FUNCTION, STATEMENT_FUNCTION_NAME,
 };
 
-// The number of the last of the 48 signs.
+// The number of the last of the 48 signs, which are numbers as in `signs`.
 const LAST_SIGN: u32 = 48;
 
 // The level after a name.

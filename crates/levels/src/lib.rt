@@ -42,6 +42,7 @@ fn level(
         let Some(step) = rows::row(s.control, class, newline) else {
             return Err(Fault::NoProgram(part.place_at(at)));
         };
+        // The steps of the machine.
         match step {
             Step::Goto(next, effect) => {
                 l = effects::affect(effect, class, part.base + at, s.level, waiting, syntax);

@@ -16,6 +16,7 @@ fn answer<R: Print + AllocGlobal>(rt: &R, line: &[u8]) -> Result<(), CaseError> 
     let (letter, rest) = line.split_first().ok_or(CaseError::Bad)?;
     let spelled = rest.get(1..).unwrap_or(&[]);
     let text = spelling::text_of(rt.alloc(), spelled)?;
+    // Four letters, four functions: a table of them would be made and handed out.
     match letter {
         b'l' => lists::short(rt, &text)?,
         b't' => lists::trees(rt, &text)?,

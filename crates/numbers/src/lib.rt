@@ -17,6 +17,7 @@ fn is_either(b: u8, x: u8, y: u8) -> bool
     b == x || b == y
 }
 
+// No `position` over a slice: `from` may lie past the text's end.
 fn hex_digits_end(text: &[u8], from: usize) -> usize
     ensures { result ≡ from + run hex_digit (drop from text.now) }
 {

@@ -13,7 +13,7 @@ use summaries::Level;
 // The kinds of groups, and those of `++` and `--` before and after their operand and of a `:` that answers a `?`, for what stands above.
 pub use summaries::{AFTER, ANSWER, BEFORE, BLOCK, BRACKETS, OBJECT, PARENS};
 
-// An open group, on the stack that is lent beside a state: the level around it, and a number that the caller keeps of it. A lent stack with the depth in the state, and no
+// An open group, on the stack that is lent beside a state: the level around it, and a number that the caller keeps of it, a record's index or a byte's place. A lent stack with the depth in the state, and no
 // `Vec`: a call allocates nothing, and a state goes by value.
 #[derive(Clone, Copy)]
 pub struct OpenGroup {

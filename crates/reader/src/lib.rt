@@ -1,4 +1,5 @@
-// Reading: a text to tree records.
+// Reading: a text to tree records. `read` and `respace` of `respacer` have one shape and say different things.
+// `as` from `u32` to `usize` and back: std has no `From` there, and the check proves that nothing is lost.
 #![tactic(auto)]
 
 ghost use Rattle.std.specs.Prelude.{◌≡◌, List, ℕ, length};

@@ -1,4 +1,5 @@
 // Respacing: a text to the same elements with one blank or line end between them.
+// `as` from `u32` to `usize` and back: std has no `From` there, and the check proves that nothing is lost.
 #![tactic(auto)]
 
 ghost use Rattle.std.specs.Prelude.{◌≡◌, List, ℕ, ◌*◌, ◌≤◌, length};

@@ -220,7 +220,7 @@ fn statement_setting(at: Control) -> Setting
     }
 }
 
-// The machine's table, for a token that a record makes.
+// The machine's table, for a token that a record makes. A `match` and no closures: the rows of the machine's table are its arms.
 pub fn row(at: Control, class: u32, newline: bool) -> Option<Step>
     ensures { Settled at class → Means (control_of at) class result (look class (row (control_of at) newline)) }
 {

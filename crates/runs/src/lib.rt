@@ -15,7 +15,7 @@ pub fn equal(a: &[u8], b: &[u8]) -> bool
     a == b
 }
 
-// The end of the run from `from` of bytes whose code is over a limit, byte by byte.
+// The end of the run from `from` of bytes whose code is over a limit, byte by byte. No `position` over a slice: `from` may lie past the text's end.
 fn short_run_end(codes: &Codes, text: &[u8], from: usize, limit: u8) -> usize
     ensures { result ≡ from + run (code_over limit) (drop from text.now) }
 {

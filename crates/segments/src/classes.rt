@@ -1,11 +1,11 @@
 // The class of a record: its kind tells it, and of a word or sign its length and its first and last bytes. What no token is has the class
 // 0, as in `look_up` of the definitions: the machine's table is asked with the number, and an option would be turned into it at once.
+// Tables of one shape say different things.
 ghost use Rattle.std.specs.Prelude.{◌≡◌, cond, eqb};
 ghost use Rattle.text.specs.Quoted.{byte};
 ghost use Rattle.machine.specs.Tokens.{default_word, finally_word};
 ghost use Rattle.segments.specs.Machinery.Segments.{low_singles, high_singles, assigned, doubled, compared, two_letters, three_letters, five_letters, six_letters, eight_letters, look_up, four_by, single_by, pair_by, triple_by, sign_by, word_by, kind_by, is_spelled};
 
-// Tables of one shape say different things, and 0 is the definition's own answer (`look_up`) for a byte that is in none.
 use machine::tokens;
 
 // A sign of one byte up to `?`, where they stand so close that the compiler makes a table of them.

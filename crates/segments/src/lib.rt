@@ -1,4 +1,5 @@
 // Parts of the tree table: the numbers of a record, its class, and what is inside a group.
+// `as` from `u32` to `usize` and back: std has no `From` there, and the check proves that nothing is lost.
 #![tactic(auto)]
 
 ghost use Rattle.std.specs.Prelude.{◌≡◌, ◌+◌, ◌-◌, ◌≤◌, ◌<◌, get_or};

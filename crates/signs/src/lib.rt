@@ -56,7 +56,7 @@ pub const ASSIGN: u32 = 36;
 pub const SLASH: u32 = 47;
 
 // A row of the table: the bytes of a sign, and 0 for the others of the four; its length; its number. Bytes with a length beside, and no slice: the table is one constant, which
-// is copied where it is used.
+// is copied where it is used, as the rules ask for a constant table of the signs.
 #[derive(Clone, Copy)]
 struct Entry {
     bytes: [u8; 4],

@@ -6,7 +6,7 @@ ghost use Rattle.std.specs.Prelude.{◌≡◌, List, [], ◌∷◌, ◌++◌, �
 ghost use Rattle.spacing.specs.Respaced.{add_element, add_closer};
 ghost use Rattle.spacing.specs.Machinery.Over.{over, Puts};
 
-// Writes a byte behind what is written so far, if it fits; the next place is counted in any case.
+// Writes a byte behind what is written so far, if it fits; the next place is counted in any case. No `get_mut`: what is left in the output is not told by it.
 pub fn put_byte(output: &mut [u8], at: usize, b: u8) -> usize
     requires { at < 2 ^ 32 }
     ensures { (result ≡ at + 1) × ((written old : List ℕ) → at ≡ length written → output.old ≡ over written old → output.new ≡ over (written ++ (b ∷ [])) old) }
@@ -60,7 +60,7 @@ pub fn put_closer(text: &[u8], output: &mut [u8], at: usize, first: usize, end: 
     put_bytes(output, next, &text[first..end])
 }
 
-// Every byte of an output becomes 0. A function of its own, since the calls' contracts and a wrong program speak of it.
+// Every byte of an output becomes 0. A function of its own, since a wrong program changes what it does.
 pub fn clear(output: &mut [u8])
     ensures { output.new ≡ replicate (length output.old) 0 }
 {

@@ -33,7 +33,7 @@ const KINDS: u32 = 32;
 
 const ONE_QUESTION: u32 = 2048;
 
-// The numbers of the signs `++` and `--`.
+// The numbers of the signs `++` and `--`: `signs` numbers its signs of one byte alone.
 const INCREMENT: u32 = 22;
 
 const DECREMENT: u32 = 23;

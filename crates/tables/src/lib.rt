@@ -103,7 +103,7 @@ pub fn room_for<R: Record>(cells: usize) -> usize
     (cells / R::WIDTH).min(R::MOST)
 }
 
-// Every cell of a table becomes 0. A function of its own, since the calls' contracts and the wrong programs speak of it.
+// Every cell of a table becomes 0. A function of its own, since wrong programs change what it does.
 pub fn clear(table: &mut [u32])
     ensures { table.new ≡ replicate (length table.old) 0 }
 {

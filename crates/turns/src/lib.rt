@@ -1,5 +1,6 @@
 // The turns of a reading: the loop that reading and respacing share, with `spaced` for which of the two is kept, since two loops would not both have all else set in
 // (reading took 6.75 million instructions where it then took 4.9). Read, a text leaves its records in the table; spaced, its elements in the output. The element call and the step are compiled into the one loop, since nothing else in these calls uses them.
+// `as` from `u32` to `usize` and back: std has no `From` there, and the check proves that nothing is lost.
 #![tactic(auto)]
 
 ghost use Rattle.std.specs.Prelude.{◌≡◌, true, false, List, ℕ, ◌<◌, ◌^◌};

@@ -2,6 +2,7 @@
 // beginnings of statements with their kind, their mark and their first syntax record; nests with a number that tells what they are and
 // the setting around them, the mark of their word and their first syntax record; an open `?` with a number that tells its expression, its
 // mark and the first syntax record of its condition.
+// `as` from `u32` to `usize` and back: std has no `From` there, and the check proves that nothing is lost.
 #![tactic(auto)]
 
 ghost use Rattle.std.specs.Prelude.{◌≡◌, ◌+◌, ◌-◌, ◌≤◌, ◌<◌, length};
@@ -30,6 +31,7 @@ pub const SETTINGS: u32 = 8;
 
 // A level: syntax records so far; how many parts wait, and how many on the levels around; the first syntax record of the operand; the
 // mark of a word or name that is held. That a mark is one of the records is asked of the number alone, since it goes into 16 bits.
+// `held` is 0 where nothing is held, since only places behind a word or a name ask for it. The stack is lent, and no `Vec`: a call allocates nothing.
 #[derive(Clone, Copy)]
 pub struct Level {
     pub count: usize,

@@ -1,4 +1,5 @@
 // The 36 reserved words of ES5.1 section 7.6.1, held as one run of their letters with their lengths, and compared byte for byte with a name.
+// `as` from `u32` to `usize` and back, or to a narrower type: std has no `From` there, and the check proves that nothing is lost.
 #![tactic(auto)]
 
 ghost use Rattle.std.specs.Prelude.{◌≡◌, true, List, ℕ, ◌+◌, ◌*◌, ◌≤◌, ◌<◌, T, length, get_or, IfSome, Some};
@@ -43,7 +44,7 @@ pub const TRUE: u32 = 35;
 
 pub const FALSE: u32 = 36;
 
-// The letters of the words in the order of their numbers, with nothing between two words.
+// The letters of the words in the order of their numbers, with nothing between two words: the rules ask for one run of letters with their lengths.
 const LETTERS: [u8; 181] = *b"\
     breakdoinstanceoftypeofcaseelsenewvarcatchfinallyreturnvoid\
     continueforswitchwhiledebuggerfunctionthiswithdefaultifthrowdelete\
@@ -67,7 +68,7 @@ const NUMBERS: [u8; 64] = [
 ];
 
 // What the words of a length start with: a bit for each first letter, at its code modulo 64, and one for each second letter, at its code modulo 32.
-// Those of first letters are in the upper half, those of second letters in the lower half.
+// Those of first letters are in the upper half, those of second letters in the lower half. This and `before_fourth` are tables, of one shape alone.
 fn initials(len: usize) -> u64
     ensures { ((name : List ℕ) → (word_number name ≡ 0 → ⊥) → length name ≡ len → T (admits result name)) × ((result ≡ 0 → ⊥) → len ≤ 10) }
 {
@@ -186,7 +187,7 @@ pub fn word_number(name: &[u8]) -> u32
     }
 }
 
-// The first of the seven future reserved words, which are not taken here. Next behind them is `null`.
+// The first of the seven future reserved words, which are not taken here; a number as those above. Next behind them is `null`.
 const CLASS: u32 = 27;
 
 // Whether the word of a number is taken here.

@@ -1,4 +1,5 @@
 // Numbers in decimal, and lines of them.
+// `as` from `u32` to `usize` and back: std has no `From` there, and the check proves that nothing is lost.
 ghost use Rattle.std.specs.Prelude.{◌≡◌, [], ◌∷◌, ◌++◌};
 ghost use Rattle.writing.specs.Numbers.{decimal, line};
 ghost use Rattle.writing.specs.Machinery.Writing.{Adds};
