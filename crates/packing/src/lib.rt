@@ -1,5 +1,5 @@
 // An answer as one number, for callers from other languages.
-// `as` from `u32` to `usize` and back, or to a narrower type: std has no `From` there, and the check proves that nothing is lost.
+// `as` from `usize` to `u64`: std has no `From` there, and the check proves that nothing is lost.
 #![tactic(auto)]
 
 ghost use Rattle.std.specs.Prelude.{◌≡◌, ◌<◌, ◌^◌};
