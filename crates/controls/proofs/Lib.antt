@@ -3,3 +3,4 @@ pub mod StepLaws
 pub mod LevelEnds
 pub mod KeptLength
 pub mod ClassLaws
+pub mod NumberLaws

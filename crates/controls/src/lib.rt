@@ -6,7 +6,7 @@ ghost use Rattle.std.specs.Prelude.{◌≡◌, false, ℕ, ◌≤◌};
 ghost use Rattle.machine.specs.Machinery.Machine.{behind_statement, statement_due};
 ghost use Rattle.machine.specs.Machinery.Classes.{is_leaf};
 ghost use Rattle.controls.specs.declared.Ending.TheVariants.{LoneStart};
-ghost use Rattle.controls.specs.Machinery.Numbers.{setting_by, ending_by, control_by, control_of, start_kind, inside_by, entered_by, IsScope, nest_number, setting_number, ending_number};
+ghost use Rattle.controls.specs.Machinery.Numbers.{setting_by, ending_by, control_by, control_of, start_kind, inside_by, entered_by, IsScope, nest_number, setting_number, ending_number, setting_numbered, ending_numbered};
 
 pub mod bindings;
 pub mod ends;
@@ -97,8 +97,10 @@ impl Setting {
         self as u32
     }
 
+    // A number past the last stands for what the last does.
+    #[tactic(auto, unfolding(crate::specs::Machinery::Numbers::setting_numbered))]
     pub fn numbered(number: u32) -> Setting
-        ensures { (setting : Setting) → number ≡ setting_number setting → result ≡ setting }
+        ensures { result ≡ setting_numbered number }
     {
         match number {
             0 => Setting::Body,
@@ -144,8 +146,10 @@ impl Ending {
         self as u32
     }
 
+    // A number past the last stands for what the last does.
+    #[tactic(auto, unfolding(crate::specs::Machinery::Numbers::ending_numbered))]
     pub fn numbered(number: u32) -> Ending
-        ensures { (ending : Ending) → number ≡ ending_number ending → result ≡ ending }
+        ensures { result ≡ ending_numbered number }
     {
         match number {
             0 => Ending::Statement,

@@ -1,6 +1,5 @@
 -- A level with the parts of its frame told apart from where it stands: what each operation on the level makes of them.
 use mathlib.Core.Path.{◌≡◌, refl, ◌∙◌, ap}
-use mathlib.Core.Bool.{false}
 use mathlib.Core.List.{List, [], ◌∷◌, ◌++◌}
 use Prim.Native.Nat.{ℕ, ◌+◌, ◌-◌, ◌≤◌, ◌<◌}
 use native.Mathlib.Omega.{arith}
@@ -11,17 +10,16 @@ use Rattle.machine.specs.Syntax.{Syntax, nil, node, snoc, size}
 use Rattle.machine.specs.Tokens.{new_word, question, do_word}
 use Rattle.machine.specs.Machinery.Machine as machine
 use Rattle.machine.specs.Machinery.Machine.{Pending, pending, Frame, frame, tightness, wrap, Control, nested, asking}
-use Rattle.controls.specs.Machinery.Numbers.{ending_by, is_lone, setting_by, behind_by, left_by}
+use Rattle.controls.specs.Machinery.Numbers.{setting_by, behind_by, left_by}
 use Rattle.controls.specs.Machinery.Written.{put_record, put_syntax}
 use Rattle.controls.specs.declared.Setting as codes
-use Rattle.controls.specs.declared.Ending as endings
 use Rattle.controls.specs.declared.Nest as opened
 use Rattle.waiting.specs.Machinery.Waiting.{nothing_waits, popped, binding, Shut, shut, close, lefts, Stacked, bare, above, Holds, HoldsShut, Closes, Completes, stack_with, stack_as, waiting_one, made_one, with_held, restarted}
 use Rattle.waiting.specs.declared.Level.{Level}
 use Rattle.waiting.specs.declared.Waiting.{Waiting}
 use Rattle.waiting.proofs.HoldLaws.{start_le, bottom_top, floor_le, word_held, alone_held, uppermost, done_held, nest_done_held, nested_held, unstacked_held, asked_held, left_held, taken_back_held, left_alone_held, left_lone_held, undone_held}
 use Rattle.waiting.proofs.PutLaws.{made_held, made_both, valued_held, waits_held, answered_held, kind_held, stack_long, stack_kept}
-use Rattle.frames.specs.Machinery.Stands.{Operators, no_operators, more_operators, Beginnings, no_beginnings, more_beginnings, InNest, in-nest, Asked, asked, InNumbered, Within, ask_in, nest_in, Below, below_none, below_nest, below_asked, Shaped, written, HeldAt, owed, Kept, Stands}
+use Rattle.frames.specs.Machinery.Stands.{Operators, no_operators, more_operators, Beginnings, no_beginnings, more_beginnings, InNest, in-nest, Asked, asked, InNumbered, Within, asked_in, AskNumber, nest_in, Below, below_none, below_nest, below_asked, Shaped, written, HeldAt, owed, Kept, Stands}
 use Rattle.frames.specs.Machinery.Effects.{Valued}
 use Rattle.frames.proofs.CloseLaws.{LighterBy, close_lightens, below_stops, Reduced, close_expression, close_statement}
 
@@ -232,14 +230,13 @@ module _ {nests : List machine.Open} {table : List ℕ} {stack₀ : List Waiting
       h.worded refl (more_stack stack l.top (nest_in nest setting) mark l.start)
 
   -- the operand waits as the condition of an open `?`, behind which nothing stands yet
-  pub carries_asked : {waiting : List Pending} {condition : Syntax} (ending : endings.Ending) (setting : codes.Setting) (mark : ℕ)
-      → Carries nests table stack₀ first floor done starts waiting condition l stack cells
-      → Within (ending_by ending setting) done starts nests → is_lone ending ≡ false → l.count + l.top < most_trees → mark ≤ most_trees → l.top < length stack
-      → Carries (asking (ending_by ending setting) mark (frame done starts waiting condition) ∷ nests) table stack₀ first floor nil [] [] nil
-      (waiting_one l) (stack_with stack l.top (ask_in ending setting) mark l.start) cells
-  carries_asked ending setting mark h within plain room marked fits =
-      carries_other h no_operators no_beginnings (below_asked ending setting plain h.operators h.beginnings within h.below)
-      (asked_held (waits_held (ask_in ending setting) mark h.holds room marked fits)) h.worded refl (more_stack stack l.top (ask_in ending setting) mark l.start)
+  pub carries_asked : {waiting : List Pending} {condition : Syntax} (kind mark : ℕ) → Carries nests table stack₀ first floor done starts waiting condition l stack cells
+      → Within (asked_in kind) done starts nests → AskNumber kind → l.count + l.top < most_trees → mark ≤ most_trees → l.top < length stack
+      → Carries (asking (asked_in kind) mark (frame done starts waiting condition) ∷ nests) table stack₀ first floor nil [] [] nil
+      (waiting_one l) (stack_with stack l.top kind mark l.start) cells
+  carries_asked kind mark h within many room marked fits =
+      carries_other h no_operators no_beginnings (below_asked many h.operators h.beginnings within h.below) (asked_held (waits_held kind mark h.holds room marked fits))
+      h.worded refl (more_stack stack l.top kind mark l.start)
 
   -- an operator with no left side waits no more
   pub carries_dropped : {kind mark : ℕ} {waiting : List Pending} {last : Syntax}
@@ -287,8 +284,8 @@ followed : {nests : List machine.Open} {table : List ℕ} {first : ℕ} {done ba
     → Below done nests base tail → Holds table first base tail value l stack cells → Followed nests table first (snoc done value) (restarted l) stack cells
 followed below_none h = record { base = _; tail = []; below = below_none; holds = done_held h }
 followed (below_nest nest setting beginnings within below) h = record { base = _; tail = _; below = below_nest nest setting beginnings within below; holds = nest_done_held h }
-followed (below_asked ending setting plain operators beginnings within below) h =
-    record { base = _; tail = _; below = below_asked ending setting plain operators beginnings within below; holds = nested_held (nest_done_held h) }
+followed (below_asked many operators beginnings within below) h =
+    record { base = _; tail = _; below = below_asked many operators beginnings within below; holds = nested_held (nest_done_held h) }
 
 module _ {nests : List machine.Open} {table : List ℕ} {stack₀ : List Waiting} {first floor : ℕ} {done : Syntax} {starts waiting : List Pending} {last : Syntax} {l r : Level} {stack : List Waiting} {cells after : List ℕ}
     (h : Carries nests table stack₀ first floor done starts waiting last l stack cells) where
@@ -396,18 +393,17 @@ module _ {table : List ℕ} {stack₀ : List Waiting} {first floor : ℕ} {l : L
 
 -- what is carried around an open `?` that is answered with a value
 pub record Answering (nests : List machine.Open) (table : List ℕ) (stack₀ : List Waiting) (first floor : ℕ) (value : Syntax) (l : Level) (stack : List Waiting) (cells : List ℕ) : Type 0 where
-  pub ending : endings.Ending
-  pub setting : codes.Setting
+  pub kind : ℕ
   pub mark : ℕ
   pub done : Syntax
   pub starts : List Pending
   pub waiting : List Pending
   pub condition : Syntax
   pub rest : List machine.Open
-  pub is : nests ≡ asking (ending_by ending setting) mark (frame done starts waiting condition) ∷ rest
-  pub within : Within (ending_by ending setting) done starts rest
-  pub stacked : (get_or stack (l.top - 1) nothing_waits).kind ≡ ask_in ending setting
-  pub plain : is_lone ending ≡ false
+  pub is : nests ≡ asking (asked_in kind) mark (frame done starts waiting condition) ∷ rest
+  pub within : Within (asked_in kind) done starts rest
+  pub stacked : (get_or stack (l.top - 1) nothing_waits).kind ≡ kind
+  pub many : AskNumber kind
   pub waits : 1 ≤ l.top
   pub fits : l.top ≤ length stack
   pub carries : Carries rest table stack₀ first floor done starts (pending question mark (snoc condition value) ∷ waiting) nil (restarted l) (stack_as stack l.top question) cells
@@ -418,11 +414,10 @@ carries_answered {table = table} {stack₀ = stack₀} {first = first} {floor = 
   where
     go : {hs : List machine.Open} {base : Syntax} {tail : List Pending} → Asked hs → Below nil hs base tail → Holds table first base tail value l stack cells
         → Answering hs table stack₀ first floor value l stack cells
-    go asked (below_asked {around = done} {condition = condition} ending setting {mark = mark} {waiting = waiting} {starts = starts} {nests = rest} plain operators beginnings within below) k =
+    go asked (below_asked {around = done} {condition = condition} {kind = kind} {mark = mark} {waiting = waiting} {starts = starts} {nests = rest} many operators beginnings within below) k =
         let u = uppermost k in
         record {
-          ending = ending;
-          setting = setting;
+          kind = kind;
           mark = mark;
           done = done;
           starts = starts;
@@ -432,7 +427,7 @@ carries_answered {table = table} {stack₀ = stack₀} {first = first} {floor = 
           is = refl;
           within = within;
           stacked = u.kind_is;
-          plain = plain;
+          many = many;
           waits = u.some;
           fits = u.fits;
           carries = carries_renamed h question

@@ -12,7 +12,7 @@ use Rattle.machine.specs.Machinery.Machine as machine
 use Rattle.machine.specs.Machinery.Machine.{Pending, pending, frame, tightness, reduce, wrap}
 use Rattle.waiting.specs.Machinery.Waiting.{binding, Shut, shut, close, lefts}
 use Rattle.waiting.proofs.OperatorLaws.{binding_nest, binding_operator}
-use Rattle.frames.specs.Machinery.Stands.{Operators, no_operators, more_operators, Beginnings, no_beginnings, more_beginnings, ask_in, nest_in, Below, below_none, below_nest, below_asked}
+use Rattle.frames.specs.Machinery.Stands.{Operators, no_operators, more_operators, Beginnings, no_beginnings, more_beginnings, nest_in, Below, below_none, below_nest, below_asked}
 
 -- nothing, or something that binds less, waits next: closing stops there
 pub data Stops (least : ℕ) : List Pending → Type 0 where
@@ -31,8 +31,7 @@ pub below_stops : {done base : Syntax} {nests : List machine.Open} {tail : List 
 below_stops below_none = stops_none
 below_stops (below_nest nest setting _ within below) =
     stops_at {kind = nest_in nest setting} (omega (arith, binding_nest (nest_in nest setting) (omega arith)))
-below_stops (below_asked ending setting plain _ _ within below) =
-    stops_at {kind = ask_in ending setting} (omega (arith, binding_nest (ask_in ending setting) (omega arith)))
+below_stops (below_asked {kind = kind} many _ _ within below) = stops_at {kind = kind} (omega (arith, binding_nest kind (omega (arith, many.0))))
 
 pub starts_stop : {starts tail : List Pending} → Beginnings starts → Stops 1 tail → Stops 2 (starts ++ tail)
 starts_stop no_beginnings stops = stops_more (omega arith) stops

@@ -1,27 +1,27 @@
 -- A `?` is open, and is answered, as the code numbers what ends its expression.
 use mathlib.Core.Path.{◌≡◌, refl, sym, ◌∙◌}
-use mathlib.Core.Bool.{Bool, true, false}
+use mathlib.Core.Bool.{Bool, true}
 use mathlib.Core.List.{List}
-use Prim.Native.Nat.{ℕ, ◌+◌, ◌-◌, ◌/◌, ◌%◌, ◌≤◌, ◌<◌}
+use Prim.Native.Nat.{ℕ, ◌+◌, ◌-◌, ◌≤◌, ◌<◌}
 use native.Mathlib.Omega.{arith}
 use lib.ListN.{length, get_or}
 use Rattle.tables.specs.Records.{most_trees}
 use Rattle.machine.specs.Tokens.{question}
 use Rattle.machine.specs.Operators.{least_binary}
 use Rattle.machine.specs.Machinery.Machine.{some_target, Ending, by_colon, Control, statement_due, statement_done, name_first, return_first, throw_first, jump_first, head_first, for_first, switch_first, switch_past, body_done, test_first, semicolon_due, variable_due, variable_named, start_due, test_due, step_due, default_first, clause_due, try_first, try_done, catch_first, catch_due, catch_named, catch_past, catch_done, finally_first, try_ended, if_first, operand_due, member_due, operand_done, postfix_done, dot_last, function_first, function_named, parameter_past, item_due, property_named, parameter_due, parameter_named, finished}
-use Rattle.controls.specs.Machinery.Numbers.{ending_by, is_lone, control_by, control_of, setting_number, ending_number}
+use Rattle.controls.specs.Machinery.Numbers.{ending_by, control_by, control_of}
 use Rattle.controls.specs.Machinery.Steps.{Ended, ended_operand, ended_postfix}
 use Rattle.controls.specs.declared.Control as code
 use Rattle.controls.specs.declared.Place as places
 use Rattle.controls.specs.declared.Place.TheVariants as stand
 use Rattle.controls.specs.declared.Setting as codes
 use Rattle.controls.specs.declared.Ending as endings
-use Rattle.waiting.specs.Machinery.Waiting.{nothing_waits, ask_kind, settings, Closes, stack_with, stack_as, waiting_one, restarted}
+use Rattle.waiting.specs.Machinery.Waiting.{nothing_waits, Closes, stack_with, stack_as, waiting_one, restarted}
 use Rattle.waiting.specs.declared.Level.{Level}
 use Rattle.waiting.specs.declared.Waiting.{Waiting}
-use Rattle.frames.specs.Machinery.Stands.{ask_in}
+use Rattle.frames.specs.Machinery.Stands.{ask_in, asked_ending, asked_setting, asked_in, AskNumber}
 use Rattle.frames.specs.Machinery.Effects.{MayAsk, Asks, MayTurn, Turns}
-use Rattle.frames.proofs.NumberLaws.{setting_few, ending_few}
+use Rattle.frames.proofs.NumberLaws.{setting_few, ending_few, asks_in, ask_number}
 use Rattle.frames.proofs.CarryLaws.{closes_lightens}
 use Rattle.frames.proofs.AtLaws.{at_ended}
 use Rattle.frames.proofs.AskLaws.{asks, answering, turns}
@@ -103,36 +103,34 @@ module _ (at : code.Control) {mark : ℕ} {l r : Level} {stack : List Waiting} {
       → (level ≡ waiting_one r) × (stack' ≡ stack_with stack r.top number mark r.start) → control_of c ≡ operand_due by_colon some_target
       → Asks at mark l stack cells (record { control = c; level = level }) stack' after
   asks_there small room closes n e c-is ending g nests table stack₀ first floor passed s ended more =
-      let same : ending ≡ ending_by n.past at.setting = ended_number at ended ∙ sym n.same in
+      let number : ℕ = ask_in n.past at.setting in
+      let same : ending ≡ asked_in number = ended_number at ended ∙ sym n.same ∙ sym (asks_in n.past at.setting) in
       record {
         control_is = c-is;
-        stands = rw (e.0, e.1, same, n.is) (asks closes.0 closes.1 n.past at.setting mark more n.plain small room closes.2 (rw same at ended) s);
+        stands = rw (e.0, e.1, same, n.is) (asks closes.0 closes.1 number mark more (ask_number n.past at.setting n.plain) small room closes.2 (rw same at ended) s);
       }
 
 -- and its `:`
 pub record Turning (r : Level) (stack : List Waiting) : Type 0 where
   pub waits : 1 ≤ r.top
   pub fits : r.top ≤ length stack
-  pub many : ask_kind ≤ (get_or stack (r.top - 1) nothing_waits).kind
+  pub many : AskNumber (get_or stack (r.top - 1) nothing_waits).kind
 
-answer_due : {c : Control} (ending : endings.Ending) (setting : codes.Setting) → is_lone ending ≡ false → c ≡ control_by stand.OperandDue ending setting true
-    → c ≡ operand_due (ending_by ending setting) some_target
-answer_due ending setting plain e = e ∙ rw plain
+answer_due : {c : Control} (kind : ℕ) → AskNumber kind → c ≡ control_by stand.OperandDue (asked_ending kind) (asked_setting kind) true → c ≡ operand_due (asked_in kind) some_target
+unfolding asked_in
+answer_due kind number e = e ∙ rw number.1
 
 module _ {l r : Level} {stack : List Waiting} {cells after : List ℕ} where
   pub turn_asks : MayTurn l stack cells → (r.floor ≡ l.floor) × (r.held ≡ l.held) × Closes 2 l stack cells r after → Turning r stack
   turn_asks may closes =
       let a = answering closes.0 closes.1 (at_ended may.ends may.somewhere.stands) closes.2 in
-      record { waits = a.waits; fits = a.fits; many = omega (arith, a.stacked) }
+      record { waits = a.waits; fits = a.fits; many = rw a.stacked a.many }
 
-  pub turns_there : {level : Level} {stack' : List Waiting} {c : code.Control} {ending : endings.Ending} {setting : codes.Setting} (number : ℕ)
-      → (r.floor ≡ l.floor) × (r.held ≡ l.held) × Closes 2 l stack cells r after → (get_or stack (r.top - 1) nothing_waits).kind - ask_kind ≡ number
-      → ((e : endings.Ending) → number / settings ≡ ending_number e → ending ≡ e) → ((t : codes.Setting) → number % settings ≡ setting_number t → setting ≡ t)
-      → (level ≡ restarted r) × (stack' ≡ stack_as stack r.top question)
-      → control_of c ≡ control_by stand.OperandDue ending setting true → Turns l stack cells (record { control = c; level = level }) stack' after
-  turns_there number closes at endings-told settings-told e c-is from g nests table stack₀ first floor passed s ended more =
+  pub turns_there : {level : Level} {stack' : List Waiting} {c : code.Control} (kind : ℕ) → (r.floor ≡ l.floor) × (r.held ≡ l.held) × Closes 2 l stack cells r after
+      → (get_or stack (r.top - 1) nothing_waits).kind ≡ kind → (level ≡ restarted r) × (stack' ≡ stack_as stack r.top question)
+      → control_of c ≡ control_by stand.OperandDue (asked_ending kind) (asked_setting kind) true → Turns l stack cells (record { control = c; level = level }) stack' after
+  turns_there kind closes at e c-is from g nests table stack₀ first floor passed s ended more =
       let e' = at_ended ended s in
       let a = answering closes.0 closes.1 e' closes.2 in
-      let by-ending = endings-told a.ending (omega (arith, a.stacked, setting_few a.setting)) in
-      let by-setting = settings-told a.setting (omega (arith, a.stacked, setting_few a.setting)) in
-      rw (e.0, e.1) (turns closes.0 closes.1 more e' closes.2 (answer_due a.ending a.setting a.plain (rw (by-ending, by-setting) at c-is)))
+      let number : AskNumber kind = rw (sym at ∙ a.stacked) a.many in
+      rw (e.0, e.1) (turns closes.0 closes.1 kind more e' closes.2 at (answer_due kind number c-is))

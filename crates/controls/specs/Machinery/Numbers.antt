@@ -269,3 +269,34 @@ ending_number by.Colon = 14
 ending_number by.Argument = 15
 ending_number by.Element = 16
 ending_number by.Property = 17
+
+-- and back: a number past the last stands for what the last does
+unfoldable pub setting_numbered : ℕ → settings.Setting
+setting_numbered number =
+    cond (eqb number 0) within.Body
+    (cond (eqb number 1) within.Block
+    (cond (eqb number 2) within.Clause
+    (cond (eqb number 3) within.IfNest
+    (cond (eqb number 4) within.ElseNest
+    within.DoNest))))
+
+unfoldable pub ending_numbered : ℕ → endings.Ending
+ending_numbered number =
+    cond (eqb number 0) by.Statement
+    (cond (eqb number 1) by.Return
+    (cond (eqb number 2) by.Variable
+    (cond (eqb number 3) by.FirstVariable
+    (cond (eqb number 4) by.LaterVariable
+    (cond (eqb number 5) by.LoneStart
+    (cond (eqb number 6) by.Start
+    (cond (eqb number 7) by.Test
+    (cond (eqb number 8) by.Case
+    (cond (eqb number 9) by.LastCase
+    (cond (eqb number 10) by.Step
+    (cond (eqb number 11) by.Object
+    (cond (eqb number 12) by.Paren
+    (cond (eqb number 13) by.Bracket
+    (cond (eqb number 14) by.Colon
+    (cond (eqb number 15) by.Argument
+    (cond (eqb number 16) by.Element
+    by.Property))))))))))))))))

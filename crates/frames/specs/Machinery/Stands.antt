@@ -1,5 +1,5 @@
 -- How a level holds the machine's frame and the nests that are open on it. Machinery.
-use Rattle.std.specs.Prelude.{ℕ, ◌+◌, ◌*◌, ◌≤◌, ◌<◌, ◌≡◌, Bool, true, false, List, [], ◌∷◌, ◌++◌, length, get_or}
+use Rattle.std.specs.Prelude.{ℕ, ◌+◌, ◌-◌, ◌*◌, ◌/◌, ◌%◌, ◌≤◌, ◌<◌, ◌≡◌, Bool, true, false, List, [], ◌∷◌, ◌++◌, length, get_or}
 use Rattle.tables.specs.Records.{most_trees}
 use Rattle.machine.specs.Tokens.{name, new_word, var_word}
 use Rattle.machine.specs.Syntax.{Syntax, nil, node, snoc, variable_syntax}
@@ -78,7 +78,7 @@ use Rattle.machine.specs.Machinery.Machine.{
   nested,
   asking,
 }
-use Rattle.controls.specs.Machinery.Numbers.{setting_by, ending_by, is_lone, behind_by, left_by, nest_number, setting_number, ending_number}
+use Rattle.controls.specs.Machinery.Numbers.{setting_by, ending_by, is_lone, behind_by, left_by, nest_number, setting_number, ending_number, setting_numbered, ending_numbered}
 use Rattle.controls.specs.declared.Setting as codes
 use Rattle.controls.specs.declared.Ending as endings
 use Rattle.controls.specs.declared.Nest as opened
@@ -157,6 +157,20 @@ Within (by_item items) done starts nests = (starts ≡ []) × (nests ≡ [])
 abbrev pub ask_in : endings.Ending → codes.Setting → ℕ
 ask_in ending setting = ask_kind + ending_number ending * settings + setting_number setting
 
+-- and back, of any number
+abbrev pub asked_ending : ℕ → endings.Ending
+asked_ending kind = ending_numbered ((kind - ask_kind) / settings)
+
+abbrev pub asked_setting : ℕ → codes.Setting
+asked_setting kind = setting_numbered ((kind - ask_kind) % settings)
+
+unfoldable pub asked_in : ℕ → Ending
+asked_in kind = ending_by (asked_ending kind) (asked_setting kind)
+
+-- the numbers that stand for open `?`s: behind one the start of a `for`'s head is no more alone
+abbrev pub AskNumber : ℕ → Type 0
+AskNumber kind = (ask_kind ≤ kind) × (is_lone (asked_ending kind) ≡ false)
+
 -- the number that stands for a nest, in a setting
 abbrev pub nest_in : opened.Nest → codes.Setting → ℕ
 nest_in nest setting = nest_kind + nest_number nest * settings + setting_number setting
@@ -180,10 +194,10 @@ pub data Below : Syntax → List machine.Open → Syntax → List Pending → Ty
   below_nest : {done around base : Syntax} (nest : opened.Nest) (setting : codes.Setting) {mark : ℕ} {starts tail : List Pending} {nests : List machine.Open} → Beginnings starts → InNumbered nest setting around nests → Below around nests base tail
       → Below done (nested (behind_by nest (setting_by setting)) (left_by nest) mark (frame around starts [] nil) ∷ nests) base
       (pending (nest_in nest setting) mark done ∷ (starts ++ tail))
-  below_asked : {done around base condition : Syntax} (ending : endings.Ending) (setting : codes.Setting) {mark : ℕ} {waiting starts tail : List Pending} {nests : List machine.Open}
-      → is_lone ending ≡ false → Operators waiting → Beginnings starts → Within (ending_by ending setting) around starts nests → Below around nests base tail
-      → Below done (asking (ending_by ending setting) mark (frame around starts waiting condition) ∷ nests) base
-      (pending (ask_in ending setting) mark (snoc condition done) ∷ (waiting ++ (starts ++ tail)))
+  below_asked : {done around base condition : Syntax} {kind mark : ℕ} {waiting starts tail : List Pending} {nests : List machine.Open} → AskNumber kind
+      → Operators waiting → Beginnings starts → Within (asked_in kind) around starts nests → Below around nests base tail
+      → Below done (asking (asked_in kind) mark (frame around starts waiting condition) ∷ nests) base
+      (pending kind mark (snoc condition done) ∷ (waiting ++ (starts ++ tail)))
 
 abbrev pub WithinRole : machine.Role → Syntax → List Pending → List Pending → List machine.Open → Type 0
 WithinRole machine.declared done starts waiting nests = (starts ≡ []) × (waiting ≡ []) × (nests ≡ [])
