@@ -4,7 +4,7 @@
 
 ghost use Rattle.std.specs.Prelude.{◌≡◌, ◌+◌, ◌-◌, ◌≤◌, ◌<◌, get_or};
 ghost use Rattle.tables.specs.Records.{tree_width};
-ghost use Rattle.segments.specs.Machinery.Segments.{count_of, cell_or, place_at, end_at, size_at, line_at, sign_by, word_by, class_at, leaf_at, leaf_of, content_of, Fine, segment_of, inside};
+ghost use Rattle.segments.specs.Machinery.Segments.{count_of, cell_or, place_at, end_at, size_at, line_at, closer_at, sign_by, word_by, class_at, leaf_at, leaf_of, content_of, Fine, segment_of, inside};
 
 use machine::tokens;
 use tables::TreeRecord;
@@ -57,6 +57,14 @@ impl<'a> Segment<'a> {
         ensures { result ≡ size_at self.entry.trees.now at }
     {
         self.cell(at, 3) as usize
+    }
+
+    // The place of a group's closer.
+    #[tactic(auto, unfolding(crate::specs::Machinery::Segments::closer_at, crate::specs::Machinery::Segments::end_at))]
+    pub fn closer_at(self, at: usize) -> usize
+        ensures { result ≡ closer_at self.entry.trees.now at }
+    {
+        (self.cell(at, 2) as usize).saturating_sub(1)
     }
 
     // Whether a line end lies before a record.
@@ -155,7 +163,7 @@ impl<'a> Segment<'a> {
         Segment {
             trees: self.records_inside(at),
             base: self.base + at + 1,
-            close: (self.cell(at, 2) as usize).saturating_sub(1),
+            close: self.closer_at(at),
             ..self
         }
     }
