@@ -2,9 +2,9 @@
 // `as` from `u32` to `usize` and back: std has no `From` there, and the check proves that nothing is lost.
 #![tactic(auto)]
 
-ghost use Rattle.std.specs.Prelude.{◌≡◌, ◌+◌, ◌-◌, ◌≤◌, ◌<◌, get_or};
+ghost use Rattle.std.specs.Prelude.{◌≡◌, ◌+◌, ◌-◌, ◌^◌, ◌≤◌, ◌<◌, get_or};
 ghost use Rattle.tables.specs.Records.{tree_width};
-ghost use Rattle.segments.specs.Machinery.Segments.{count_of, cell_or, place_at, end_at, size_at, line_at, closer_at, sign_by, word_by, class_at, leaf_at, leaf_of, content_of, Fine, segment_of, inside};
+ghost use Rattle.segments.specs.Machinery.Segments.{count_of, cell_or, place_at, end_at, size_at, line_at, closer_at, sign_by, word_by, class_at, leaf_at, leaf_of, content_of, segment_of, inside};
 
 use machine::tokens;
 use tables::TreeRecord;
@@ -154,10 +154,10 @@ impl<'a> Segment<'a> {
         &self.trees[first..end]
     }
 
-    // The part inside a group.
-    #[tactic(auto, unfolding(crate::specs::Machinery::Segments::content_of, crate::specs::Machinery::Segments::closer_at, crate::specs::Machinery::Segments::end_at))]
+    // The part inside a group; the index of its first record is to fit, too.
     pub fn inside(self, at: usize) -> Segment<'a>
-        requires { Fine (segment_of self) × (at < count_of self.trees.now) }
+        requires size_fits { (1 ≤ size_at self.trees.now at) × (at + size_at self.trees.now at ≤ count_of self.trees.now) }
+        requires index_fits { self.base + at + 1 < 2 ^ 64 }
         ensures { segment_of result ≡ inside (segment_of self.entry) at }
     {
         Segment {

@@ -31,6 +31,10 @@ content-returns-in-Block t c = ran_as c.statements.ensures (block_inside c.in-Bl
 pub content-returns-in-Declaration : goal.content-returns-in-Declaration
 content-returns-in-Declaration t c = ran_as c.function.ensures (body_inside c.in-Declaration.is)
 
+pub group-inside-within-requires : goal.group-inside-within-requires
+group-inside-within-requires t c = let f = c.requires.fine.at c.args.at c.requires.here in
+    record { size_fits = (f.some, f.fits); index_fits = omega (arith, c.requires.fine.few, c.requires.here) }
+
 pub group-content-requires : goal.group-content-requires
 group-content-requires t c = (omega (arith, c.decreases, fewer_inside c.requires, ap (λ (p : Segment). count_of p.cells) c.inside-within.ensures), rw c.inside-within.ensures (may_run c.requires))
 
