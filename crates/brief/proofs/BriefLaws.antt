@@ -112,7 +112,7 @@ value_written in_arguments class mark table count = ap (λ (at : ℕ). put_recor
 value_written in_elements class mark table count = ap (λ (at : ℕ). put_record table at class mark 1) (let z : count + 0 + 0 + 0 ≡ count = omega arith in z)
 
 -- what a leaf is told
-told : (cells : List ℕ) {class : ℕ} → leaf_of (leaf_at cells 0) ≡ Some class
+pub told : (cells : List ℕ) {class : ℕ} → leaf_of (leaf_at cells 0) ≡ Some class
     → (class ≡ 0 → ⊥) × (class ≤ 4) × ((text : List ℕ) → class_at text cells 0 ≡ class)
 told cells {class} is = go (eqb (leaf_at cells 0) 0) refl
   where
@@ -149,11 +149,11 @@ module _ {p : Segment} (fine : Fine p) (one : count_of p.cells ≡ 1) (class : �
 
 -- as what a lone record is found to be, if its class is told
 pub lone_found : {p : Segment} → Fine p → count_of p.cells ≡ 1 → {leaf : Option ℕ} {closer : ℕ} {closing : closings.Closing} {r : Found}
-    → leaf ≡ leaf_of (leaf_at p.cells 0) → Lone leaf closer closing r → FindsInside closer p (inside_by closing) r
-lone_found {p} fine one is (lone_parameter named ends inside) =
-    let t = told p.cells (sym is ∙ named) in
+    → ((class : ℕ) → leaf ≡ Some class → (class ≡ 0 → ⊥) × (class ≤ 4) × ((text : List ℕ) → class_at text p.cells 0 ≡ class)) → Lone leaf closer closing r → FindsInside closer p (inside_by closing) r
+lone_found {p} fine one known (lone_parameter named ends inside) =
+    let t = known name named in
     rw (ends, inside) (parameter_found fine one name (t.2 p.text) t.0 t.1 refl)
-lone_found {p} fine one is (lone_operand {class = class} known h) =
-    let t = told p.cells (sym is ∙ known) in
+lone_found {p} fine one known (lone_operand {class = class} some h) =
+    let t = known class some in
     operand_found fine one class (t.2 p.text) t.0 t.1 h
-lone_found fine one is lone_more = finds_more
+lone_found fine one known lone_more = finds_more

@@ -2,11 +2,11 @@
 // third of the groups of both measured scripts are such, and a call for their inside would take more time than what it does.
 #![tactic(auto)]
 
-ghost use Rattle.std.specs.Prelude.{◌≡◌, true, IfSome, T};
+ghost use Rattle.std.specs.Prelude.{◌≡◌, true, IfSome, List, T, ℕ};
 ghost use Rattle.machine.specs.Tokens.{close_paren};
 ghost use Rattle.machine.specs.Machinery.Classes.{is_end};
 ghost use Rattle.controls.specs.Machinery.Numbers.{inside_by};
-ghost use Rattle.segments.specs.Machinery.Segments.{Fine, segment_of};
+ghost use Rattle.segments.specs.Machinery.Segments.{Fine, segment};
 ghost use Rattle.brief.specs.Machinery.Brief.{MayBeEmpty, HoldsOperand, Lone, FindsInside};
 
 use controls::Closing;
@@ -76,9 +76,9 @@ fn alone(leaf: Option<u32>, closer: u32, closing: Closing) -> Found
     Found::NeedsLevel
 }
 
-// What stands inside a group, before its closer.
+// What stands inside a group, before its closer. The records tell it, whatever text they are of.
 pub fn look_inside(part: Segment, closer: u32, closing: Closing) -> Found
-    ensures { Fine (segment_of part.entry) → T (is_end closer) → FindsInside closer (segment_of part.entry) (inside_by closing) result }
+    ensures { (text : List ℕ) (base close : ℕ) → Fine (segment text part.entry.trees.now base close) → T (is_end closer) → FindsInside closer (segment text part.entry.trees.now base close) (inside_by closing) result }
 {
     if part.trees.len() == TreeRecord::WIDTH {
         return alone(part.leaf_at(0), closer, closing);

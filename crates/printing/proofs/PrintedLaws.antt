@@ -23,13 +23,20 @@ lines_suc : (width n : ℕ) (cells : List ℕ) → lines width (suc n) cells ≡
 unfolding lines
 lines_suc width n cells = refl
 
--- and a line with those behind it
-pub lines_step : (cells : List ℕ) (width i n : ℕ) → i < n
+-- and a line with those behind it, wherever it starts
+pub lines_step : (cells : List ℕ) (width first n : ℕ) → 0 < n
+    → lines width n (drop first cells) ≡ line (take width (drop first cells)) ++ lines width (n - 1) (drop (first + width) cells)
+lines_step cells width first zero h = absurd (omega arith)
+lines_step cells width first (suc n) h =
+    let e : suc n - 1 ≡ n = omega arith in
+    rw (lines_suc width n (drop first cells), drop-drop width first cells, e) refl
+
+pub lines_next : (cells : List ℕ) (width i n : ℕ) → i < n
     → lines width (n - i) (drop (width * i) cells) ≡ line (take width (drop (width * i) cells)) ++ lines width (n - (i + 1)) (drop (width * (i + 1)) cells)
-lines_step cells width i n h =
-    let e : n - i ≡ suc (n - (i + 1)) = omega arith in
+lines_next cells width i n h =
+    let fewer : n - i - 1 ≡ n - (i + 1) = omega arith in
     let next : width * i + width ≡ width * (i + 1) = omega arith in
-    rw (e, lines_suc width (n - (i + 1)) (drop (width * i) cells), drop-drop width (width * i) cells, next) refl
+    rw (lines_step cells width (width * i) (n - i) (omega arith), fewer, next) refl
 
 -- a listing and a refusal, as they are written
 pub listed_is : (heading : List ℕ) (width n : ℕ) (cells : List ℕ) → listed heading width n cells ≡ heading ++ ((decimal n ++ (byte "\n" ∷ [])) ++ lines width n cells)

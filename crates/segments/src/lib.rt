@@ -2,9 +2,9 @@
 // `as` from `u32` to `usize` and back: std has no `From` there, and the check proves that nothing is lost.
 #![tactic(auto)]
 
-ghost use Rattle.std.specs.Prelude.{◌≡◌, ◌+◌, ◌-◌, ◌≤◌, ◌<◌, get_or};
+ghost use Rattle.std.specs.Prelude.{◌≡◌, ◌+◌, ◌-◌, ◌^◌, ◌≤◌, ◌<◌, get_or};
 ghost use Rattle.tables.specs.Records.{tree_width};
-ghost use Rattle.segments.specs.Machinery.Segments.{count_of, cell_or, place_at, end_at, size_at, line_at, sign_by, word_by, class_at, leaf_at, leaf_of, content_of, Fine, segment_of, inside};
+ghost use Rattle.segments.specs.Machinery.Segments.{count_of, cell_or, place_at, end_at, size_at, line_at, closer_at, sign_by, word_by, class_at, leaf_at, leaf_of, content_of, segment_of, inside};
 
 use machine::tokens;
 use tables::TreeRecord;
@@ -57,6 +57,14 @@ impl<'a> Segment<'a> {
         ensures { result ≡ size_at self.entry.trees.now at }
     {
         self.cell(at, 3) as usize
+    }
+
+    // The place of a group's closer.
+    #[tactic(auto, unfolding(crate::specs::Machinery::Segments::closer_at, crate::specs::Machinery::Segments::end_at))]
+    pub fn closer_at(self, at: usize) -> usize
+        ensures { result ≡ closer_at self.entry.trees.now at }
+    {
+        (self.cell(at, 2) as usize).saturating_sub(1)
     }
 
     // Whether a line end lies before a record.
@@ -146,16 +154,16 @@ impl<'a> Segment<'a> {
         &self.trees[first..end]
     }
 
-    // The part inside a group.
-    #[tactic(auto, unfolding(crate::specs::Machinery::Segments::content_of, crate::specs::Machinery::Segments::closer_at, crate::specs::Machinery::Segments::end_at))]
+    // The part inside a group; the index of its first record is to fit, too.
     pub fn inside(self, at: usize) -> Segment<'a>
-        requires { Fine (segment_of self) × (at < count_of self.trees.now) }
+        requires size_fits { (1 ≤ size_at self.trees.now at) × (at + size_at self.trees.now at ≤ count_of self.trees.now) }
+        requires index_fits { self.base + at + 1 < 2 ^ 64 }
         ensures { segment_of result ≡ inside (segment_of self.entry) at }
     {
         Segment {
             trees: self.records_inside(at),
             base: self.base + at + 1,
-            close: (self.cell(at, 2) as usize).saturating_sub(1),
+            close: self.closer_at(at),
             ..self
         }
     }

@@ -54,8 +54,8 @@ pub left_none : (whole from : List ℕ) (start : ℕ) (now : List ℕ) (at : ℕ
 left_none whole from start now at l = l now at (adds_none now at)
 
 -- a writer that was made of an output and used leaves there what it has
-pub of_writer : (said output : List ℕ) {was now after : List ℕ} {start at next : ℕ} → was ≡ output → start ≡ 0 → after ≡ now → next ≡ at
-    → Adds was start said now at → Adds output 0 said after next
+pub of_writer : (said output : List ℕ) {was now after : List ℕ} {place start at next : ℕ} → was ≡ output → start ≡ place → after ≡ now → next ≡ at
+    → Adds was start said now at → Adds output place said after next
 of_writer said output w z n a p = rw (← w, ← z, n, a) p
 
 -- where nothing was said before

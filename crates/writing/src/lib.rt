@@ -22,7 +22,16 @@ impl<'a> Writer<'a> {
         Writer { output, at: 0 }
     }
 
-    // How many bytes were written.
+    // Goes on from a place; past the end nothing is written.
+    pub fn behind(output: &'a mut [u8], at: usize) -> Writer<'a>
+        ensures same_output { result.output.ghost_name ≡ output.entry.ghost_name }
+        ensures untouched { result.output.now ≡ output.old }
+        ensures at_place { result.at ≡ at }
+    {
+        Writer { output, at }
+    }
+
+    // The place that is written next: for a writer from 0 on, how many bytes were written.
     pub fn count(&self) -> usize
         ensures { result ≡ self.now.at }
     {

@@ -31,14 +31,18 @@ content-returns-in-Block t c = ran_as c.statements.ensures (block_inside c.in-Bl
 pub content-returns-in-Declaration : goal.content-returns-in-Declaration
 content-returns-in-Declaration t c = ran_as c.function.ensures (body_inside c.in-Declaration.is)
 
+pub group-inside-within-requires : goal.group-inside-within-requires
+group-inside-within-requires t c = let f = c.requires.fine.at c.args.at c.requires.here in
+    record { size_fits = (f.some, f.fits); index_fits = omega (arith, c.requires.fine.few, c.requires.here) }
+
 pub group-content-requires : goal.group-content-requires
 group-content-requires t c = (omega (arith, c.decreases, fewer_inside c.requires, ap (λ (p : Segment). count_of p.cells) c.inside-within.ensures), rw c.inside-within.ensures (may_run c.requires))
 
 pub group-returns-in-Nothing : goal.group-returns-in-Nothing
-group-returns-in-Nothing t c = nothing_ran c.requires (found_there c.requires c.inside-within.ensures c.look_inside.ensures) c.in-Nothing.is
+group-returns-in-Nothing t c = nothing_ran c.requires (found_there c.requires c.inside-within.ensures (c.look_inside.ensures _ _ _)) c.in-Nothing.is
 
 pub group-returns-in-Operand : goal.group-returns-in-Operand
-group-returns-in-Operand t c = operand_ran c.requires (found_there c.requires c.inside-within.ensures c.look_inside.ensures) c.in-Operand.is (rw (ap (λ (p : Segment). p.base) c.inside-within.ensures) at c.put.ensures)
+group-returns-in-Operand t c = operand_ran c.requires (found_there c.requires c.inside-within.ensures (c.look_inside.ensures _ _ _)) c.in-Operand.is (rw (ap (λ (p : Segment). p.base) c.inside-within.ensures) at c.put.ensures)
 
 pub level-loop-at-init : goal.level-loop-at-init
 level-loop-at-init t c = let e = c.empty-l.ensures in (refl, refl, rw c.inside_of-control.ensures (starts_underway c.args.inside c.requires e.0 e.1 e.2 e.3 e.4))

@@ -3,7 +3,7 @@ use Rattle.std.proofs.Common.{ℕ, ◌≡◌, ◌+◌, ◌-◌, ◌*◌, ◌∙�
 use Rattle.writing.specs.Numbers.{line}
 use Rattle.printing.specs.Printed.{lines}
 use Rattle.writing.proofs.WritingLaws.{left_less, left_none}
-use Rattle.printing.proofs.PrintedLaws.{lines_none, lines_step}
+use Rattle.printing.proofs.PrintedLaws.{lines_none, lines_next}
 use Rattle.printing.proofs.put_lines.Goals as goal
 
 pub loop-i-preserved : goal.loop-i-preserved
@@ -15,7 +15,7 @@ loop-i-preserved c = let l = c.loop-i in
     let wide : first + w - first ≡ w = omega arith in (
       c.put_line.ensures.same_output ∙ l.invariant.0,
       left_less (lines w a.count t) (line (take w (drop first t))) (lines w (a.count - (l.i + 1)) (drop (w * (l.i + 1)) t)) a.to.now.output.now a.to.now.at
-          (rw (lines_step t w l.i a.count (omega arith)) at l.invariant.1) (rw wide at c.put_line.ensures.adds),
+          (rw (lines_next t w l.i a.count (omega arith)) at l.invariant.1) (rw wide at c.put_line.ensures.adds),
     )
 
 pub returns-clause-adds : goal.returns-clause-adds
