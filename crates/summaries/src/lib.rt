@@ -31,7 +31,7 @@ pub const SUMMARIES: u32 = 64;
 
 const KINDS: u32 = 32;
 
-const ONE_QUESTION: u32 = 2048;
+pub const ONE_QUESTION: u32 = 2048;
 
 // The numbers of the signs `++` and `--`: `signs` numbers its signs of one byte alone.
 const INCREMENT: u32 = 22;
