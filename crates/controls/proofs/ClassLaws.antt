@@ -4,9 +4,9 @@ use mathlib.Core.Bool.{Bool, true, false, cond, ◌&&◌, ◌||◌}
 use mathlib.Core.List.{List, [], ◌∷◌}
 use Prim.Native.Nat.{ℕ, zero, suc, ◌+◌, ◌≤◌, ◌<◌}
 use native.Mathlib.Omega.{arith}
-use borrow.Author.Tests.{ne_eqb, eqb-true, eqb-false, le-leb, lt-leb}
+use borrow.Author.Tests.{ne_eqb, eqb-true, eqb-false, ltb-false, le-leb, lt-leb}
 use lib.Dec.{T, eqb, ltb, ltb→lt}
-use Rattle.text.proofs.Range.{and_left, and_right}
+use Rattle.text.proofs.Range.{and_left, and_right, alike, alike→eq}
 use Rattle.text.proofs.Members.{all_in}
 use Rattle.machine.specs.Tokens.{name, new_word, question}
 use Rattle.machine.specs.Operators.{Operator, operator, operators, precedence_among, precedence, is_among}
@@ -46,6 +46,19 @@ not_among [] past t k high = refl
 not_among (x ∷ rest) past t k high =
     let less = ltb→lt x past (and_left (ltb x past) (all_in (λ x. ltb x past) rest) t) in
     rw (ne_eqb k x (λ e. omega (arith, less))) (not_among rest past (and_right (ltb x past) (all_in (λ x. ltb x past) rest) t) k high)
+
+-- a test by ranges from a number on, of which all from a later one on fail
+pub test_from : (f : ℕ → Bool) (classes : List ℕ) (first n : ℕ) → T (each_from (λ k. alike (f k) (is_among classes k)) first n)
+    → T (all_in (λ x. ltb x (first + n)) classes) → (k : ℕ) → first ≤ k → (first + n ≤ k → f k ≡ false) → f k ≡ is_among classes k
+test_from f classes first n t l k low fails = go (ltb k (first + n)) refl
+  where
+    go : (b : Bool) → ltb k (first + n) ≡ b → f k ≡ is_among classes k
+    go true e =
+        let within = at_number (λ i. alike (f i) (is_among classes i)) first n t k low (ltb→lt k (first + n) (rw e tt)) in
+        alike→eq (f k) (is_among classes k) within
+    go false e =
+        let high = ltb-false k (first + n) e in
+        rw (fails high, not_among classes (first + n) l k high)
 
 -- nor does it bind
 below : ℕ → Operator → Bool
