@@ -84,7 +84,7 @@ fn records<R: Record>(rt: &impl Print, cells: &[u32]) -> io::Result<()> {
         }
         return Ok(());
     }
-    if let (Some(first), Some(last)) = (records.next(), records.last()) {
+    if let (Some(first), Some(last)) = (records.next(), records.next_back()) {
         print!(rt; " first")?;
         record(rt, first)?;
         print!(rt; " last")?;

@@ -44,11 +44,22 @@ pub fn mark_all<T: Cell>(cells: &mut [T]) {
 
 // Whether each cell from `first` on holds its mark.
 pub fn kept<T: Cell>(cells: &[T], first: usize) -> bool {
-    cells
-        .iter()
-        .enumerate()
-        .skip(first)
-        .all(|(place, cell)| *cell == T::mark(place))
+    (first..cells.len()).all(|place| cells[place] == mark_at(place))
+}
+
+// A mark, without a division at a place that a table of these cases has.
+fn mark_at<T: Cell>(place: usize) -> T {
+    if place < CELLS {
+        T::mark(place)
+    } else {
+        far_mark(place)
+    }
+}
+
+#[cold]
+#[inline(never)]
+fn far_mark<T: Cell>(place: usize) -> T {
+    T::mark(place)
 }
 
 pub fn all_zero<T: Cell>(cells: &[T]) -> bool {

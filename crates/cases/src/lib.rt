@@ -10,7 +10,7 @@ use std::alloc::{AllocError, AllocFailed};
 use std::io;
 
 // Room for the input of a test program.
-const INPUT: usize = 65536;
+pub const INPUT: usize = 65536;
 
 // Why a case is not answered: its line spells none, or memory or an output fails.
 #[derive(Debug, Drop)]

@@ -6,16 +6,16 @@ use crate::{CaseError, number};
 use std::alloc::Global;
 
 // The most bytes of a text: a longer one is a bad case.
-const MOST: usize = 262200;
+pub const MOST: usize = 262200;
 
-// A piece, and how many copies of it are asked for.
-#[derive(Drop)]
+// Where a piece starts in the text, and how many copies of it are asked for.
+#[derive(Clone, Copy)]
 struct Piece {
+    start: usize,
     times: usize,
-    bytes: Vec<u8>,
 }
 
-// What is spelled so far: the text, and the piece that is open.
+// What is spelled so far: the text, and the piece that is open. A piece stands in the text once until it is closed.
 #[derive(Drop)]
 struct Spelling {
     text: Vec<u8>,
@@ -25,13 +25,13 @@ struct Spelling {
 // The text that a line spells.
 pub fn text_of(alloc: Global, line: &[u8]) -> Result<Vec<u8>, CaseError> {
     let mut spelling = Spelling {
-        text: Vec::new(alloc),
+        text: Vec::with_capacity(alloc, line.len().min(MOST))?,
         open: None,
     };
     let mut rest = line;
     // The rest gets shorter by what each step takes.
     while !rest.is_empty() {
-        rest = spelling.step(alloc, rest)?;
+        rest = spelling.step(rest)?;
     }
     let Spelling { text, open } = spelling;
     match open {
@@ -42,38 +42,48 @@ pub fn text_of(alloc: Global, line: &[u8]) -> Result<Vec<u8>, CaseError> {
 
 impl Spelling {
     // Takes what stands at the start of a line, and gives the rest.
-    fn step<'a>(&mut self, alloc: Global, line: &'a [u8]) -> Result<&'a [u8], CaseError>
+    fn step<'a>(&mut self, line: &'a [u8]) -> Result<&'a [u8], CaseError>
         ensures { IfOk result (λ r. 0 < length line.entry.now → length r.now < length line.entry.now) }
     {
         match line {
-            [b'~', b'<', rest @ ..] => self.open(alloc, rest),
-            [b'~', b'>', rest @ ..] => {
-                self.close()?;
-                Ok(rest)
-            }
-            [b'~', high, low, rest @ ..] => {
-                let byte = byte_of(*high, *low).ok_or(CaseError::Bad)?;
-                self.put(byte)?;
-                Ok(rest)
-            }
-            [b'~', ..] | [] => Err(CaseError::Bad),
+            [b'~', rest @ ..] => self.spelled(rest),
             [byte, rest @ ..] => {
                 self.put(*byte)?;
                 Ok(rest)
             }
+            [] => Err(CaseError::Bad),
+        }
+    }
+
+    // Takes what stands behind a `~`, and gives the rest.
+    fn spelled<'a>(&mut self, line: &'a [u8]) -> Result<&'a [u8], CaseError>
+        ensures { IfOk result (λ r. length r.now ≤ length line.entry.now) }
+    {
+        match line {
+            [b'<', rest @ ..] => self.open(rest),
+            [b'>', rest @ ..] => {
+                self.close()?;
+                Ok(rest)
+            }
+            [high, low, rest @ ..] => {
+                let byte = byte_of(*high, *low).ok_or(CaseError::Bad)?;
+                self.put(byte)?;
+                Ok(rest)
+            }
+            _ => Err(CaseError::Bad),
         }
     }
 
     fn put(&mut self, byte: u8) -> Result<(), CaseError> {
-        let bytes = match &mut self.open {
-            Some(piece) => &mut piece.bytes,
-            None => &mut self.text,
-        };
-        extend(bytes, &[byte])
+        if self.text.len() >= MOST {
+            return Err(CaseError::Bad);
+        }
+        self.text.push(byte)?;
+        Ok(())
     }
 
     // Opens a piece, which has to stand there once at least.
-    fn open<'a>(&mut self, alloc: Global, line: &'a [u8]) -> Result<&'a [u8], CaseError>
+    fn open<'a>(&mut self, line: &'a [u8]) -> Result<&'a [u8], CaseError>
         ensures { IfOk result (λ r. length r.now ≤ length line.entry.now) }
     {
         let (times, rest) = number::number_at(line).ok_or(CaseError::Bad)?;
@@ -81,27 +91,35 @@ impl Spelling {
             return Err(CaseError::Bad);
         }
         self.open = Some(Piece {
+            start: self.text.len(),
             times,
-            bytes: Vec::new(alloc),
         });
         Ok(rest)
     }
 
+    // Copies that have no room are not begun.
     fn close(&mut self) -> Result<(), CaseError> {
-        let piece = self.open.take().ok_or(CaseError::Bad)?;
-        for _ in 0..piece.times {
-            extend(&mut self.text, &piece.bytes)?;
+        let Piece { start, times } = self.open.take().ok_or(CaseError::Bad)?;
+        let size = self.text.len().saturating_sub(start);
+        let end = start.saturating_add(size.saturating_mul(times));
+        if end > MOST {
+            return Err(CaseError::Bad);
         }
+        self.text.resize(end, 0)?;
+        repeat(&mut self.text[start..], size);
         Ok(())
     }
 }
 
-fn extend(text: &mut Vec<u8>, bytes: &[u8]) -> Result<(), CaseError> {
-    if text.len() + bytes.len() > MOST {
-        return Err(CaseError::Bad);
+// Fills a room with copies of its first `size` bytes. What is filled is copied behind itself, so that a short piece takes few turns.
+fn repeat(room: &mut [u8], size: usize) {
+    let mut filled = size;
+    while 0 < filled && filled < room.len() {
+        let (copied, rest) = room.split_at_mut(filled);
+        let more = filled.min(rest.len());
+        rest[..more].copy_from_slice(&copied[..more]);
+        filled += more;
     }
-    text.extend_from_slice(bytes)?;
-    Ok(())
 }
 
 // The byte of two hexadecimal digits.

@@ -18,14 +18,14 @@ pub enum Shown {
     Parts,
 }
 
-#[derive(Drop)]
+#[derive(Clone, Copy)]
 pub struct Case {
     pub shown: Shown,
     pub stated: Stated,
-    pub text: Vec<u8>,
 }
 
-pub fn case_of(alloc: Global, line: &[u8]) -> Result<Case, CaseError> {
+// The case of a line, and its text.
+pub fn case_of(alloc: Global, line: &[u8]) -> Result<(Case, Vec<u8>), CaseError> {
     let [letter, b' ', spelled @ ..] = line else {
         return Err(CaseError::Bad);
     };
@@ -34,11 +34,7 @@ pub fn case_of(alloc: Global, line: &[u8]) -> Result<Case, CaseError> {
     if text.len() > MOST_CUT {
         return Err(CaseError::Bad);
     }
-    Ok(Case {
-        shown,
-        stated,
-        text,
-    })
+    Ok((Case { shown, stated }, text))
 }
 
 fn asked(letter: u8) -> Option<(Shown, Stated)> {

@@ -14,18 +14,14 @@ fn main(rt: HostRuntime) -> io::Result<()> {
 }
 
 fn answer<R: Print + AllocGlobal>(rt: &R, line: &[u8]) -> Result<(), CaseError> {
-    let Case {
-        shown,
-        stated,
-        text,
-    } = case::case_of(rt.alloc(), line)?;
+    let (Case { shown, stated }, text) = case::case_of(rt.alloc(), line)?;
     match shown {
-        Shown::Elements => texts::elements(rt, &text, stated)?,
-        Shown::Parts => texts::parts(rt, &text, stated)?,
+        Shown::Elements => texts::line(rt, &text, stated, false)?,
+        Shown::Parts => texts::line(rt, &text, stated, true)?,
         // Every prefix of the text, so that a text ends anywhere.
         Shown::Prefixes => {
             for n in 0..=text.len() {
-                texts::elements(rt, &text[..n], stated)?;
+                texts::line(rt, &text[..n], stated, false)?;
             }
         }
     }

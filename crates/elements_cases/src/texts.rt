@@ -6,22 +6,28 @@ ghost use Rattle.elements.specs.Lexemes.{lexeme_of};
 use elements::{Element, Stated};
 use std::io;
 use walk::Walk;
+use writing::Writer;
 
-pub fn elements(rt: &impl Print, text: &[u8], stated: Stated) -> io::Result<()> {
-    walked(rt, text, stated, |e| element(rt, e))
-}
+// Room for a line. An element of a text of at most 256 bytes takes at most 15 bytes, or three more than its own, so every
+// line has room.
+const LINE: usize = 4096;
 
-pub fn parts(rt: &impl Print, text: &[u8], stated: Stated) -> io::Result<()> {
-    walked(rt, text, stated, |e| {
-        rt.write_all(b"`")?;
-        rt.write_all(part(text, e))?;
-        rt.write_all(b"` ")
+// The line of a text. `parts` says whether an element is shown as its part of the text: one closure for both, since a walk is
+// inlined into one caller alone.
+pub fn line(rt: &impl Print, text: &[u8], stated: Stated, parts: bool) -> io::Result<()> {
+    walked(rt, text, stated, |out, e| {
+        if parts {
+            out.put_byte(b'`');
+            out.put_bytes(part(text, e));
+            out.put_bytes(b"` ");
+        } else {
+            element(out, e);
+        }
     })
 }
 
-// Shows each element of a text. An element holds a byte of its own, so the turns do not run out before the text does; a walk
-// that does not come to an end differs from every stored answer.
-fn walked<F: Fn(Element) -> io::Result<()>>(
+// A line is gathered and then written at once.
+fn walked<F: Fn(&mut Writer<'_>, Element)>(
     rt: &impl Print,
     text: &[u8],
     stated: Stated,
@@ -29,18 +35,39 @@ fn walked<F: Fn(Element) -> io::Result<()>>(
 ) -> io::Result<()>
     requires { F.IsAlwaysCallable show }
 {
+    let mut line = [0u8; LINE];
+    let mut out = Writer::new(&mut line);
+    gather(&mut out, text, stated, show);
+    let count = out.count();
+    rt.write_all(line.get(..count).unwrap_or(&line))
+}
+
+// Shows each element of a text. An element holds a byte of its own, so the turns do not run out before the text does; a walk
+// that does not come to an end differs from every stored answer.
+fn gather<F: Fn(&mut Writer<'_>, Element)>(
+    out: &mut Writer<'_>,
+    text: &[u8],
+    stated: Stated,
+    show: F,
+)
+    requires { F.IsAlwaysCallable show }
+{
     let mut walk = Walk::new(text);
     for _ in 0..=text.len() {
         match walk.next(stated) {
-            Ok(Some(e)) => show(e)?,
-            Ok(None) => return println!(rt; "end"),
-            Err(fault) => return println!(rt; "fault,{},{}", fault.number(), fault.place()),
+            Ok(Some(e)) => show(out, e),
+            Ok(None) => return out.put_bytes(b"end\n"),
+            Err(fault) => {
+                out.put_bytes(b"fault,");
+                out.put_number(fault.number() as usize, b',');
+                return out.put_number(fault.place(), b'\n');
+            }
         }
     }
-    println!(rt; "no end")
+    out.put_bytes(b"no end\n");
 }
 
-fn element(rt: &impl Print, e: Element) -> io::Result<()> {
+fn element(out: &mut Writer<'_>, e: Element) {
     let Element {
         kind,
         which,
@@ -48,8 +75,11 @@ fn element(rt: &impl Print, e: Element) -> io::Result<()> {
         end,
         newline,
     } = e;
-    let newline = u8::from(newline);
-    print!(rt; "{kind},{which},{first},{end},{newline} ")
+    out.put_number(kind as usize, b',');
+    out.put_number(which as usize, b',');
+    out.put_number(first, b',');
+    out.put_number(end, b',');
+    out.put_number(usize::from(newline), b' ');
 }
 
 // The part of a text that an element is.

@@ -11,15 +11,15 @@ pub enum Call {
     Parse,
 }
 
-// The call, how much of the table or the output is lent to it, and the text.
-#[derive(Drop)]
+// The call, and how much of the table or the output is lent to it.
+#[derive(Clone, Copy)]
 pub struct Case {
     pub call: Call,
     pub lent: usize,
-    pub text: Vec<u8>,
 }
 
-pub fn case_of(alloc: Global, line: &[u8]) -> Result<Case, CaseError> {
+// The case of a line, and its text.
+pub fn case_of(alloc: Global, line: &[u8]) -> Result<(Case, Vec<u8>), CaseError> {
     let (call, line) = match line {
         [b'>', rest @ ..] => (Call::Respace, rest),
         [b'p', rest @ ..] => (Call::Parse, rest),
@@ -27,5 +27,5 @@ pub fn case_of(alloc: Global, line: &[u8]) -> Result<Case, CaseError> {
     };
     let (lent, spelled) = number::number_at(line).ok_or(CaseError::Bad)?;
     let text = spelling::text_of(alloc, spelled)?;
-    Ok(Case { call, lent, text })
+    Ok((Case { call, lent }, text))
 }

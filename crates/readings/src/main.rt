@@ -24,7 +24,7 @@ fn answer<R: Print + AllocGlobal>(
     trees: &mut [u32],
     syntax: &mut [u32],
 ) -> Result<(), CaseError> {
-    let Case { call, lent, text } = case::case_of(rt.alloc(), line)?;
+    let (Case { call, lent }, text) = case::case_of(rt.alloc(), line)?;
     match call {
         Call::Read => read(rt, &text, first(trees, lent)?)?,
         Call::Respace => respace(rt, &text, lent)?,
