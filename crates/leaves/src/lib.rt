@@ -35,9 +35,9 @@ fn summary_after(which: u32) -> u32
     match which {
         words::FOR | words::WHILE | words::WITH | words::IF => AFTER_HEAD_WORD,
         words::RETURN | words::THROW => AFTER_RETURN,
-        words::THIS | words::NULL | words::TRUE | words::FALSE => OPERAND,
-        words::CASE
-        | words::NEW
+        words::NULL | words::THIS | words::TRUE | words::FALSE => OPERAND,
+        words::NEW
+        | words::CASE
         | words::DELETE
         | words::VOID
         | words::TYPEOF

@@ -58,12 +58,16 @@ pub fn variables_end(at: Control) -> Option<Step>
 pub fn next_variable(at: Control) -> Option<Step>
     ensures { Goes result (variable_due (later_variables (variables_by at.ending at.setting))) EndVariable }
 {
-    let ending = match at.ending {
-        Ending::FirstVariable => Ending::LaterVariable,
-        _ => at.ending,
-    };
-    let later = Control { ending, ..at };
-    goto(later, Place::VariableDue, Effect::EndVariable)
+    match at.ending {
+        Ending::FirstVariable => {
+            let later = Control {
+                ending: Ending::LaterVariable,
+                ..at
+            };
+            goto(later, Place::VariableDue, Effect::EndVariable)
+        }
+        _ => goto(at, Place::VariableDue, Effect::EndVariable),
+    }
 }
 
 // The `in` of a `for`.

@@ -15,13 +15,13 @@ pub returns-in_default-4 : goal.returns-in_default-4
 unfolding level_after
 returns-in_default-4 c = (omega arith, λ level newline function. rw (past_words c.args.which (omega arith)))
 
-pub returns-in-19-2 : goal.returns-in-19-2
+pub returns-in-34-2 : goal.returns-in-34-2
 unfolding level_after row_at
-returns-in-19-2 c = (omega arith, λ level newline function. rw (words_in Class.value 34 36 c.args.which tt (omega arith) (omega arith)))
+returns-in-34-2 c = (omega arith, λ level newline function. rw (words_in Class.value 34 36 c.args.which tt (omega arith) (omega arith)))
 
-pub returns-in-5-3 : goal.returns-in-5-3
+pub returns-in-7-3 : goal.returns-in-7-3
 unfolding level_after row_at
-returns-in-5-3 c =
+returns-in-7-3 c =
     let head : c.args.which ≡ 22 → ⊥ = search rules in
     let throw : c.args.which ≡ 23 → ⊥ = search rules in
     (omega arith, λ level newline function. rw (words_in Class.operator 24 25 c.args.which tt (omega arith) (omega arith)))
