@@ -17,7 +17,7 @@ use Rattle.prefix.specs.declared.State.{State}
 use Rattle.prefix.specs.declared.OpenGroup.{OpenGroup}
 use Rattle.tables.specs.Records.{room_for}
 use Rattle.storing.specs.Records.{records}
-use Rattle.reading.specs.Read.{most_bytes, reading_for, answer_of, table_after}
+use Rattle.reading.specs.Read.{most_bytes, long_text, reading_for, answer_of, table_after}
 use Rattle.storing.specs.Machinery.Table.{cells, Holds, Some}
 use Rattle.keeping.specs.Machinery.Keeping.{Lent, Keeps}
 use Rattle.turns.specs.Machinery.Turns.{limits_for, Runs, ran, halted}
@@ -93,3 +93,7 @@ pub read_refused : (r : Reading) (before now : List ℕ) (n p : ℕ) → Answer.
     → (Answer.Refused n p ≡ answer_of r) × (now ≡ table_after r before)
 read_refused (accepted trees) before now n p e c = absurd (let z : ◌≡◌ {A = ℕ} 0 1 = cc in omega arith)
 read_refused (refused number place) before now n p e c = (e, c)
+
+pub read_long : (bytes before now : List ℕ) → most_bytes < length bytes → now ≡ replicate (length before) 0
+    → (Answer.Refused long_text most_bytes ≡ answer_of (reading_for bytes (length before))) × (now ≡ table_after (reading_for bytes (length before)) before)
+read_long bytes before now long c = read_refused (reading_for bytes (length before)) before now _ _ (long_answered bytes before now long).0 c

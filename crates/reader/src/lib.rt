@@ -2,12 +2,12 @@
 // `as` from `u32` to `usize` and back: std has no `From` there, and the check proves that nothing is lost.
 #![tactic(auto)]
 
-ghost use Rattle.std.specs.Prelude.{◌≡◌, List, ℕ, length};
+ghost use Rattle.std.specs.Prelude.{◌≡◌, List, ℕ, ◌≤◌, length};
 ghost use Rattle.rule.specs.Levels.{Levels};
 ghost use Rattle.prefix.specs.Reading;
 ghost use Rattle.storing.specs.Machinery.Table.{Holds, Some};
 ghost use Rattle.answers.specs.Faults.{answered};
-ghost use Rattle.reading.specs.Read.{reading_for, answer_of, Reads};
+ghost use Rattle.reading.specs.Read.{most_bytes, reading_for, answer_of, Reads};
 ghost use Rattle.reader.specs.Machinery.Filled.{Filled};
 
 use answers::Answer;
@@ -38,12 +38,9 @@ fn fill(
     trees: &mut [u32],
     stack: &mut [OpenGroup],
 ) -> Result<usize, Fault>
-    requires { length stack.old ≡ 100 }
+    requires { (length text.now ≤ most_bytes) × (length stack.old ≡ 100) }
     ensures { (answered result ≡ answer_of (reading_for text.now (length trees.old))) × Filled (reading_for text.now (length trees.old)) trees.old trees.new }
 {
-    if MOST_BYTES < text.len() {
-        return Err(Fault::Long(MOST_BYTES));
-    }
     let room = tables::room_for::<TreeRecord>(trees.len());
     let mut none = [0u8; 0];
     let reached = turns::read_on(codes, text, trees, &mut none, stack, room, false)?;
@@ -55,6 +52,11 @@ fn fill(
 pub fn read(text: &[u8], trees: &mut [u32]) -> Answer
     ensures { Reads text.now trees.old trees.new result }
 {
+    // Before stack and table of codes are made, since this needs neither.
+    if MOST_BYTES < text.len() {
+        tables::clear(trees);
+        return Answer::from(Fault::Long(MOST_BYTES));
+    }
     let mut stack = [OpenGroup::NONE; MOST_GROUPS];
     let codes = Codes::new();
     match fill(&codes, text, trees, &mut stack) {

@@ -37,12 +37,9 @@ fn write_text(
     output: &mut [u8],
     stack: &mut [OpenGroup],
 ) -> Result<usize, Fault>
-    requires { length stack.old ≡ 100 }
+    requires { (length text.now ≤ most_bytes) × (length stack.old ≡ 100) }
     ensures { Told text.now output.old output.new (whole_reading text.now) result }
 {
-    if turns::MOST_BYTES < text.len() {
-        return Err(Fault::Long(turns::MOST_BYTES));
-    }
     let mut none = [0u32; 0];
     let reached = turns::read_on(
         codes,
@@ -63,7 +60,7 @@ fn write_fitting(
     output: &mut [u8],
     stack: &mut [OpenGroup],
 ) -> Result<usize, Fault>
-    requires { length stack.old ≡ 100 }
+    requires { (length text.now ≤ most_bytes) × (length stack.old ≡ 100) }
     ensures { Fits text.now output.old output.new result }
 {
     let count = write_text(codes, text, output, stack)?;
@@ -78,6 +75,10 @@ fn write_fitting(
 pub fn respace(text: &[u8], output: &mut [u8]) -> Answer
     ensures { Respaces text.now output.old output.new result }
 {
+    if turns::MOST_BYTES < text.len() {
+        spacing::clear(output);
+        return Answer::from(Fault::Long(turns::MOST_BYTES));
+    }
     let mut stack = [OpenGroup::NONE; MOST_GROUPS];
     let codes = Codes::new();
     match write_fitting(&codes, text, output, &mut stack) {
