@@ -24,7 +24,7 @@ pub struct OpenGroup {
 impl OpenGroup {
     // What an entry of the stack is before a group is put there.
     pub const NONE: OpenGroup = OpenGroup {
-        around: Level::WHOLE_TEXT,
+        around: Level { code: 0 },
         tag: 0,
     };
 }
