@@ -1,5 +1,6 @@
 // What is printed of a text is one line: its elements as `kind,which,first,end,line`, or their bytes between backquotes,
 // then `end` or `fault,number,place`, with a blank between.
+// `as` from `u32` to `usize`: std has no `From` there, and the check proves that nothing is lost.
 ghost use Rattle.std.specs.Prelude.{◌≡◌};
 ghost use Rattle.elements.specs.Lexemes.{lexeme_of};
 
