@@ -47,7 +47,7 @@ pub fn kept<T: Cell>(cells: &[T], first: usize) -> bool {
     (first..cells.len()).all(|place| cells[place] == mark_at(place))
 }
 
-// A mark, without a division at a place that a table of these cases has.
+// A mark. At a place that a table of these cases has, the remainder is the place itself, and the compiler leaves the division out.
 fn mark_at<T: Cell>(place: usize) -> T {
     if place < CELLS {
         T::mark(place)

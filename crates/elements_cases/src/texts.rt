@@ -13,8 +13,8 @@ use writing::Writer;
 // line has room.
 const LINE: usize = 4096;
 
-// The line of a text. `parts` says whether an element is shown as its part of the text: one closure for both, since a walk is
-// inlined into one caller alone.
+// The line of a text. `parts` says whether an element is shown as its part of the text: one closure for both: with two, the
+// walk is called and not set into its callers, and a line takes a quarter more.
 pub fn line(rt: &impl Print, text: &[u8], stated: Stated, parts: bool) -> io::Result<()> {
     walked(rt, text, stated, |out, e| {
         if parts {

@@ -75,6 +75,7 @@ fn write_fitting(
 pub fn respace(text: &[u8], output: &mut [u8]) -> Answer
     ensures { Respaces text.now output.old output.new result }
 {
+    // Before stack and table of codes are made, since this needs neither.
     if turns::MOST_BYTES < text.len() {
         spacing::clear(output);
         return Answer::from(Fault::Long(turns::MOST_BYTES));
